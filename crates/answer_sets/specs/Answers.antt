@@ -1,0 +1,45 @@
+-- What the engine answers to values and a table: the first refusal that holds, or the verdict.
+-- Assumes nothing.
+use mathlib.Core.Bool.{Bool, true, false, cond}
+use mathlib.Core.List.{List}
+use mathlib.Core.Option.{Option, none, some}
+use Prim.Native.Nat.{ℕ}
+use lib.Dec.{ltb}
+use lib.ListN.{length}
+use Rattle.answer_sets.specs.Literals.{setOf}
+use Rattle.answer_sets.specs.Verdicts.{Verdict, clash, broken, unfounded, passes, first, verdict}
+use Rattle.answer_sets.specs.Words.{rulesOf, badRule}
+use Rattle.answer_sets.specs.declared.Answer.{Answer}
+use Rattle.answer_sets.specs.declared.Answer.the-variants.{Refused, Clash, Broken, Unfounded, Passes}
+
+-- a refusal's number and place, or a verdict
+pub data Reply : Type 0 where
+  refused : ℕ → ℕ → Reply
+  judged : Verdict → Reply
+
+-- the number and the values that each case of the code's answer stands for
+abbrev pub replyOf : Answer → Reply
+replyOf (Refused number place) = refused number place
+replyOf (Clash atom) = judged (clash atom)
+replyOf (Broken rule) = judged (broken rule)
+replyOf (Unfounded code) = judged (unfounded code)
+replyOf Passes = judged passes
+
+abbrev pub orRefuse : Option ℕ → ℕ → Reply → Reply
+orRefuse (some place) number next = refused number place
+orRefuse none number next = next
+
+-- refusal 10: over 1,024 values
+abbrev pub tooManyValues : List ℕ → Option ℕ
+tooManyValues vs = cond (ltb 1024 (length vs)) (some (length vs)) none
+
+-- refusal 11: a byte over 3
+abbrev pub badValue : List ℕ → Option ℕ
+badValue vs = first (ltb 3) 0 vs
+
+unfoldable pub answer : List ℕ → List ℕ → Reply
+answer vs ws =
+    orRefuse (tooManyValues vs) 10
+    (orRefuse (badValue vs) 11
+    (orRefuse (badRule (length vs) ws) 12
+    (judged (verdict (length vs) (rulesOf ws) (setOf vs)))))

@@ -1,0 +1,75 @@
+-- Worked examples of the engine: 01's M6 to M10, and program (11) of 000, section 6.
+-- Assumes nothing.
+use mathlib.Core.Path.{_≡_}
+use mathlib.Core.Bool.{Bool, true, false, cond}
+use mathlib.Core.List.{List, [], _∷_, _++_, map}
+use Prim.Native.Nat.{ℕ, zero, suc}
+use Rattle.answer_sets.specs.Verdicts.{Verdict, clash, broken, unfounded, passes}
+use Rattle.answer_sets.specs.Answers.{Reply, refused, judged, answer}
+
+-- values and a table, and what the engine answers
+pub record Example : Type 0 where
+  pub values : List ℕ
+  pub table : List ℕ
+  pub reply : Reply
+
+abbrev pub Holds : Example → Type 0
+Holds e = answer (e .values) (e .table) ≡ e .reply
+
+abbrev pub AllHold : List Example → Type 0
+AllHold [] = Unit
+AllHold (e ∷ es) = Holds e × AllHold es
+
+-- p ← not ¬p; ¬p ← not p; q ← not ¬q; ¬q ← not q; r ← q, where p, q, r are atoms 0, 1, 2
+abbrev pub program11 : List ℕ
+program11 =
+    (0 ∷ 1 ∷ 0 ∷ 1 ∷ [])
+    ++ (1 ∷ 1 ∷ 0 ∷ 0 ∷ [])
+    ++ (2 ∷ 1 ∷ 0 ∷ 3 ∷ [])
+    ++ (3 ∷ 1 ∷ 0 ∷ 2 ∷ [])
+    ++ (4 ∷ 0 ∷ 1 ∷ 2 ∷ [])
+
+-- {p, q, r}, {p, ¬q}, {¬p, q, r}, {¬p, ¬q}
+abbrev pub answerSets11 : List (List ℕ)
+answerSets11 = (1 ∷ 1 ∷ 1 ∷ []) ∷ (1 ∷ 2 ∷ 0 ∷ []) ∷ (2 ∷ 1 ∷ 1 ∷ []) ∷ (2 ∷ 2 ∷ 0 ∷ []) ∷ []
+
+-- every list of n value bytes: every set of literals over n atoms
+abbrev pub allValues : ℕ → List (List ℕ)
+allValues zero = [] ∷ []
+allValues (suc n) =
+    let rest = allValues n in
+    map (λ vs. 0 ∷ vs) rest ++ map (λ vs. 1 ∷ vs) rest ++ map (λ vs. 2 ∷ vs) rest ++ map (λ vs. 3 ∷ vs) rest
+
+abbrev pub isPass : Reply → Bool
+isPass (judged passes) = true
+isPass (judged (clash a)) = false
+isPass (judged (broken r)) = false
+isPass (judged (unfounded c)) = false
+isPass (refused k p) = false
+
+-- the lists of value bytes that pass a table
+abbrev pub passing : List ℕ → List (List ℕ) → List (List ℕ)
+passing ws [] = []
+passing ws (vs ∷ rest) = cond (isPass (answer vs ws)) (vs ∷ passing ws rest) (passing ws rest)
+
+abbrev pub examples : List Example
+examples =
+    -- M6: no rules, value 0
+    record { values = 0 ∷ []; table = []; reply = judged passes }
+    -- M7: rule 0,0,1,0, value 1
+    ∷ record { values = 1 ∷ []; table = 0 ∷ 0 ∷ 1 ∷ 0 ∷ []; reply = judged (unfounded 0) }
+    -- M8: the same rule, value 0
+    ∷ record { values = 0 ∷ []; table = 0 ∷ 0 ∷ 1 ∷ 0 ∷ []; reply = judged passes }
+    -- M9: rule 0,1,0,0, value 0
+    ∷ record { values = 0 ∷ []; table = 0 ∷ 1 ∷ 0 ∷ 0 ∷ []; reply = judged (broken 0) }
+    -- M10: the same rule, value 1
+    ∷ record { values = 1 ∷ []; table = 0 ∷ 1 ∷ 0 ∷ 0 ∷ []; reply = judged (unfounded 0) }
+    -- both values
+    ∷ record { values = 1 ∷ 3 ∷ 3 ∷ []; table = []; reply = judged (clash 1) }
+    -- a constraint whose plain part is in the set
+    ∷ record { values = 1 ∷ []; table = 0 ∷ 0 ∷ 0 ∷ 65535 ∷ 0 ∷ 1 ∷ 0 ∷ []; reply = judged (broken 1) }
+    -- refusals: a byte over 3; a code of 2 × atoms; a rule that runs past the end
+    ∷ record { values = 1 ∷ 4 ∷ 5 ∷ []; table = 9 ∷ []; reply = refused 11 1 }
+    ∷ record { values = 0 ∷ []; table = 0 ∷ 0 ∷ 0 ∷ 1 ∷ 0 ∷ 1 ∷ 2 ∷ []; reply = refused 12 3 }
+    ∷ record { values = 0 ∷ []; table = 0 ∷ 0 ∷ 0 ∷ 1 ∷ 0 ∷ 1 ∷ []; reply = refused 12 3 }
+    ∷ []

@@ -1,0 +1,8 @@
+-- What the answer-set engine's promises mean. Read in this order.
+pub mod Literals
+pub mod Rules
+pub mod AnswerSets
+pub mod Verdicts
+pub mod Words
+pub mod Answers
+pub mod Examples

@@ -1,0 +1,26 @@
+-- Atoms, literals and sets of literals. Literal code 2a is atom a, code 2a + 1 its classical negation.
+-- Assumes nothing.
+use mathlib.Core.Bool.{Bool, true, false, cond, _||_}
+use mathlib.Core.List.{List}
+use Prim.Native.Nat.{ℕ, _+_, _-_, _/_, _%_}
+use lib.Dec.{eqb}
+use lib.ListN.{getD}
+
+-- any set of literals, as a test on codes: c is in Y where Y c is true
+abbrev pub Lits : Type 0
+Lits = ℕ → Bool
+
+-- the literal complementary to c
+unfoldable pub complement : ℕ → ℕ
+complement c = cond (eqb (c % 2) 0) (c + 1) (c - 1)
+
+-- an atom's value byte: 0 none, 1 true, 2 false, 3 both
+unfoldable pub holdsTrue : ℕ → Bool
+holdsTrue v = eqb v 1 || eqb v 3
+
+unfoldable pub holdsFalse : ℕ → Bool
+holdsFalse v = eqb v 2 || eqb v 3
+
+-- the set of literals that a list of value bytes stands for, one byte an atom
+unfoldable pub setOf : List ℕ → Lits
+setOf vs c = cond (eqb (c % 2) 0) (holdsTrue (getD vs (c / 2) 0)) (holdsFalse (getD vs (c / 2) 0))

@@ -1,0 +1,68 @@
+-- The verdict on a set of literals X over n atoms and a program Π, as it is computed: the first of clash, broken and
+-- unfounded that holds, or passes. Written without the reduct; a theorem joins it with AnswerSet.
+-- Assumes nothing.
+use mathlib.Core.Bool.{Bool, true, false, not, cond, _&&_, _||_}
+use mathlib.Core.List.{List, [], _∷_}
+use mathlib.Core.Option.{Option, none, some}
+use Prim.Native.Nat.{ℕ, zero, suc, _+_, _*_}
+use lib.Dec.{eqb}
+use Rattle.answer_sets.specs.Literals.{Lits}
+use Rattle.answer_sets.specs.Rules.{Head, lit, falsum, Rule, all}
+
+pub data Verdict : Type 0 where
+  clash : ℕ → Verdict
+  broken : ℕ → Verdict
+  unfounded : ℕ → Verdict
+  passes : Verdict
+
+-- the place of the first element that passes the test, counted from k
+abbrev pub first : {A : Type 0} → (A → Bool) → ℕ → List A → Option ℕ
+first p k [] = none
+first p k (x ∷ xs) = cond (p x) (some k) (first p (suc k) xs)
+
+-- k, k + 1, .. : n numbers
+abbrev pub range : ℕ → ℕ → List ℕ
+range k zero = []
+range k (suc n) = k ∷ range (suc k) n
+
+-- no negated part is in X and every plain part is in Y
+abbrev pub applies : Lits → Lits → Rule → Bool
+applies X Y r = all (λ c. not (X c)) (r .negated) && all Y (r .plain)
+
+abbrev pub headIs : Head → ℕ → Bool
+headIs (lit h) c = eqb h c
+headIs falsum c = false
+
+abbrev pub headIn : Head → Lits → Bool
+headIn (lit h) X = X h
+headIn falsum X = false
+
+-- the literal heads whose bodies hold in the round before; negated parts are always looked up in X
+abbrev pub round : List Rule → Lits → Lits → Lits
+round [] X Y c = false
+round (r ∷ rs) X Y c = let body = applies X Y r in (headIs (r .head) c && body) || round rs X Y c
+
+-- round 0 has no literals
+abbrev pub rounds : ℕ → List Rule → Lits → Lits
+rounds zero Π X = λ c. false
+rounds (suc k) Π X = round Π X (rounds k Π X)
+
+abbrev pub bothValues : Lits → ℕ → Bool
+bothValues X a = X (2 * a) && X (2 * a + 1)
+
+abbrev pub isBroken : Lits → Rule → Bool
+isBroken X r = applies X X r && not (headIn (r .head) X)
+
+abbrev pub isUnfounded : Lits → Lits → ℕ → Bool
+isUnfounded X L c = X c && not (L c)
+
+-- the fault at the place found, else what comes next
+abbrev pub orElse : Option ℕ → (ℕ → Verdict) → Verdict → Verdict
+orElse (some k) fault next = fault k
+orElse none fault next = next
+
+unfoldable pub verdict : ℕ → List Rule → Lits → Verdict
+verdict n Π X =
+    orElse (first (bothValues X) 0 (range 0 n)) clash
+    (orElse (first (isBroken X) 0 Π) broken
+    (orElse (first (isUnfounded X (rounds (2 * n) Π X)) 0 (range 0 (2 * n))) unfounded passes))
