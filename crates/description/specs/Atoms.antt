@@ -1,0 +1,15 @@
+-- Atom numbers (01, "Atoms and values"), over n fluents and m actions.
+-- Assumes nothing.
+use Prim.Native.Nat.{ℕ, _+_, _*_}
+
+-- fluent f at time t, for t from 0 to T
+abbrev pub fluentAtom : ℕ → ℕ → ℕ → ℕ → ℕ
+fluentAtom n m t f = t * (n + m) + f
+
+-- action k at time t, for t below T
+abbrev pub actionAtom : ℕ → ℕ → ℕ → ℕ → ℕ
+actionAtom n m t k = t * (n + m) + n + k
+
+-- how many atoms there are for horizon T
+abbrev pub atomCount : ℕ → ℕ → ℕ → ℕ
+atomCount n m T = T * (n + m) + n

@@ -1,0 +1,5 @@
+-- What a description means. Read in this order.
+pub mod Laws
+pub mod Atoms
+pub mod Meaning
+pub mod Acceptance

@@ -1,0 +1,63 @@
+-- What the translation answers and leaves in the lent table.
+-- Assumes nothing.
+use mathlib.Core.Bool.{Bool, true, false, cond}
+use mathlib.Core.List.{List, _++_}
+use mathlib.Core.Option.{Option, none, some}
+use Prim.Native.Nat.{ℕ}
+use lib.Dec.{ltb}
+use lib.ListN.{length, drop}
+use Rattle.answer_sets.specs.Rules.{Rule}
+use Rattle.answer_sets.specs.Words.{words}
+use Rattle.description.specs.declared.Law.{Law}
+use Rattle.description.specs.declared.Description.{Description}
+use Rattle.description.specs.Laws.{lawsOf}
+use Rattle.description.specs.Atoms.{atomCount}
+use Rattle.description.specs.Acceptance.{badRecord, badHorizon}
+use Rattle.translation.specs.Rules.{translation}
+use Rattle.translation.specs.declared.Translated.{Translated}
+use Rattle.translation.specs.declared.Translated.the-variants.{Refused, Written}
+
+-- a refusal's number and place, or the counts of atoms, rules and words written
+pub data Outcome : Type 0 where
+  refused : ℕ → ℕ → Outcome
+  written : ℕ → ℕ → ℕ → Outcome
+
+-- the number and the values that each case of the code's answer stands for
+abbrev pub outcomeOf : Translated → Outcome
+outcomeOf (Refused number place) = refused number place
+outcomeOf (Written atoms rules words) = written atoms rules words
+
+-- the rules of a description
+abbrev pub rulesFor : Description → List Law → List Rule
+rulesFor d ls = translation (d .fluents) (d .actions) (d .horizon) (lawsOf d ls)
+
+abbrev pub tableFor : Description → List Law → List ℕ
+tableFor d ls = words (rulesFor d ls)
+
+-- refusal 9: fewer words lent than needed, place the words needed
+abbrev pub tooShort : ℕ → ℕ → Option ℕ
+tooShort needed room = cond (ltb room needed) (some needed) none
+
+abbrev pub orRefuse : Option ℕ → ℕ → Outcome → Outcome
+orRefuse (some place) number next = refused number place
+orRefuse none number next = next
+
+-- the answer for laws of which some number is lent, and a table of some room
+unfoldable pub outcome : Description → List Law → ℕ → ℕ → Outcome
+outcome d ls lent room =
+    orRefuse (badRecord d ls lent) 8
+    (orRefuse (badHorizon (d .horizon)) 3
+    (orRefuse (tooShort (length (tableFor d ls)) room) 9
+    (written (atomCount (d .fluents) (d .actions) (d .horizon)) (length (rulesFor d ls)) (length (tableFor d ls)))))
+
+-- a table with these words in front, and what stood there before behind them
+abbrev pub overwritten : List ℕ → List ℕ → List ℕ
+overwritten ws table = ws ++ drop (length ws) table
+
+-- what the table holds after an outcome
+abbrev pub leftIn : Outcome → List ℕ → List ℕ → List ℕ
+leftIn (refused number place) ws table = table
+leftIn (written atoms rules count) ws table = overwritten ws table
+
+unfoldable pub tableAfter : Description → List Law → ℕ → List ℕ → List ℕ
+tableAfter d ls lent table = leftIn (outcome d ls lent (length table)) (tableFor d ls) table
