@@ -1,2 +1,10 @@
 -- The engine's theory, and the laws that its functions' proofs cite.
+pub mod Sets
+pub mod Least
+pub mod FirstFault
+pub mod Passes
+pub mod Decoding
+pub mod Stores
+pub mod Fronts
 pub mod Examples
+pub mod Theorems

@@ -4,6 +4,7 @@ use mathlib.Core.Path.{_≡_}
 use mathlib.Core.Bool.{Bool, true, false, cond, _||_}
 use mathlib.Core.List.{List, [], _∷_}
 use Prim.Native.Nat.{ℕ, _+_, _*_}
+use Rattle.search.specs.Search.{Each}
 use Rattle.answer_sets.specs.Literals.{Lits}
 use Rattle.answer_sets.specs.Rules.{Head, lit, falsum, Rule}
 
@@ -24,8 +25,7 @@ reduct (r ∷ rs) X =
     cond (meets (r .negated) X) (reduct rs X) (record { head = r .head; body = r .plain } ∷ reduct rs X)
 
 abbrev pub Within : List ℕ → Lits → Type 0
-Within [] Y = Unit
-Within (c ∷ cs) Y = (Y c ≡ true) × Within cs Y
+Within cs Y = Each (λ c. Y c ≡ true) cs
 
 -- ⊥ is in no set
 abbrev pub HeadIn : Head → Lits → Type 0
@@ -34,8 +34,7 @@ HeadIn falsum Y = ⊥
 
 -- the head of each rule is in Y whenever its body is contained in Y
 abbrev pub Closed : List PositiveRule → Lits → Type 0
-Closed [] Y = Unit
-Closed (r ∷ rs) Y = (Within (r .body) Y → HeadIn (r .head) Y) × Closed rs Y
+Closed P Y = Each (λ r. Within (r .body) Y → HeadIn (r .head) Y) P
 
 abbrev pub Subset : Lits → Lits → Type 0
 Subset Y X = (c : ℕ) → Y c ≡ true → X c ≡ true

@@ -6,8 +6,9 @@ use mathlib.Core.Option.{Option, none, some}
 use Prim.Native.Nat.{ℕ}
 use lib.Dec.{ltb}
 use lib.ListN.{length}
+use Rattle.search.specs.Search.{first}
 use Rattle.answer_sets.specs.Literals.{setOf}
-use Rattle.answer_sets.specs.Verdicts.{Verdict, clash, broken, unfounded, passes, first, verdict}
+use Rattle.answer_sets.specs.Verdicts.{Verdict, clash, broken, unfounded, passes, verdict}
 use Rattle.answer_sets.specs.Words.{rulesOf, badRule}
 use Rattle.answer_sets.specs.declared.Answer.{Answer}
 use Rattle.answer_sets.specs.declared.Answer.the-variants.{Refused, Clash, Broken, Unfounded, Passes}

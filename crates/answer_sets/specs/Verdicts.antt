@@ -1,29 +1,20 @@
 -- The verdict on a set of literals X over n atoms and a program Π, as it is computed: the first of clash, broken and
 -- unfounded that holds, or passes. Written without the reduct; a theorem joins it with AnswerSet.
 -- Assumes nothing.
-use mathlib.Core.Bool.{Bool, true, false, not, cond, _&&_, _||_}
+use mathlib.Core.Bool.{Bool, true, false, not, _&&_, _||_}
 use mathlib.Core.List.{List, [], _∷_}
 use mathlib.Core.Option.{Option, none, some}
 use Prim.Native.Nat.{ℕ, zero, suc, _+_, _*_}
 use lib.Dec.{eqb}
+use Rattle.search.specs.Search.{all, first, range}
 use Rattle.answer_sets.specs.Literals.{Lits}
-use Rattle.answer_sets.specs.Rules.{Head, lit, falsum, Rule, all}
+use Rattle.answer_sets.specs.Rules.{Head, lit, falsum, Rule}
 
 pub data Verdict : Type 0 where
   clash : ℕ → Verdict
   broken : ℕ → Verdict
   unfounded : ℕ → Verdict
   passes : Verdict
-
--- the place of the first element that passes the test, counted from k
-abbrev pub first : {A : Type 0} → (A → Bool) → ℕ → List A → Option ℕ
-first p k [] = none
-first p k (x ∷ xs) = cond (p x) (some k) (first p (suc k) xs)
-
--- k, k + 1, .. : n numbers
-abbrev pub range : ℕ → ℕ → List ℕ
-range k zero = []
-range k (suc n) = k ∷ range (suc k) n
 
 -- no negated part is in X and every plain part is in Y
 abbrev pub applies : Lits → Lits → Rule → Bool

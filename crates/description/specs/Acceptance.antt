@@ -1,18 +1,17 @@
 -- Which descriptions are accepted: refusals 8 and 3 with their places.
 -- Assumes nothing.
 use mathlib.Core.Bool.{Bool, true, false, not, cond, _&&_}
-use mathlib.Core.List.{List, [], _∷_}
+use mathlib.Core.List.{List}
 use mathlib.Core.Option.{Option, none, some}
-use Prim.Native.Nat.{ℕ, suc, _+_, _*_}
+use Prim.Native.Nat.{ℕ, _+_, _*_}
 use lib.Dec.{ltb, leb}
+use Rattle.search.specs.Search.{all, first}
 use Rattle.description.specs.declared.Head.{Head}
 use Rattle.description.specs.declared.Head.the-variants.{Lit, False}
 use Rattle.description.specs.declared.Kind.{Kind}
 use Rattle.description.specs.declared.Kind.the-variants.{Static, Dynamic}
 use Rattle.description.specs.declared.Law.{Law}
 use Rattle.description.specs.declared.Description.{Description}
-use Rattle.description.specs.declared.Found.{Found}
-use Rattle.description.specs.declared.Found.the-variants.{At, Nothing}
 use Rattle.description.specs.Laws.{ifList, afterList, lawsOf}
 
 -- 1 to 24 fluents, 0 to 8 actions, at most 64 laws and no more than are lent
@@ -20,8 +19,7 @@ abbrev pub countsFit : Description → ℕ → Bool
 countsFit d lent = leb 1 (d .fluents) && leb (d .fluents) 24 && leb (d .actions) 8 && leb (d .laws) 64 && leb (d .laws) lent
 
 abbrev pub codesBelow : ℕ → List ℕ → Bool
-codesBelow k [] = true
-codesBelow k (c ∷ cs) = ltb c k && codesBelow k cs
+codesBelow k cs = all (λ c. ltb c k) cs
 
 abbrev pub headFits : ℕ → Head → Bool
 headFits n (Lit c) = ltb c (2 * n)
@@ -37,8 +35,7 @@ lawFits n m l = headFits n (l .head) && leb (l .«if_count») 6 && codesBelow (2
 
 -- the lowest law outside the limits, counted from k
 abbrev pub badLaw : ℕ → ℕ → ℕ → List Law → Option ℕ
-badLaw n m k [] = none
-badLaw n m k (l ∷ ls) = cond (lawFits n m l) (badLaw n m (suc k) ls) (some k)
+badLaw n m k ls = first (λ l. not (lawFits n m l)) k ls
 
 -- refusal 8: place 64 for the counts, else the lowest law
 unfoldable pub badRecord : Description → List Law → ℕ → Option ℕ
@@ -48,8 +45,3 @@ badRecord d ls lent =
 -- refusal 3, from a record: place 0
 unfoldable pub badHorizon : ℕ → Option ℕ
 badHorizon T = cond (leb 1 T && leb T 30) none (some 0)
-
--- the place that the code's answer names
-abbrev pub placeOf : Found → Option ℕ
-placeOf (At place) = some place
-placeOf Nothing = none

@@ -7,6 +7,7 @@ use mathlib.Core.List.{List, [], _∷_}
 use Prim.Native.Nat.{ℕ, suc, _+_, _-_, _*_, _/_, _%_, _<_, _≤_}
 use lib.Dec.{eqb, ltb}
 use lib.ListN.{getD}
+use Rattle.search.specs.Search.{all, Each}
 use Rattle.description.specs.declared.Head.{Head}
 use Rattle.description.specs.declared.Head.the-variants.{Lit, False}
 use Rattle.description.specs.declared.Kind.{Kind}
@@ -25,8 +26,7 @@ satisfies I c = cond (eqb (c % 2) 0) (I (c / 2)) (not (I (c / 2)))
 
 -- a list holds if all its literals are true there, an empty one always
 abbrev pub holds : Interpretation → List ℕ → Bool
-holds I [] = true
-holds I (c ∷ cs) = satisfies I c && holds I cs
+holds I cs = all (satisfies I) cs
 
 -- no interpretation satisfies the head false
 abbrev pub satisfiesHead : Interpretation → Head → Bool
@@ -49,8 +49,7 @@ caused n s a s′ (l ∷ ls) =
     cond (causing n s a s′ (l .kind) l) (l .head ∷ caused n s a s′ ls) (caused n s a s′ ls)
 
 abbrev pub SatisfiesAll : Interpretation → List Head → Type 0
-SatisfiesAll I [] = Unit
-SatisfiesAll I (h ∷ hs) = (satisfiesHead I h ≡ true) × SatisfiesAll I hs
+SatisfiesAll I hs = Each (λ h. satisfiesHead I h ≡ true) hs
 
 -- the same interpretation of the n fluents
 abbrev pub Same : ℕ → Interpretation → Interpretation → Type 0
@@ -68,8 +67,7 @@ SatisfiesStatic s Dynamic l = Unit
 
 -- a state satisfies each static law
 abbrev pub State : List Law → Interpretation → Type 0
-State [] s = Unit
-State (l ∷ ls) s = SatisfiesStatic s (l .kind) l × State ls s
+State ls s = Each (λ l. SatisfiesStatic s (l .kind) l) ls
 
 -- the state and the action read from a set's value bytes at time t
 abbrev pub stateAt : ℕ → ℕ → List ℕ → ℕ → Interpretation

@@ -1,0 +1,240 @@
+-- A rule table's words and its rules: decoding in steps, decoding the words of rules, and what an accepted table has.
+-- Assumes nothing.
+use mathlib.Core.Path.{_≡_, refl, sym, ap, _∙_}
+use mathlib.Core.Logic.{_↔_, _≢_, inr}
+use mathlib.Core.Bool.{Bool, true, false, cond, _&&_}
+use mathlib.Core.List.{List, [], _∷_, _++_, append-assoc}
+use mathlib.Core.Option.{Option, none, some}
+use Prim.Native.Nat.{ℕ, zero, suc, _+_, _*_, _≤_, _<_}
+use native.Mathlib.Omega.{arith}
+use lib.Dec.{eqb, ltb, leb}
+use lib.ListN.{length, getD, take, drop, length-append, length-drop}
+use lib.Seq.{drop-drop, take-append-seam, drop-append-seam, take-at, take-add}
+use Rattle.search.specs.Search.{Each}
+use Rattle.answer_sets.specs.Rules.{Head, lit, falsum, Rule}
+use Rattle.answer_sets.specs.Words.{headWord, ruleWords, words, headOf, ruleSize, ruleAt, rulesIn, rulesOf, headFits, partsFit, ruleFits, badRuleIn, badRule}
+use Rattle.search.proofs.Tests.{true-of-not, and-iff, and₃-iff, or-iff, each-map, all-each, each-append}
+use Rattle.answer_sets.proofs.Least.{HeadBelow, HeadsBelow}
+use borrow.Author.Tests.{ltb-true, lt-ltb, leb-true, le-leb, ne-eqb}
+
+-- Any fuel is enough that is not less than the words: rules
+
+-- the words after the first rule
+abbrev pub afterRule : List ℕ → List ℕ
+afterRule ws = drop (ruleSize ws) ws
+
+fewer : (w : ℕ) (ws : List ℕ) (k : ℕ) → length (w ∷ ws) ≤ suc k → length (afterRule (w ∷ ws)) ≤ k
+fewer w ws k h = omega (arith, length-drop (ruleSize (w ∷ ws)) (w ∷ ws))
+
+rulesIn-same : (k j : ℕ) (ws : List ℕ) → length ws ≤ k → length ws ≤ j → rulesIn k ws ≡ rulesIn j ws
+rulesIn-same zero zero ws h g = refl
+rulesIn-same zero (suc j) [] h g = refl
+rulesIn-same zero (suc j) (w ∷ ws) h g = absurd (omega arith)
+rulesIn-same (suc k) zero [] h g = refl
+rulesIn-same (suc k) zero (w ∷ ws) h g = absurd (omega arith)
+rulesIn-same (suc k) (suc j) [] h g = refl
+rulesIn-same (suc k) (suc j) (w ∷ ws) h g =
+    ap {B = List Rule} (λ rs. ruleAt (w ∷ ws) ∷ rs) (rulesIn-same k j (afterRule (w ∷ ws)) (fewer w ws k h) (fewer w ws j g))
+
+pub rulesIn-enough : (k : ℕ) (ws : List ℕ) → length ws ≤ k → rulesIn k ws ≡ rulesIn (length ws) ws
+rulesIn-enough k ws h = rulesIn-same k (length ws) ws h (omega arith)
+
+pub rulesOf-nil : rulesOf [] ≡ []
+unfolding rulesOf
+rulesOf-nil = refl
+
+pub rulesOf-cons : (w : ℕ) (ws : List ℕ) → rulesOf (w ∷ ws) ≡ ruleAt (w ∷ ws) ∷ rulesOf (drop (ruleSize (w ∷ ws)) (w ∷ ws))
+unfolding rulesOf
+rulesOf-cons w ws = ap {B = List Rule} (λ rs. ruleAt (w ∷ ws) ∷ rs) (rulesIn-enough (length ws) (afterRule (w ∷ ws)) (fewer w ws (length ws) (omega arith)))
+
+-- and refusals
+
+badRuleIn-same : (n f g k at : ℕ) (ws : List ℕ) → length ws ≤ f → length ws ≤ g → badRuleIn f n k at ws ≡ badRuleIn g n k at ws
+badRuleIn-same n zero zero k at ws p q = refl
+badRuleIn-same n zero (suc g) k at [] p q = refl
+badRuleIn-same n zero (suc g) k at (w ∷ ws) p q = absurd (omega arith)
+badRuleIn-same n (suc f) zero k at [] p q = refl
+badRuleIn-same n (suc f) zero k at (w ∷ ws) p q = absurd (omega arith)
+badRuleIn-same n (suc f) (suc g) k at [] p q = refl
+badRuleIn-same n (suc f) (suc g) k at (w ∷ ws) p q =
+    ap {B = Option ℕ} (λ o. cond (ltb k 4096 && ruleFits n (w ∷ ws)) o (some at))
+    (badRuleIn-same n f g (suc k) (at + ruleSize (w ∷ ws)) (afterRule (w ∷ ws)) (fewer w ws f p) (fewer w ws g q))
+
+pub badRuleIn-enough : (f n k at : ℕ) (ws : List ℕ) → length ws ≤ f → badRuleIn f n k at ws ≡ badRuleIn (length ws) n k at ws
+badRuleIn-enough f n k at ws h = badRuleIn-same n f (length ws) k at ws h (omega arith)
+
+unfoldable pub badRuleFrom : ℕ → ℕ → ℕ → List ℕ → Option ℕ
+badRuleFrom n k at ws = badRuleIn (length ws) n k at ws
+
+pub badRuleFrom-cons : (n k at w : ℕ) (ws : List ℕ) → badRuleFrom n k at (w ∷ ws)
+    ≡ cond (ltb k 4096 && ruleFits n (w ∷ ws))
+    (badRuleFrom n (suc k) (at + ruleSize (w ∷ ws)) (drop (ruleSize (w ∷ ws)) (w ∷ ws)))
+    (some at)
+unfolding badRuleFrom
+badRuleFrom-cons n k at w ws =
+    ap {B = Option ℕ} (λ o. cond (ltb k 4096 && ruleFits n (w ∷ ws)) o (some at))
+    (badRuleIn-enough (length ws) n (suc k) (at + ruleSize (w ∷ ws)) (afterRule (w ∷ ws)) (fewer w ws (length ws) (omega arith)))
+
+pub badRuleFrom-nil : (n k at : ℕ) → badRuleFrom n k at [] ≡ none
+unfolding badRuleFrom
+badRuleFrom-nil n k at = refl
+
+pub badRule-from : (n : ℕ) (ws : List ℕ) → badRule n ws ≡ badRuleFrom n 0 0 ws
+unfolding badRule badRuleFrom
+badRule-from n ws = refl
+
+-- The words of rules decode to the rules
+
+-- no literal head is the code of false
+abbrev pub HeadCoded : Head → Type 0
+HeadCoded (lit c) = c ≢ 65535
+HeadCoded falsum = Unit
+
+abbrev pub HeadsCoded : List Rule → Type 0
+HeadsCoded Π = Each (λ r. HeadCoded (r .head)) Π
+
+headOf-word : (h : Head) → HeadCoded h → headOf (headWord h) ≡ h
+headOf-word (lit c) h = rw (ne-eqb c 65535 h)
+headOf-word falsum h = refl
+
+-- one rule's words with more words behind: where its parts stand
+module _ (r : Rule) (ws : List ℕ) where
+  abbrev count : ℕ
+  count = length (r .negated)
+
+  abbrev whole : List ℕ
+  whole = ruleWords r ++ ws
+
+  negated-at : take count (drop 3 whole) ≡ r .negated
+  negated-at = rw append-assoc (take-append-seam (r .negated) (r .plain ++ ws))
+
+  plain-on : drop (3 + count) whole ≡ r .plain ++ ws
+  plain-on = sym (drop-drop count 3 whole) ∙ rw append-assoc (drop-append-seam (r .negated) (r .plain ++ ws))
+
+  rest-on : afterRule whole ≡ ws
+  rest-on = sym (drop-drop (length (r .plain)) (3 + count) whole) ∙ rw plain-on (drop-append-seam (r .plain) ws)
+
+  plain-at : take (length (r .plain)) (drop (3 + count) whole) ≡ r .plain
+  plain-at = rw plain-on (take-append-seam (r .plain) ws)
+
+  pub ruleAt-words : HeadCoded (r .head) → ruleAt (ruleWords r ++ ws) ≡ r
+  ruleAt-words h = λ i. record { head = headOf-word (r .head) h i; negated = negated-at i; plain = plain-at i }
+
+  pub rulesOf-words : HeadCoded (r .head) → rulesOf (ruleWords r ++ ws) ≡ r ∷ rulesOf ws
+  rulesOf-words h = rulesOf-cons _ _ ∙ rw (ruleAt-words h, rest-on)
+
+pub rules-words : (Π : List Rule) → HeadsCoded Π → rulesOf (words Π) ≡ Π
+rules-words [] h = rulesOf-nil
+rules-words (r ∷ rs) h = rulesOf-words r (words rs) (h .0) ∙ ap {B = List Rule} (λ l. r ∷ l) (rules-words rs (h .1))
+
+-- The words of rules are accepted
+
+-- literal heads, negated and plain parts are below N
+abbrev pub RuleBelow : ℕ → Rule → Type 0
+RuleBelow N r = HeadBelow N (r .head) × Each (λ c. c < N) (r .negated) × Each (λ c. c < N) (r .plain)
+
+abbrev pub CodesBelow : ℕ → List Rule → Type 0
+CodesBelow N Π = Each (RuleBelow N) Π
+
+pub codes-heads : (N : ℕ) (Π : List Rule) → CodesBelow N Π → HeadsBelow N Π
+codes-heads N Π h = each-map (λ r b. b .0) Π h
+
+pub codes-coded : (N : ℕ) (Π : List Rule) → CodesBelow N Π → N ≤ 65535 → HeadsCoded Π
+codes-coded N Π h small = each-map (λ r b. coded (r .head) (b .0)) Π h
+  where
+    coded : (h : Head) → HeadBelow N h → HeadCoded h
+    coded (lit c) b = omega arith
+    coded falsum b = tt
+
+partsFit-iff : (n : ℕ) (cs : List ℕ) → partsFit n cs ≡ true ↔ Each (λ c. c < 2 * n) cs
+partsFit-iff n cs = (
+  λ e. each-map (λ c t. ltb-true c (2 * n) t) cs (all-each (λ c. ltb c (2 * n)) cs .0 e),
+  λ h. all-each (λ c. ltb c (2 * n)) cs .1 (each-map (λ c b. lt-ltb c (2 * n) b) cs h),
+)
+
+-- a rule fits: it does not run past the end, its head is in range, and so are its parts
+pub ruleFits-iff : (n : ℕ) (ws : List ℕ) → ruleFits n ws ≡ true
+    ↔ ((ruleSize ws ≤ length ws) × (headFits n (getD ws 0 0) ≡ true) × Each (λ c. c < 2 * n) (take (getD ws 1 0 + getD ws 2 0) (drop 3 ws)))
+ruleFits-iff n ws = (
+  λ e. let h = both .0 e in (leb-true _ _ (h .0), h .1, partsFit-iff n parts .0 (h .2)),
+  λ h. both .1 (le-leb _ _ (h .0), h .1, partsFit-iff n parts .1 (h .2)),
+)
+  where
+    parts : List ℕ
+    parts = take (getD ws 1 0 + getD ws 2 0) (drop 3 ws)
+
+    both : ruleFits n ws ≡ true ↔ ((leb (ruleSize ws) (length ws) ≡ true) × (headFits n (getD ws 0 0) ≡ true) × (partsFit n parts ≡ true))
+    both = and₃-iff (leb (ruleSize ws) (length ws)) (headFits n (getD ws 0 0)) (partsFit n parts)
+
+word-fits : (n : ℕ) (h : Head) → HeadBelow (2 * n) h → headFits n (headWord h) ≡ true
+word-fits n (lit c) b = or-iff (eqb c 65535) (ltb c (2 * n)) .1 (inr (lt-ltb c (2 * n) b))
+word-fits n falsum b = refl
+
+rule-fits : (n : ℕ) (r : Rule) (ws : List ℕ) → RuleBelow (2 * n) r → ruleFits n (ruleWords r ++ ws) ≡ true
+rule-fits n r ws b =
+    ruleFits-iff n (ruleWords r ++ ws) .1 (
+      omega (arith, length-append parts ws, length-append (r .negated) (r .plain)),
+      word-fits n (r .head) (b .0),
+      rw (take-at parts ws (length (r .negated) + length (r .plain)) (length-append (r .negated) (r .plain)))
+          (each-append (λ c. c < 2 * n) (r .negated) (r .plain) .1 (b .1, b .2)),
+    )
+  where
+    parts : List ℕ
+    parts = r .negated ++ r .plain
+
+words-fit : (n k at : ℕ) (Π : List Rule) → CodesBelow (2 * n) Π → k + length Π ≤ 4096 → badRuleFrom n k at (words Π) ≡ none
+words-fit n k at [] h few = badRuleFrom-nil n k at
+words-fit n k at (r ∷ rs) h few =
+    rw (badRuleFrom-cons, lt-ltb k 4096 (omega arith), rule-fits n r (words rs) (h .0), rest-on r (words rs))
+    (words-fit n (suc k) (at + ruleSize (words (r ∷ rs))) rs (h .1) (omega arith))
+
+pub words-accepted : (n : ℕ) (Π : List Rule) → CodesBelow (2 * n) Π → length Π ≤ 4096 → badRule n (words Π) ≡ none
+words-accepted n Π h few = badRule-from n (words Π) ∙ words-fit n 0 0 Π h (omega arith)
+
+-- An accepted table
+
+accepted-head : (n w : ℕ) → headFits n w ≡ true → HeadBelow (2 * n) (headOf w)
+accepted-head n w e = go (eqb w 65535) refl
+  where
+    go : (b : Bool) → eqb w 65535 ≡ b → HeadBelow (2 * n) (headOf w)
+    go true t = rw t tt
+    go false f = rw f (ltb-true w (2 * n) (cc))
+
+accepted-rule : (n : ℕ) (ws : List ℕ) → ruleFits n ws ≡ true → RuleBelow (2 * n) (ruleAt ws)
+accepted-rule n ws e =
+    let (_, head, parts) = ruleFits-iff n ws .0 e in
+    let r = ruleAt ws in
+    let parts′ = rw (take-add (getD ws 1 0) (getD ws 2 0) (drop 3 ws), drop-drop) at parts in
+    let (negated, plain) = each-append (λ c. c < 2 * n) (r .negated) (r .plain) .0 parts′ in
+    (accepted-head n (getD ws 0 0) head, negated, plain)
+
+-- nothing was refused from word `at` on, with k rules before
+module _ (n : ℕ) where
+  accepted-step : (f k at w : ℕ) (ws : List ℕ) → badRuleIn (suc f) n k at (w ∷ ws) ≡ none
+      → (k < 4096) × (ruleFits n (w ∷ ws) ≡ true) × (badRuleIn f n (suc k) (at + ruleSize (w ∷ ws)) (afterRule (w ∷ ws)) ≡ none)
+  accepted-step f k at w ws e =
+      let t : (ltb k 4096 && ruleFits n (w ∷ ws)) ≡ true = true-of-not _ (λ f. let z : _≡_ {A = ℕ} 0 1 = cc in omega arith) in
+      let (few, fits) = and-iff (ltb k 4096) (ruleFits n (w ∷ ws)) .0 t in
+      (ltb-true k 4096 few, fits, rw t at e)
+
+  below-in : (f k at : ℕ) (ws : List ℕ) → badRuleIn f n k at ws ≡ none → CodesBelow (2 * n) (rulesIn f ws)
+  below-in zero k at ws e = tt
+  below-in (suc f) k at [] e = tt
+  below-in (suc f) k at (w ∷ ws) e =
+      let (_, fits, rest) = accepted-step f k at w ws e in
+      (accepted-rule n (w ∷ ws) fits, below-in f (suc k) (at + ruleSize (w ∷ ws)) (afterRule (w ∷ ws)) rest)
+
+  count-in : (f k at : ℕ) (ws : List ℕ) → badRuleIn f n k at ws ≡ none → k ≤ 4096 → k + length (rulesIn f ws) ≤ 4096
+  count-in zero k at ws e few = omega arith
+  count-in (suc f) k at [] e few = omega arith
+  count-in (suc f) k at (w ∷ ws) e few =
+      let (few′, _, rest) = accepted-step f k at w ws e in
+      omega (arith, count-in f (suc k) (at + ruleSize (w ∷ ws)) (afterRule (w ∷ ws)) rest few′)
+
+  pub accepted-below : (ws : List ℕ) → badRule n ws ≡ none → CodesBelow (2 * n) (rulesOf ws)
+  unfolding badRule rulesOf
+  accepted-below ws e = below-in (length ws) 0 0 ws e
+
+  pub accepted-count : (ws : List ℕ) → badRule n ws ≡ none → length (rulesOf ws) ≤ 4096
+  unfolding badRule rulesOf
+  accepted-count ws e = omega (arith, count-in (length ws) 0 0 ws e (omega arith))

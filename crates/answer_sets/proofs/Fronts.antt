@@ -1,0 +1,184 @@
+-- The rule at the front of a run of words: what the parts that the code takes of it are, and what is left behind it.
+-- Assumes nothing.
+use mathlib.Core.Path.{_≡_, refl, sym, _∙_, ap}
+use mathlib.Core.Bool.{Bool, true, false, cond, not, _&&_, _||_, and-false, false≢true}
+use mathlib.Core.List.{List, [], _∷_}
+use mathlib.Core.Option.{Option, none, some}
+use mathlib.Core.Logic.{_⊎_, inl, inr, ⊎-elim}
+use Prim.Native.Nat.{ℕ, zero, suc, _+_, _-_, _*_, _≤_, _<_}
+use native.Mathlib.Numerals.{add-one}
+use native.Mathlib.Omega.{arith}
+use borrow.Author.Tests.{lt-leb, le-leb, not-true, not-false, ltb-true, lt-ltb, le-ltb, eqb-true, eqb-false}
+use lib.Dec.{eqb, ltb, leb}
+use lib.ListN.{length, getD, take, drop, set, length-drop, length-set}
+use Rattle.search.specs.Search.{all, first}
+use Rattle.search.proofs.Tests.{and-iff, or-iff}
+use Rattle.search.proofs.Loops.{to-the-end}
+use Rattle.answer_sets.specs.Literals.{Lits}
+use Rattle.answer_sets.specs.Rules.{Rule, lit, falsum}
+use Rattle.answer_sets.specs.Verdicts.{applies, round, headIs}
+use Rattle.answer_sets.specs.Words.{ruleSize, ruleAt, ruleFits, headFits, partsFit, headOf, rulesOf, badRuleIn, badRule}
+use Rattle.answer_sets.specs.Parts.{Sound, marked, derives}
+use Rattle.answer_sets.proofs.Stores.{getD-set}
+use Rattle.answer_sets.proofs.Decoding.{rulesOf-nil, rulesOf-cons, badRuleFrom, badRuleFrom-cons, badRuleFrom-nil, badRule-from, ruleFits-iff}
+
+-- a rule applies: first its negated parts are looked at, then its plain ones
+module _ (X Y : Lits) (ws : List ℕ) (r : Bool) (is : r ≡ all (λ c. not (X c)) (take (3 + getD ws 1 0 - 3) (drop 3 ws))) where
+  negated : r ≡ all (λ c. not (X c)) (ruleAt ws .negated)
+  negated = let e : 3 + getD ws 1 0 - 3 ≡ getD ws 1 0 = omega arith in rw e at is
+
+  pub applies-stop : not r ≡ true → false ≡ applies X Y (ruleAt ws)
+  applies-stop e = rw (← negated, not-true r e)
+
+  pub applies-go : (q : Bool) → not r ≡ false → q ≡ all Y (take (3 + getD ws 1 0 + getD ws 2 0 - (3 + getD ws 1 0)) (drop (3 + getD ws 1 0) ws))
+      → q ≡ applies X Y (ruleAt ws)
+  applies-go q e plain =
+      let size : 3 + getD ws 1 0 + getD ws 2 0 - (3 + getD ws 1 0) ≡ getD ws 2 0 = omega arith in
+      rw (← negated, not-false r e) (rw size at plain)
+
+-- a rule fits: the tests in the order of the code
+module _ (n : ℕ) (ws : List ℕ) where
+  pub fits-short : length ws < ruleSize ws → false ≡ ruleFits n ws
+  fits-short h = rw (lt-leb (ruleSize ws) (length ws) h)
+
+  pub fits-head : (r : Bool) → ruleSize ws ≤ length ws → r ≡ headFits n (getD ws 0 0) → not r ≡ true → false ≡ ruleFits n ws
+  fits-head r h is e = rw (le-leb (ruleSize ws) (length ws) h, ← is, not-true r e)
+
+  pub fits-parts : (r q : Bool) (size : ℕ) → size ≡ ruleSize ws → size ≤ length ws → r ≡ headFits n (getD ws 0 0) → not r ≡ false
+      → q ≡ partsFit n (take (size - 3) (drop 3 ws)) → q ≡ ruleFits n ws
+  fits-parts r q size s h is e parts =
+      let same : size - 3 ≡ getD ws 1 0 + getD ws 2 0 = omega arith in
+      rw (le-leb (ruleSize ws) (length ws) (omega arith), ← is, not-false r e) (rw same at parts)
+
+-- a table of rules that is not at its end
+pub rules-front : (ws : List ℕ) → 0 < length ws → rulesOf ws ≡ ruleAt ws ∷ rulesOf (drop (ruleSize ws) ws)
+rules-front [] h = absurd (omega arith)
+rules-front (w ∷ ws) h = rulesOf-cons w ws
+
+pub rules-end : (ws : List ℕ) → length ws ≤ 0 → rulesOf ws ≡ []
+rules-end [] h = rulesOf-nil
+rules-end (w ∷ ws) h = absurd (omega arith)
+
+-- the search for the first rule that does not fit
+bad-front : (n k at : ℕ) (ws : List ℕ) → 0 < length ws → badRuleFrom n k at ws
+    ≡ cond (ltb k 4096 && ruleFits n ws) (badRuleFrom n (suc k) (at + ruleSize ws) (drop (ruleSize ws) ws)) (some at)
+bad-front n k at [] h = absurd (omega arith)
+bad-front n k at (w ∷ ws) h = badRuleFrom-cons n k at w ws
+
+module _ (n k at : ℕ) (ws : List ℕ) {R : Option ℕ} where
+  pub bad-many : 0 < length ws → badRuleFrom n k at ws ≡ R → 4096 ≤ k → some at ≡ R
+  bad-many h inv many = rw (bad-front n k at ws h, le-ltb k 4096 many) at inv
+
+  pub bad-stop : (r : Bool) → 0 < length ws → badRuleFrom n k at ws ≡ R → r ≡ ruleFits n ws → not r ≡ true → some at ≡ R
+  bad-stop r h inv is e = rw (bad-front n k at ws h, ← is, not-true r e, and-false (ltb k 4096)) at inv
+
+  pub bad-go : (r : Bool) (size : ℕ) → size ≡ ruleSize ws → 0 < length ws → badRuleFrom n k at ws ≡ R → k < 4096 → r ≡ ruleFits n ws
+      → not r ≡ false → badRuleFrom n (k + 1) (at + size) (drop (ruleSize ws) ws) ≡ R
+  bad-go r size s h inv few is e =
+      rw (add-one k, s) (rw (bad-front n k at ws h, lt-ltb k 4096 few, ← is, not-false r e) at inv)
+
+  pub bad-end : length ws ≤ 0 → badRuleFrom n k at ws ≡ R → none ≡ R
+  bad-end h inv = done ws h inv
+    where
+      done : (l : List ℕ) → length l ≤ 0 → badRuleFrom n k at l ≡ R → none ≡ R
+      done [] b e = rw (badRuleFrom-nil n k at) at e
+      done (x ∷ xs) b e = absurd (omega arith)
+
+pub fits-size : (n : ℕ) (ws : List ℕ) (r : Bool) → r ≡ ruleFits n ws → not r ≡ false → ruleSize ws ≤ length ws
+fits-size n ws r is e = ruleFits-iff n ws .0 (sym is ∙ not-false r e) .0
+
+-- the rule at the front of sound words, and the words behind it
+pub accepted-sound : (n : ℕ) (ws : List ℕ) → n ≤ 1024 → badRule n ws ≡ none → Sound ws
+unfolding badRuleFrom
+accepted-sound n ws few e = record { atoms = n; few = few; before = 0; at = 0; fits = sym (badRule-from n ws) ∙ e }
+
+module _ (ws : List ℕ) (h : 0 < length ws) (s : Sound ws) where
+  -- the test of the rule at the front passed
+  tested : (ruleFits (s .atoms) ws ≡ true) × (badRuleFrom (s .atoms) (suc (s .before)) (s .at + ruleSize ws) (drop (ruleSize ws) ws) ≡ none)
+  unfolding badRuleFrom
+  tested = passed (ltb (s .before) 4096) (ruleFits (s .atoms) ws) refl (sym (bad-front (s .atoms) (s .before) (s .at) ws h) ∙ s .fits)
+    where
+      passed : (a b : Bool) → b ≡ ruleFits (s .atoms) ws → {next : Option ℕ} → cond (a && b) next (some (s .at)) ≡ none → (ruleFits (s .atoms) ws ≡ true) × (next ≡ none)
+      passed true true q e = (sym q, e)
+      passed true false q e = absurd (let z : _≡_ {A = ℕ} 0 1 = cc in omega arith)
+      passed false b q e = absurd (let z : _≡_ {A = ℕ} 0 1 = cc in omega arith)
+
+  fit : (ruleSize ws ≤ length ws) × (headFits (s .atoms) (getD ws 0 0) ≡ true)
+  fit = let f = ruleFits-iff (s .atoms) ws .0 (tested .0) in (f .0, f .1)
+
+  pub sound-size : ruleSize ws ≤ length ws
+  sound-size = fit .0
+
+  pub sound-head : (getD ws 0 0 ≡ 65535 → ⊥) → getD ws 0 0 < 2048
+  sound-head literal = ⊎-elim (λ e. absurd (literal (eqb-true _ _ e))) (λ e. omega (arith, ltb-true (getD ws 0 0) (2 * s .atoms) e, s .few)) (or-iff _ _ .0 (fit .1))
+
+  pub sound-rest : Sound (drop (ruleSize ws) ws)
+  unfolding badRuleFrom
+  sound-rest = record { atoms = s .atoms; few = s .few; before = suc (s .before); at = s .at + ruleSize ws; fits = tested .1 }
+
+-- the same, for a search of any first rule
+module _ (p : Rule → Bool) (k : ℕ) (ws : List ℕ) {R : Option ℕ} where
+  pub rule-stop : 0 < length ws → first p k (rulesOf ws) ≡ R → p (ruleAt ws) ≡ true → some k ≡ R
+  rule-stop h inv e = rw (rules-front ws h, e) at inv
+
+  pub rule-go : 0 < length ws → first p k (rulesOf ws) ≡ R → p (ruleAt ws) ≡ false → first p (k + 1) (rulesOf (drop (ruleSize ws) ws)) ≡ R
+  rule-go h inv e = rw add-one (rw (rules-front ws h, e) at inv)
+
+  pub rule-end : length ws ≤ 0 → first p k (rulesOf ws) ≡ R → none ≡ R
+  rule-end h inv = rw (rules-end ws h) at inv
+
+-- one round of derivation, rule by rule: what is marked new, or will be by the rules that are left
+module _ (X Y : Lits) (ws : List ℕ) (h : 0 < length ws) (new : List Bool) (c : ℕ) where
+  round-front : (marked new c || round (rulesOf ws) X Y c)
+      ≡ (marked new c || ((headIs (headOf (getD ws 0 0)) c && applies X Y (ruleAt ws)) || round (rulesOf (drop (ruleSize ws) ws)) X Y c))
+  round-front = rw (rules-front ws h)
+
+  pub round-idle : {R : Bool} (r : Bool) → (marked new c || round (rulesOf ws) X Y c) ≡ R → r ≡ derives X Y ws → r ≡ false
+      → (marked new c || round (rulesOf (drop (ruleSize ws) ws)) X Y c) ≡ R
+  round-idle r inv is e =
+      ap (λ (b : Bool). marked new c || (b || round (rulesOf (drop (ruleSize ws) ws)) X Y c)) (idle (eqb (getD ws 0 0) 65535) refl (applies X Y (ruleAt ws)) (sym is ∙ e))
+      ∙ (rw round-front at inv)
+    where
+      idle : (f : Bool) → f ≡ eqb (getD ws 0 0) 65535 → (b : Bool) → (not f && b) ≡ false → false ≡ (headIs (cond f falsum (lit (getD ws 0 0))) c && b)
+      idle true q b n = refl
+      idle false q true n = absurd (false≢true (sym n))
+      idle false q false n = sym (and-false (eqb (getD ws 0 0) c))
+
+  pub round-mark : {R : Bool} (r : Bool) → (marked new c || round (rulesOf ws) X Y c) ≡ R → r ≡ derives X Y ws → r ≡ true
+      → getD ws 0 0 < length new
+      → (marked (set new (getD ws 0 0) true) c || round (rulesOf (drop (ruleSize ws) ws)) X Y c) ≡ R
+  round-mark r inv is e below =
+      let both = and-iff (not (eqb (getD ws 0 0) 65535)) (applies X Y (ruleAt ws)) .0 (sym is ∙ e) in
+      rw (getD-set new (getD ws 0 0) true below c)
+      (joined (eqb (getD ws 0 0) c) (marked new c) _ ∙ (rw (round-front, both .1, not-true (eqb (getD ws 0 0) 65535) (both .0)) at inv))
+    where
+      joined : (q m rest : Bool) → (cond q true m || rest) ≡ (m || ((q && true) || rest))
+      joined true true rest = refl
+      joined true false rest = refl
+      joined false true rest = refl
+      joined false false rest = refl
+
+pub derives-literal : (X Y : Lits) (ws : List ℕ) (r : Bool) → r ≡ derives X Y ws → r ≡ true → getD ws 0 0 ≡ 65535 → ⊥
+derives-literal X Y ws r is e =
+    eqb-false _ _ (not-true _ (and-iff (not (eqb (getD ws 0 0) 65535)) (applies X Y (ruleAt ws)) .0 (sym is ∙ e) .0))
+
+-- what the code takes to be left behind the rule at the front
+pub left-behind : (ws : List ℕ) (size : ℕ) → size ≡ ruleSize ws → take (length ws - size) (drop size ws) ≡ drop (ruleSize ws) ws
+left-behind ws size e = to-the-end size ws ∙ ap (λ (k : ℕ). drop k ws) e
+
+pub shorter : (ws : List ℕ) → 0 < length ws → length (drop (ruleSize ws) ws) < length ws
+shorter ws h = omega (arith, length-drop (ruleSize ws) ws)
+
+-- a turn of a round: the mark of the rule's head is set, or nothing is
+pub round-turn : (X Y : Lits) (ws : List ℕ) (h : 0 < length ws) (s : Sound ws) (old new : List Bool) (r : Bool) → r ≡ derives X Y ws
+    → ((r ≡ true) × (new ≡ set old (getD ws 0 0) true)) ⊎ ((r ≡ false) × (new ≡ old)) → length old ≡ 2048 → {R : Lits}
+    → ((c : ℕ) → (marked old c || round (rulesOf ws) X Y c) ≡ R c)
+    → (length new ≡ 2048) × ((c : ℕ) → (marked new c || round (rulesOf (drop (ruleSize ws) ws)) X Y c) ≡ R c)
+round-turn X Y ws h s old new r is (inl w) size inv = (
+  rw (w .1) (length-set old (getD ws 0 0) true ∙ size),
+  λ c. rw (w .1) (round-mark X Y ws h old c r (inv c) is (w .0) (omega (arith, sound-head ws h s (derives-literal X Y ws r is (w .0))))),
+)
+round-turn X Y ws h s old new r is (inr w) size inv = (
+  rw (w .1) size,
+  λ c. rw (w .1) (round-idle X Y ws h old c r (inv c) is (w .0)),
+)

@@ -1,0 +1,77 @@
+-- Marks after a store, and the marks of value bytes.
+-- Assumes nothing.
+use mathlib.Core.Path.{_≡_, refl, sym, _∙_, ap, fun-ext}
+use mathlib.Core.Bool.{Bool, true, false, cond, not, _&&_, _||_, and-false, Bool·beq}
+use mathlib.Core.List.{List, [], _∷_}
+use mathlib.Core.Logic.{_⊎_, ⊎-elim, _≢_}
+use Prim.Native.Nat.{ℕ, zero, suc, _+_, _*_, _/_, _%_, _≤_, _<_}
+use native.Mathlib.Omega.{arith}
+use borrow.Author.Tests.{ltb-true, ltb-false, lt-ltb, le-ltb, eqb-true, eqb-false, eq-eqb, ne-eqb}
+use lib.Dec.{eqb, ltb}
+use lib.ListN.{length, getD, set, replicate, List·getD-eq-default}
+use lib.Seq.{getD-set-same, getD-set-other}
+use Rattle.answer_sets.specs.Literals.{Lits, setOf, holdsTrue, holdsFalse}
+use Rattle.answer_sets.specs.Parts.{marked, is}
+use Rattle.search.proofs.Tests.{true-or-false}
+
+pub clear-marks : (n c : ℕ) → marked (replicate n false) c ≡ false
+clear-marks zero c = refl
+clear-marks (suc n) zero = refl
+clear-marks (suc n) (suc c) = clear-marks n c
+
+-- what stands at j after a store at i
+pub getD-set : (l : List Bool) (i : ℕ) (a : Bool) → i < length l → (j : ℕ) → getD (set l i a) j false ≡ cond (eqb i j) a (getD l j false)
+getD-set l i a h j = ⊎-elim same other (true-or-false (eqb i j))
+  where
+    same : eqb i j ≡ true → getD (set l i a) j false ≡ cond (eqb i j) a (getD l j false)
+    same e = rw (e, ← (eqb-true i j e), getD-set-same l i a false h)
+
+    other : eqb i j ≡ false → getD (set l i a) j false ≡ cond (eqb i j) a (getD l j false)
+    other e = rw (e, getD-set-other l i j a false (λ q. eqb-false i j e (sym q)))
+
+-- marks that are filled in order, code by code
+pub fill-start : (X : Lits) (marks : List Bool) → marks ≡ replicate 2048 false → (c : ℕ) → marked marks c ≡ (ltb c 0 && X c)
+fill-start X marks e c = rw (e, clear-marks 2048 c, le-ltb c 0 (omega arith))
+
+pub fill-step : (X : Lits) (marks : List Bool) (code : ℕ) (v : Bool) → code < length marks → v ≡ X code
+    → ((c : ℕ) → marked marks c ≡ (ltb c code && X c)) → (c : ℕ) → marked (set marks code v) c ≡ (ltb c (code + 1) && X c)
+fill-step X marks code v h is inv c = getD-set marks code v h c ∙ ⊎-elim same other (true-or-false (eqb code c))
+  where
+    same : eqb code c ≡ true → cond (eqb code c) v (marked marks c) ≡ (ltb c (code + 1) && X c)
+    same e = let q : code ≡ c = eqb-true code c e in rw (e, lt-ltb c (code + 1) (omega arith), is, q)
+
+    below : (b : Bool) → ltb c code ≡ b → code ≢ c → ltb c (code + 1) ≡ b
+    below true e n = lt-ltb c (code + 1) (omega (arith, ltb-true c code e))
+    below false e n = le-ltb c (code + 1) (omega (arith, ltb-false c code e))
+
+    other : eqb code c ≡ false → cond (eqb code c) v (marked marks c) ≡ (ltb c (code + 1) && X c)
+    other e = rw (e, inv c, below (ltb c code) refl (eqb-false code c e))
+
+-- no literal of an atom past the values
+pub setOf-past : (vs : List ℕ) (c : ℕ) → length vs ≤ c / 2 → setOf vs c ≡ false
+unfolding setOf holdsTrue holdsFalse
+setOf-past vs c h = rw (List·getD-eq-default vs 0 h) (same (eqb (c % 2) 0))
+  where
+    same : (b : Bool) → cond b false false ≡ false
+    same true = refl
+    same false = refl
+
+pub fill-done : (vs : List ℕ) (code : ℕ) (marks : List Bool) → 2 * length vs ≤ code
+    → ((c : ℕ) → marked marks c ≡ (ltb c code && setOf vs c)) → marked marks ≡ setOf vs
+fill-done vs code marks h inv = fun-ext (λ c. inv c ∙ whole c (ltb c code) refl)
+  where
+    whole : (c : ℕ) (b : Bool) → ltb c code ≡ b → (ltb c code && setOf vs c) ≡ setOf vs c
+    whole c true e = rw e
+    whole c false e =
+        let past : length vs ≤ c / 2 = omega (arith, ltb-false c code e) in
+        rw (e, setOf-past vs c past)
+
+-- whether a mark is as wanted, by the test for a difference
+pub differs : (found mark want v : Bool) → found ≡ mark → not (Bool·beq found want) ≡ v → is want mark ≡ not v
+differs found mark want v e t = rw (← e) (rw (← t) (cases found want))
+  where
+    cases : (a b : Bool) → is b a ≡ not (not (Bool·beq a b))
+    cases true true = refl
+    cases true false = refl
+    cases false true = refl
+    cases false false = refl

@@ -1,0 +1,136 @@
+-- What the engine's answers mean, on value bytes and words: it passes exactly the answer sets, its rounds reach the least
+-- closed set, each fault is the lowest of its kind; and the answer sets of program (11).
+-- Assumes nothing.
+use mathlib.Core.Path.{_≡_, refl}
+use mathlib.Core.Logic.{_↔_, ⊎-elim, Iff·trans}
+use mathlib.Core.Bool.{Bool, true, false, cond}
+use mathlib.Core.List.{List, [], _∷_, _++_, map, List·Memᴰ, List·Memᴰ·head, List·Memᴰ·tail, List·Memᴰ·not-nil, List·Memᴰ·cases-cons, Memᴰ·append-left, Memᴰ·append-right, Memᴰ·map}
+use mathlib.Core.Option.{none}
+use Prim.Native.Nat.{ℕ, zero, suc, _*_, _/_, _%_, _≤_, _<_}
+use native.Mathlib.Omega.{arith}
+use lib.Dec.{eqb, ltb}
+use lib.ListN.{length, getD, List·getD-eq-default}
+use borrow.Author.Tests.{ltb-true, ltb-false, le-ltb}
+use Rattle.search.specs.Search.{Each, Lowest, Nowhere}
+use Rattle.answer_sets.specs.Literals.{setOf, holdsTrue, holdsFalse}
+use Rattle.answer_sets.specs.AnswerSets.{reduct, AnswerSet, literalHeaded, IsLeastClosed}
+use Rattle.answer_sets.specs.Verdicts.{Verdict, clash, broken, unfounded, passes, rounds, verdict}
+use Rattle.answer_sets.specs.Words.{rulesOf, badRule}
+use Rattle.answer_sets.specs.Answers.{Reply, refused, judged, tooManyValues, badValue, answer}
+use Rattle.answer_sets.specs.Examples.{program11, answerSets11, allValues, isPass, passing}
+use Rattle.search.proofs.Tests.{true-or-false, not-both, none-first, each-at}
+use Rattle.answer_sets.proofs.Least.{HeadsBelow, Below, least-closed}
+use Rattle.answer_sets.proofs.FirstFault.{Clashing, BrokenAt, Unfounded, clash-iff, broken-iff, unfounded-iff}
+use Rattle.answer_sets.proofs.Passes.{passes-iff}
+use Rattle.answer_sets.proofs.Decoding.{accepted-below, codes-heads}
+use Rattle.answer_sets.proofs.Examples.{program11-passing}
+
+-- no refusal holds
+abbrev pub Accepted : List ℕ → List ℕ → Type 0
+Accepted vs ws = (tooManyValues vs ≡ none) × (badValue vs ≡ none) × (badRule (length vs) ws ≡ none)
+
+pub setOf-below : (vs : List ℕ) → Below (2 * length vs) (setOf vs)
+unfolding setOf holdsTrue holdsFalse
+setOf-below vs c e = ⊎-elim (λ t. omega (arith, ltb-true (c / 2) (length vs) t)) past (true-or-false (ltb (c / 2) (length vs)))
+  where
+    neither : (b : Bool) → cond b (holdsTrue 0) (holdsFalse 0) ≡ false
+    neither true = refl
+    neither false = refl
+
+    past : ltb (c / 2) (length vs) ≡ false → c < 2 * length vs
+    past f = let out : getD vs (c / 2) 0 ≡ 0 = List·getD-eq-default vs 0 (ltb-false (c / 2) (length vs) f) in
+        absurd (not-both (rw out at e) (neither (eqb (c % 2) 0)))
+
+pub accepted-judged : (vs ws : List ℕ) → Accepted vs ws → answer vs ws ≡ judged (verdict (length vs) (rulesOf ws) (setOf vs))
+unfolding answer
+accepted-judged vs ws h = rw (h .0, h .1, h .2)
+
+module _ (vs ws : List ℕ) (accepted : Accepted vs ws) where
+  judges-iff : (v : Verdict) → answer vs ws ≡ judged v ↔ verdict (length vs) (rulesOf ws) (setOf vs) ≡ v
+  judges-iff v = let e = accepted-judged vs ws accepted in (λ a. cc, λ a. cc)
+
+  heads-below : HeadsBelow (2 * length vs) (rulesOf ws)
+  heads-below = codes-heads (2 * length vs) (rulesOf ws) (accepted-below (length vs) ws (accepted .2))
+
+  pub passes-exactly : answer vs ws ≡ judged passes ↔ AnswerSet (rulesOf ws) (setOf vs)
+  passes-exactly = Iff·trans (judges-iff passes) (passes-iff (length vs) (rulesOf ws) (setOf vs) heads-below (setOf-below vs))
+
+  pub clash-exactly : (a : ℕ) → answer vs ws ≡ judged (clash a) ↔ Lowest (Clashing (setOf vs)) (length vs) a
+  clash-exactly a = Iff·trans (judges-iff (clash a)) (clash-iff (length vs) (rulesOf ws) (setOf vs) a)
+
+  pub broken-exactly : (r : ℕ) → answer vs ws ≡ judged (broken r)
+      ↔ (Nowhere (Clashing (setOf vs)) (length vs) × Lowest (BrokenAt (rulesOf ws) (setOf vs)) (length (rulesOf ws)) r)
+  broken-exactly r = Iff·trans (judges-iff (broken r)) (broken-iff (length vs) (rulesOf ws) (setOf vs) r)
+
+  pub unfounded-exactly : (c : ℕ) → answer vs ws ≡ judged (unfounded c)
+      ↔ (Nowhere (Clashing (setOf vs)) (length vs)
+      × Nowhere (BrokenAt (rulesOf ws) (setOf vs)) (length (rulesOf ws))
+      × Lowest (Unfounded (rulesOf ws) (setOf vs)) (2 * length vs) c)
+  unfounded-exactly c = Iff·trans (judges-iff (unfounded c)) (unfounded-iff (length vs) (rulesOf ws) (setOf vs) heads-below c)
+
+  pub rounds-least : IsLeastClosed (literalHeaded (reduct (rulesOf ws) (setOf vs))) (rounds (2 * length vs) (rulesOf ws) (setOf vs))
+  rounds-least = least-closed (length vs) (rulesOf ws) (setOf vs) heads-below
+
+-- Program (11)
+
+-- every list of n value bytes is among all of them
+all-values : (n : ℕ) (vs : List ℕ) → length vs ≡ n → Each (λ v. v ≤ 3) vs → List·Memᴰ vs (allValues n)
+all-values zero [] e h = List·Memᴰ·head refl
+all-values zero (v ∷ vs) e h = absurd (omega arith)
+all-values (suc n) [] e h = absurd (omega arith)
+all-values (suc n) (v ∷ vs) e h = byte v (h .0) (all-values n vs (omega arith) (h .1))
+  where
+    of : ℕ → List (List ℕ)
+    of b = map (λ us. b ∷ us) (allValues n)
+
+    byte : (v : ℕ) → v ≤ 3 → List·Memᴰ vs (allValues n) → List·Memᴰ (v ∷ vs) (of 0 ++ of 1 ++ of 2 ++ of 3)
+    byte zero b m = Memᴰ·append-left (of 3) (Memᴰ·append-left (of 2) (Memᴰ·append-left (of 1) (Memᴰ·map (λ us. 0 ∷ us) m)))
+    byte (suc zero) b m = Memᴰ·append-left (of 3) (Memᴰ·append-left (of 2) (Memᴰ·append-right (of 0) (Memᴰ·map (λ us. 1 ∷ us) m)))
+    byte (suc (suc zero)) b m = Memᴰ·append-left (of 3) (Memᴰ·append-right (of 0 ++ of 1) (Memᴰ·map (λ us. 2 ∷ us) m))
+    byte (suc (suc (suc zero))) b m = Memᴰ·append-right (of 0 ++ of 1 ++ of 2) (Memᴰ·map (λ us. 3 ∷ us) m)
+    byte (suc (suc (suc (suc v)))) b m = absurd (omega arith)
+
+-- the lists that pass are those that the engine passes
+passing-iff : (ws : List ℕ) (uss : List (List ℕ)) (vs : List ℕ)
+    → List·Memᴰ vs (passing ws uss) ↔ (List·Memᴰ vs uss × (isPass (answer vs ws) ≡ true))
+passing-iff ws [] vs = (λ m. absurd (List·Memᴰ·not-nil m), λ h. h .0)
+passing-iff ws (us ∷ uss) vs = go (isPass (answer us ws)) refl (passing-iff ws uss vs)
+  where
+    go : (b : Bool) → isPass (answer us ws) ≡ b → List·Memᴰ vs (passing ws uss) ↔ (List·Memᴰ vs uss × (isPass (answer vs ws) ≡ true))
+        → List·Memᴰ vs (passing ws (us ∷ uss)) ↔ (List·Memᴰ vs (us ∷ uss) × (isPass (answer vs ws) ≡ true))
+    go true t rest =
+        rw t (
+          λ m. ⊎-elim (λ e. (List·Memᴰ·head e, rw e t)) (λ l. let h = rest .0 l in (List·Memᴰ·tail (h .0), h .1)) (List·Memᴰ·cases-cons m),
+          λ h. ⊎-elim (λ e. List·Memᴰ·head e) (λ l. List·Memᴰ·tail (rest .1 (l, h .1))) (List·Memᴰ·cases-cons (h .0)),
+        )
+    go false f rest =
+        rw f (
+          λ m. let h = rest .0 m in (List·Memᴰ·tail (h .0), h .1),
+          λ h. ⊎-elim (λ e. absurd (not-both (h .1) (rw e f))) (λ l. rest .1 (l, h .1)) (List·Memᴰ·cases-cons (h .0)),
+        )
+
+isPass-iff : (r : Reply) → isPass r ≡ true ↔ r ≡ judged passes
+isPass-iff (judged passes) = (λ e. refl, λ e. refl)
+isPass-iff (judged (clash a)) = (λ e. cc, λ e. cc)
+isPass-iff (judged (broken r)) = (λ e. cc, λ e. cc)
+isPass-iff (judged (unfounded c)) = (λ e. cc, λ e. cc)
+isPass-iff (refused k p) = (λ e. cc, λ e. cc)
+
+accepted11 : (vs : List ℕ) → length vs ≡ 3 → Each (λ v. v ≤ 3) vs → Accepted vs program11
+unfolding badRule
+accepted11 vs e h = (
+  rw e refl,
+  none-first (ltb 3) 0 0 vs (λ i b. le-ltb 3 (getD vs i 0) (each-at (λ v. v ≤ 3) 0 vs .0 h i b)),
+  rw e refl,
+)
+
+pub program11-answer-sets : (vs : List ℕ) → length vs ≡ 3 → Each (λ v. v ≤ 3) vs
+    → AnswerSet (rulesOf program11) (setOf vs) ↔ List·Memᴰ vs answerSets11
+program11-answer-sets vs e h =
+    (λ a. rw program11-passing at (listed .1 (all-values 3 vs e h, pass .1 a)), λ m. pass .0 (listed .0 (rw program11-passing m) .1))
+  where
+    listed : List·Memᴰ vs (passing program11 (allValues 3)) ↔ (List·Memᴰ vs (allValues 3) × (isPass (answer vs program11) ≡ true))
+    listed = passing-iff program11 (allValues 3) vs
+
+    pass : isPass (answer vs program11) ≡ true ↔ AnswerSet (rulesOf program11) (setOf vs)
+    pass = Iff·trans (isPass-iff (answer vs program11)) (passes-exactly vs program11 (accepted11 vs e h))

@@ -1,0 +1,113 @@
+// The verdict on an accepted table and accepted values: the first fault that there is, and the lowest of its kind.
+use crate::Answer;
+use crate::derivation;
+use crate::marks;
+use crate::table;
+use crate::values;
+use search::Found;
+ghost use mathlib.Core.Path.{_≡_};
+ghost use mathlib.Core.Option.{none};
+ghost use Prim.Native.Nat.{_*_, _≤_};
+ghost use lib.ListN.{length};
+ghost use Rattle.search.specs.Search.{first, placeOf, range};
+ghost use Rattle.answer_sets.specs.Literals.{setOf};
+ghost use Rattle.answer_sets.specs.Verdicts.{verdict, bothValues, isBroken, isUnfounded};
+ghost use Rattle.answer_sets.specs.Words.{rulesOf, badRule, ruleAt, ruleSize};
+ghost use Rattle.answer_sets.specs.Answers.{replyOf, judged};
+ghost use Rattle.answer_sets.specs.Parts.{marked, Sound};
+
+// Whether an atom has both values.
+fn both_values(x: &[bool], atom: usize) -> bool
+    requires { ⌜ atom ≤ 1024 ⌝ }
+    ensures { λ r. ⌜ r ≡ bothValues (marked (now (x .entry))) atom ⌝ }
+{
+    if !marks::has(x, 2 * atom) {
+        return false;
+    }
+    marks::has(x, 2 * atom + 1)
+}
+
+// The lowest atom with both values.
+fn first_clash(x: &[bool], atoms: usize) -> Found
+    requires { ⌜ atoms ≤ 1024 ⌝ }
+    ensures { λ r. ⌜ placeOf r ≡ first (bothValues (marked (now (x .entry)))) 0 (range 0 atoms) ⌝ }
+{
+    for atom in 0..atoms {
+        if both_values(x, atom) {
+            return Found::At(atom);
+        }
+    }
+    Found::Nothing
+}
+
+// Whether the rule at the front applies while its head is false or not in the set.
+fn is_broken(rest: &[u16], x: &[bool]) -> bool
+    requires { ⌜ ruleSize (now rest) ≤ length (now rest) ⌝ }
+    ensures { λ r. ⌜ r ≡ isBroken (marked (now (x .entry))) (ruleAt (now (rest .entry))) ⌝ }
+{
+    if !table::rule_applies(rest, x, x) {
+        return false;
+    }
+    !table::head_in(rest[0] as usize, x)
+}
+
+// The lowest broken rule.
+fn first_broken(table: &[u16], x: &[bool]) -> Found
+    requires { ⌜ Sound (now table) ⌝ }
+    ensures { λ r. ⌜ placeOf r ≡ first (isBroken (marked (now (x .entry)))) 0 (rulesOf (now (table .entry))) ⌝ }
+{
+    let mut rest = table;
+    let mut rule = 0;
+    while 0 < rest.len() {
+        if is_broken(rest, x) {
+            return Found::At(rule);
+        }
+        let size = table::rule_size(rest);
+        rest = &rest[size..];
+        rule += 1;
+    }
+    Found::Nothing
+}
+
+// Whether a literal of the set is outside the least closed one.
+fn is_unfounded(x: &[bool], least: &[bool], code: usize) -> bool
+    ensures { λ r. ⌜ r ≡ isUnfounded (marked (now (x .entry))) (marked (now (least .entry))) code ⌝ }
+{
+    if !marks::has(x, code) {
+        return false;
+    }
+    !marks::has(least, code)
+}
+
+// The lowest literal of the set outside the least closed one.
+fn first_unfounded(x: &[bool], least: &[bool], codes: usize) -> Found
+    ensures { λ r. ⌜ placeOf r ≡ first (isUnfounded (marked (now (x .entry))) (marked (now (least .entry)))) 0 (range 0 codes) ⌝ }
+{
+    for code in 0..codes {
+        if is_unfounded(x, least, code) {
+            return Found::At(code);
+        }
+    }
+    Found::Nothing
+}
+
+// The first verdict that holds.
+pub(crate) fn judge(values: &[u8], table: &[u16]) -> Answer
+    requires { ⌜ length (now values) ≤ 1024 ⌝ }
+    requires { ⌜ badRule (length (now values)) (now table) ≡ none ⌝ }
+    ensures { λ r. ⌜ replyOf r ≡ judged (verdict (length (now (values .entry))) (rulesOf (now (table .entry))) (setOf (now (values .entry)))) ⌝ }
+{
+    let atoms = values.len();
+    let x = values::marks_of(values);
+    if let Found::At(atom) = first_clash(&x, atoms) {
+        return Answer::Clash(atom);
+    }
+    if let Found::At(rule) = first_broken(table, &x) {
+        return Answer::Broken(rule);
+    }
+    let least = derivation::derive(table, x, atoms);
+    if let Found::At(code) = first_unfounded(&x, &least, 2 * atoms) {
+        return Answer::Unfounded(code);
+    }
+    Answer::Passes
+}

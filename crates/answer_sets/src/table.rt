@@ -1,0 +1,123 @@
+// The words of a rule table. A slice of words stands for the rules from its front on.
+use crate::marks;
+use search::Found;
+ghost use mathlib.Core.Path.{_≡_};
+ghost use mathlib.Core.Bool.{Bool, true, false, _||_};
+ghost use Prim.Native.Nat.{_+_, _*_, _≤_, _<_};
+ghost use lib.ListN.{length, getD};
+ghost use Rattle.search.specs.Search.{all, placeOf};
+ghost use Rattle.answer_sets.specs.Verdicts.{applies, headIn};
+ghost use Rattle.answer_sets.specs.Words.{ruleSize, ruleAt, ruleFits, headFits, headOf, partsFit, badRule};
+ghost use Rattle.answer_sets.specs.Parts.{marked, derives};
+
+// How many words the rule at the front takes.
+pub(crate) fn rule_size(rest: &[u16]) -> usize
+    requires { ⌜ 3 ≤ length (now rest) ⌝ }
+    ensures { λ r. ⌜ r ≡ ruleSize (now (rest .entry)) ⌝ }
+{
+    3 + (rest[1] as usize) + (rest[2] as usize)
+}
+
+// Whether a head is false or below 2 times atoms.
+fn head_fits(head: usize, atoms: usize) -> bool
+    requires { ⌜ atoms ≤ 1024 ⌝ }
+    ensures { λ r. ⌜ r ≡ headFits atoms head ⌝ }
+{
+    if head == 65535 {
+        return true;
+    }
+    head < 2 * atoms
+}
+
+// Whether each part is below 2 times atoms.
+fn parts_fit(parts: &[u16], atoms: usize) -> bool
+    requires { ⌜ atoms ≤ 1024 ⌝ }
+    ensures { λ r. ⌜ r ≡ partsFit atoms (now (parts .entry)) ⌝ }
+{
+    let limit = 2 * atoms;
+    let mut i = 0;
+    while i < parts.len() {
+        let part = parts[i] as usize;
+        if limit <= part {
+            return false;
+        }
+        i += 1;
+    }
+    true
+}
+
+// Whether the rule at the front is whole and has no code of 2 times atoms or more.
+fn rule_fits(rest: &[u16], atoms: usize) -> bool
+    requires { ⌜ atoms ≤ 1024 ⌝ }
+    ensures { λ r. ⌜ r ≡ ruleFits atoms (now (rest .entry)) ⌝ }
+{
+    if rest.len() < 3 {
+        return false;
+    }
+    let size = rule_size(rest);
+    if rest.len() < size {
+        return false;
+    }
+    let head = rest[0] as usize;
+    if !head_fits(head, atoms) {
+        return false;
+    }
+    parts_fit(&rest[3..size], atoms)
+}
+
+// The word where the first rule starts that does not fit, or that would be the 4,097th.
+pub(crate) fn bad_rule(table: &[u16], atoms: usize) -> Found
+    requires { ⌜ atoms ≤ 1024 ⌝ }
+    ensures { λ r. ⌜ placeOf r ≡ badRule atoms (now (table .entry)) ⌝ }
+{
+    let mut rest = table;
+    let mut at: usize = 0;
+    let mut rules: usize = 0;
+    while 0 < rest.len() {
+        if 4096 <= rules {
+            return Found::At(at);
+        }
+        if !rule_fits(rest, atoms) {
+            return Found::At(at);
+        }
+        let size = rule_size(rest);
+        rest = &rest[size..];
+        at += size;
+        rules += 1;
+    }
+    Found::Nothing
+}
+
+// Whether no negated part of the rule at the front is in x and every plain part is in y.
+pub(crate) fn rule_applies(rest: &[u16], x: &[bool], y: &[bool]) -> bool
+    requires { ⌜ ruleSize (now rest) ≤ length (now rest) ⌝ }
+    ensures { λ r. ⌜ r ≡ applies (marked (now (x .entry))) (marked (now (y .entry))) (ruleAt (now (rest .entry))) ⌝ }
+{
+    let middle = 3 + (rest[1] as usize);
+    let end = middle + (rest[2] as usize);
+    if !marks::all_are(&rest[3..middle], x, false) {
+        return false;
+    }
+    marks::all_are(&rest[middle..end], y, true)
+}
+
+// Whether the rule at the front applies and has a literal as its head.
+pub(crate) fn rule_derives(rest: &[u16], x: &[bool], y: &[bool]) -> bool
+    requires { ⌜ ruleSize (now rest) ≤ length (now rest) ⌝ }
+    ensures { λ r. ⌜ r ≡ derives (marked (now (x .entry))) (marked (now (y .entry))) (now (rest .entry)) ⌝ }
+{
+    if rest[0] == 65535 {
+        return false;
+    }
+    rule_applies(rest, x, y)
+}
+
+// Whether a head is a literal of the set; false never is.
+pub(crate) fn head_in(head: usize, x: &[bool]) -> bool
+    ensures { λ r. ⌜ r ≡ headIn (headOf head) (marked (now (x .entry))) ⌝ }
+{
+    if head == 65535 {
+        return false;
+    }
+    marks::has(x, head)
+}

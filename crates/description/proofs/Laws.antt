@@ -1,0 +1,143 @@
+-- What acceptance gives: the limits of the counts, of each law's codes and lists, and of the horizon.
+-- Assumes nothing.
+use mathlib.Core.Path.{_≡_, refl}
+use mathlib.Core.Bool.{Bool, true, false, cond, not, _&&_, and-eq-true-iff}
+use mathlib.Core.List.{List, [], _∷_}
+use mathlib.Core.Option.{Option, none, some}
+use Prim.Native.Nat.{ℕ, zero, suc, _+_, _*_, _≤_, _<_}
+use native.Mathlib.Omega.{arith}
+use lib.Dec.{ltb, leb}
+use lib.ListN.{length, getD, length-take}
+use borrow.Author.Tests.{ltb-true, leb-true, le-leb}
+use Rattle.search.specs.Search.{Each}
+use Rattle.description.specs.declared.Head.{Head}
+use Rattle.description.specs.declared.Head.the-variants.{Lit, False}
+use Rattle.description.specs.declared.Kind.{Kind}
+use Rattle.description.specs.declared.Kind.the-variants.{Static, Dynamic}
+use Rattle.description.specs.declared.Law.{Law}
+use Rattle.description.specs.declared.Description.{Description}
+use Rattle.description.specs.Laws.{ifList, afterList, lawsOf}
+use Rattle.description.specs.Acceptance.{countsFit, codesBelow, headFits, afterFits, lawFits, badLaw, badRecord, badHorizon}
+
+-- Counts and horizon
+
+-- the last test of a row of tests, and those before it
+last : (a : Bool) {b : Bool} → (a && b) ≡ true → (a ≡ true) × (b ≡ true)
+last a {b} h = and-eq-true-iff a b .0 h
+
+pub counts-limits : (d : Description) (lent : ℕ) → countsFit d lent ≡ true
+    → (1 ≤ d .fluents) × (d .fluents ≤ 24) × (d .actions ≤ 8) × (d .laws ≤ 64) × (d .laws ≤ lent)
+counts-limits d lent h =
+    let e = last _ h in
+    let l = last _ (e .0) in
+    let a = last _ (l .0) in
+    let f = last _ (a .0) in
+    (leb-true _ _ (f .0), leb-true _ _ (f .1), leb-true _ _ (a .1), leb-true _ _ (l .1), leb-true _ _ (e .1))
+
+-- the limits, both ways
+pub counts-true : (d : Description) (lent : ℕ) → 1 ≤ d .fluents → d .fluents ≤ 24 → d .actions ≤ 8 → d .laws ≤ 64 → d .laws ≤ lent
+    → countsFit d lent ≡ true
+counts-true d lent one few actions laws held =
+    simp (le-leb 1 (d .fluents) one, le-leb (d .fluents) 24 few, le-leb (d .actions) 8 actions, le-leb (d .laws) 64 laws, le-leb (d .laws) lent held)
+
+pub counts-false : (d : Description) (lent : ℕ)
+    → ((1 ≤ d .fluents) × (d .fluents ≤ 24) × (d .actions ≤ 8) × (d .laws ≤ 64) × (d .laws ≤ lent) → ⊥) → countsFit d lent ≡ false
+counts-false d lent out = go (countsFit d lent) refl
+  where
+    go : (b : Bool) → countsFit d lent ≡ b → b ≡ false
+    go true e = absurd (out (counts-limits d lent e))
+    go false e = refl
+
+-- no place where there is a fault: the test passed
+passed : (b : Bool) (x : Option ℕ) (k : ℕ) → cond b x (some k) ≡ none → (b ≡ true) × (x ≡ none)
+passed true x k h = (refl, h)
+passed false x k h = let z : _≡_ {A = ℕ} 0 1 = cc in absurd (omega arith)
+
+pub accepted-counts : (d : Description) (ls : List Law) (lent : ℕ) → badRecord d ls lent ≡ none
+    → (1 ≤ d .fluents) × (d .fluents ≤ 24) × (d .actions ≤ 8) × (d .laws ≤ 64) × (d .laws ≤ lent)
+unfolding badRecord
+accepted-counts d ls lent h = counts-limits d lent (passed _ _ 64 h .0)
+
+pub accepted-few : (d : Description) (ls : List Law) (lent : ℕ) → badRecord d ls lent ≡ none → length (lawsOf d ls) ≤ 64
+accepted-few d ls lent h = omega (arith, length-take (d .laws) ls, accepted-counts d ls lent h)
+
+pub accepted-horizon : (T : ℕ) → badHorizon T ≡ none → (1 ≤ T) × (T ≤ 30)
+unfolding badHorizon
+accepted-horizon T h = let e = last _ (passed _ none 0 h .0) in (leb-true _ _ (e .0), leb-true _ _ (e .1))
+
+pub horizon-taken : (T : ℕ) → 1 ≤ T → T ≤ 30 → badHorizon T ≡ none
+unfolding badHorizon
+horizon-taken T one few = simp (le-leb 1 T one, le-leb T 30 few)
+
+pub horizon-refused : (T : ℕ) → ((1 ≤ T) × (T ≤ 30) → ⊥) → badHorizon T ≡ some 0
+unfolding badHorizon
+horizon-refused T out = go (leb 1 T && leb T 30) refl
+  where
+    go : (b : Bool) → (leb 1 T && leb T 30) ≡ b → cond {A = Option ℕ} b none (some 0) ≡ some 0
+    go true e = let t = last (leb 1 T) e in absurd (out (leb-true _ _ (t .0), leb-true _ _ (t .1)))
+    go false e = refl
+
+-- Laws
+
+-- each law is within the limits
+abbrev pub AllFit : ℕ → ℕ → List Law → Type 0
+AllFit n m ls = Each (λ l. lawFits n m l ≡ true) ls
+
+-- none is found: the test of the one at the front passed
+unfound : (b : Bool) (x : Option ℕ) (k : ℕ) → cond (not b) (some k) x ≡ none → (b ≡ true) × (x ≡ none)
+unfound true x k h = (refl, h)
+unfound false x k h = let z : _≡_ {A = ℕ} 0 1 = cc in absurd (omega arith)
+
+all-fit : (n m k : ℕ) (ls : List Law) → badLaw n m k ls ≡ none → AllFit n m ls
+all-fit n m k [] h = tt
+all-fit n m k (l ∷ ls) h = let e = unfound (lawFits n m l) _ k h in (e .0, all-fit n m (suc k) ls (e .1))
+
+pub accepted-law : (d : Description) (ls : List Law) (lent : ℕ) → badRecord d ls lent ≡ none
+    → AllFit (d .fluents) (d .actions) (lawsOf d ls)
+unfolding badRecord
+accepted-law d ls lent h = all-fit (d .fluents) (d .actions) 0 (lawsOf d ls) (passed (countsFit d lent) _ 64 h .1)
+
+-- the law at an index
+pub fit-at : (n m : ℕ) (ls : List Law) (i : ℕ) (past : Law) → AllFit n m ls → i < length ls → lawFits n m (getD ls i past) ≡ true
+fit-at n m [] i past h b = absurd (omega arith)
+fit-at n m (l ∷ ls) zero past h b = h .0
+fit-at n m (l ∷ ls) (suc i) past h b = fit-at n m ls i past (h .1) (omega arith)
+
+pub accepted-law-at : (d : Description) (ls : List Law) (lent i : ℕ) (past : Law) → badRecord d ls lent ≡ none → i < length (lawsOf d ls)
+    → lawFits (d .fluents) (d .actions) (getD (lawsOf d ls) i past) ≡ true
+accepted-law-at d ls lent i past h b = fit-at (d .fluents) (d .actions) (lawsOf d ls) i past (accepted-law d ls lent h) b
+
+-- One law within the limits
+
+-- a literal head is below the limit
+abbrev pub HeadCodeBelow : ℕ → Head → Type 0
+HeadCodeBelow k (Lit c) = c < k
+HeadCodeBelow k False = Unit
+
+head-below : (n : ℕ) (h : Head) → headFits n h ≡ true → HeadCodeBelow (2 * n) h
+head-below n (Lit c) e = ltb-true c (2 * n) e
+head-below n False e = tt
+
+-- each code is below the limit
+pub code-at : (k : ℕ) (cs : List ℕ) (i : ℕ) (past : ℕ) → codesBelow k cs ≡ true → i < length cs → getD cs i past < k
+code-at k [] i past h b = absurd (omega arith)
+code-at k (c ∷ cs) zero past h b = ltb-true c k (last (ltb c k) h .0)
+code-at k (c ∷ cs) (suc i) past h b = code-at k cs i past (last (ltb c k) h .1) (omega arith)
+
+module _ (n m : ℕ) (l : Law) (fits : lawFits n m l ≡ true) where
+  -- the tests of the head and the if-list
+  before : ((headFits n (l .head) && leb (l .«if_count») 6) ≡ true) × (codesBelow (2 * n) (ifList l) ≡ true)
+  before = last _ (last _ fits .0)
+
+  pub fits-head : HeadCodeBelow (2 * n) (l .head)
+  fits-head = head-below n (l .head) (last _ (before .0) .0)
+
+  pub fits-if : (l .«if_count» ≤ 6) × (codesBelow (2 * n) (ifList l) ≡ true)
+  fits-if = (leb-true _ _ (last (headFits n (l .head)) (before .0) .1), before .1)
+
+  pub fits-after : l .kind ≡ Dynamic → (l .«after_count» ≤ 6) × (codesBelow (2 * (n + m)) (afterList l) ≡ true)
+  fits-after e = after-limits (l .kind) e (last (headFits n (l .head) && leb (l .«if_count») 6 && codesBelow (2 * n) (ifList l)) fits .1)
+    where
+      after-limits : (k : Kind) → k ≡ Dynamic → afterFits n m k l ≡ true → (l .«after_count» ≤ 6) × (codesBelow (2 * (n + m)) (afterList l) ≡ true)
+      after-limits Static e h = let z : _≡_ {A = ℕ} 0 1 = cc in absurd (omega arith)
+      after-limits Dynamic e h = let t = last (leb (l .«after_count») 6) h in (leb-true _ _ (t .0), t .1)

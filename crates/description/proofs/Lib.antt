@@ -1,0 +1,2 @@
+-- What acceptance gives to the crates above, and what the functions' proofs cite.
+pub mod Laws

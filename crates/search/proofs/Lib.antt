@@ -1,0 +1,3 @@
+-- Laws of the searches, as facts and as loops make them.
+pub mod Tests
+pub mod Loops

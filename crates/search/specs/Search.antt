@@ -1,0 +1,41 @@
+-- Searching lists and ranges, and facts of every element: words that the definitions of the crates above share.
+-- Assumes nothing.
+use mathlib.Core.Bool.{Bool, true, false, cond, _&&_}
+use mathlib.Core.List.{List, [], _∷_}
+use mathlib.Core.Option.{Option, none, some}
+use Prim.Native.Nat.{ℕ, zero, suc, _<_}
+use Rattle.search.specs.declared.Found.{Found}
+use Rattle.search.specs.declared.Found.the-variants.{At, Nothing}
+
+-- every element passes the test
+abbrev pub all : {A : Type 0} → (A → Bool) → List A → Bool
+all p [] = true
+all p (x ∷ xs) = p x && all p xs
+
+-- a fact of every element
+abbrev pub Each : {A : Type 0} → (A → Type 0) → List A → Type 0
+Each P [] = Unit
+Each P (x ∷ xs) = P x × Each P xs
+
+-- the place of the first element that passes the test, counted from k
+abbrev pub first : {A : Type 0} → (A → Bool) → ℕ → List A → Option ℕ
+first p k [] = none
+first p k (x ∷ xs) = cond (p x) (some k) (first p (suc k) xs)
+
+-- k, k + 1, .. : n numbers
+abbrev pub range : ℕ → ℕ → List ℕ
+range k zero = []
+range k (suc n) = k ∷ range (suc k) n
+
+-- k is the lowest number below n with a property
+abbrev pub Lowest : (ℕ → Type 0) → ℕ → ℕ → Type 0
+Lowest P n k = (k < n) × P k × ((j : ℕ) → j < k → P j → ⊥)
+
+-- no number below n has it
+abbrev pub Nowhere : (ℕ → Type 0) → ℕ → Type 0
+Nowhere P n = (i : ℕ) → i < n → P i → ⊥
+
+-- the place that the code's answer names
+abbrev pub placeOf : Found → Option ℕ
+placeOf (At place) = some place
+placeOf Nothing = none
