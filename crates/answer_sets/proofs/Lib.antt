@@ -6,5 +6,6 @@ pub mod Passes
 pub mod Decoding
 pub mod Stores
 pub mod Fronts
+pub mod Judging
 pub mod Examples
 pub mod Theorems

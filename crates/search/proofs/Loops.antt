@@ -11,7 +11,9 @@ use native.Mathlib.Omega.{arith}
 use borrow.Author.Tests.{not-true, not-false}
 use lib.ListN.{length, getD, take, drop, drop-of-length-le, length-drop, length-take}
 use lib.Seq.{drop-cons, take-all, getD-take}
-use Rattle.search.specs.Search.{all, first, range}
+use Rattle.search.specs.declared.Found.{Found}
+use Rattle.search.specs.declared.Found.the-variants.{At, Nothing}
+use Rattle.search.specs.Search.{all, first, range, placeOf}
 
 -- a loop over a list that leaves at the first element that fails a test
 module _ {A : Type 0} (p : A → Bool) (xs : List A) (i : ℕ) (d : A) {R : Bool} where
@@ -94,3 +96,10 @@ and-stop r q is e = rw (← is, not-true r e)
 
 pub and-go : {p q : Bool} (r v : Bool) → r ≡ p → not r ≡ false → v ≡ q → v ≡ (p && q)
 and-go r v is e then = rw (← is, not-false r e) then
+
+-- what a search's answer says of the search
+pub at-place : {r : Found} {found : Option ℕ} {k : ℕ} → placeOf r ≡ found → r ≡ At k → found ≡ some k
+at-place is e = sym is ∙ ap placeOf e
+
+pub no-place : {r : Found} {found : Option ℕ} → placeOf r ≡ found → r ≡ Nothing → found ≡ none
+no-place is e = sym is ∙ ap placeOf e

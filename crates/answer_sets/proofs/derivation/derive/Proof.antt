@@ -1,68 +1,64 @@
+use Rattle.answer_sets.proofs.Judging.{round-after, round-last, round-enough}
+use native.Mathlib.Omega.{arith}
+use mathlib.Core.Path.{_≡_, ap}
+use mathlib.Core.Bool.{false}
+use Prim.Native.Nat.{_≤_, _*_, _-_}
+use lib.ListN.{length}
+use mathlib.Core.Path.{fun-ext, ap}
+use lib.ListN.{length-replicate}
+use Rattle.answer_sets.specs.Verdicts.{rounds, round}
+use Rattle.answer_sets.specs.Words.{rulesOf}
+use Rattle.answer_sets.specs.Parts.{marked}
+use Rattle.answer_sets.proofs.Stores.{clear-marks}
+use Rattle.answer_sets.proofs.Decoding.{accepted-below, codes-heads}
+use Rattle.answer_sets.proofs.Fronts.{accepted-sound}
 use Rattle.answer_sets.proofs.derivation.derive.Statement.{statement}
 use Rattle.answer_sets.proofs.derivation.derive.Tie as tie
-use Rattle.answer_sets.proofs.derivation.derive.Reads as reads
-use Rattle.answer_sets.proofs.derivation.derive.Lts as lts
-use Rattle.answer_sets.proofs.derivation.round.Reads as round-reads
-use Rattle.answer_sets.proofs.marks.clear.Reads as clear-reads
-use Rattle.answer_sets.proofs.marks.same.Reads as same-reads
 
 abbrev Inv-loop : tie.InvT-loop
-Inv-loop table x atoms limit marks₀ k₀ marks k = ?
+Inv-loop table x atoms limit marks₀ k₀ marks k = (k ≤ limit) × (length marks ≡ 2048) × (marked marks ≡ rounds k (rulesOf table) (marked x))
 
 abbrev μ-loop : tie.MeasureT-loop
-μ-loop table x atoms limit marks₀ k₀ marks k = ?
+μ-loop table x atoms limit marks₀ k₀ marks k = limit - k
 
--- src/derivation.rt:38:17
 mul-limit : tie.Need-mul-limit Inv-loop μ-loop
-mul-limit c = ?
+mul-limit c = omega arith
 
--- src/derivation.rt:38:17
 add-limit : tie.Need-add-limit Inv-loop μ-loop
-add-limit c = ?
+add-limit c = omega arith
 
--- src/derivation.rt:39:21
 clear-requires : tie.Need-clear-requires Inv-loop μ-loop
-clear-requires c κs = ?
+clear-requires c κs = tt
 
--- src/derivation.rt:41:5
 loop-holds : tie.Need-loop-holds Inv-loop μ-loop
-loop-holds c = ?
+loop-holds c = (omega arith, rw (c .clear .ensures) (length-replicate 2048 false), fun-ext (λ k. rw (c .clear .ensures) (clear-marks 2048 k)))
 
--- src/derivation.rt:42:20
 round-requires : tie.Need-round-requires Inv-loop μ-loop
-round-requires c κs = ?
+round-requires c κs = accepted-sound _ _ (c .before .before .before .before .pre .0) (c .before .before .before .before .pre .1)
 
--- src/derivation.rt:43:24
 slice-aggregate-same : tie.Need-slice-aggregate-same Inv-loop μ-loop
-slice-aggregate-same c = ?
+slice-aggregate-same c = omega arith
 
--- src/derivation.rt:43:31
 slice-aggregate-same-2 : tie.Need-slice-aggregate-same-2 Inv-loop μ-loop
-slice-aggregate-same-2 c = ?
+slice-aggregate-same-2 c = omega arith
 
--- src/derivation.rt:43:12
 same-requires : tie.Need-same-requires Inv-loop μ-loop
-same-requires c κs = ?
+same-requires c κs = tt
 
--- src/derivation.rt:44:13
 returns : tie.Need-returns Inv-loop μ-loop
-returns c = ?
+returns c = round-last _ _ (marked (c .before .before .before .before .before .before .loop .marks)) (c .before .before .before .before .before .before .loop .k) (c .before .before .before .before .before .before .loop .inv .2) _ (2 * c .before .before .before .before .before .before .before .before .before .args .atoms) (c .before .before .before .before .round .ensures) (ap marked (c .before .same .ensures .0 (c .if1 .taken))) (omega arith)
 
--- src/derivation.rt:47:9
 add-k : tie.Need-add-k Inv-loop μ-loop
-add-k c = ?
+add-k c = omega arith
 
--- src/derivation.rt:41:5
 loop-less : tie.Need-loop-less Inv-loop μ-loop
-loop-less c = ?
+loop-less c = omega arith
 
--- src/derivation.rt:41:5
 loop-again : tie.Need-loop-again Inv-loop μ-loop
-loop-again c = ?
+loop-again c = (omega arith, omega arith, round-after _ _ (marked (c .before .before .before .before .before .before .loop .marks)) (c .before .before .before .before .before .before .loop .k) (c .before .before .before .before .before .before .loop .inv .2) _ (c .before .before .before .before .round .ensures))
 
--- src/derivation.rt:33:1
 returns-2 : tie.Need-returns-2 Inv-loop μ-loop
-returns-2 c = ?
+returns-2 c = round-enough _ _ (marked (c .before .loop .marks)) (c .before .loop .k) (c .before .loop .inv .2) (c .before .before .before .before .args .atoms) (codes-heads (2 * c .before .before .before .before .args .atoms) (rulesOf (c .before .before .before .before .args .table .now)) (accepted-below _ _ (c .before .before .before .before .pre .1))) (omega arith)
 
 pub derive-spec : {M : Type 1} → statement M
 derive-spec =

@@ -1,23 +1,17 @@
 use mathlib.Core.Logic.{⊎-elim, inl, inr}
-use borrow.Author.Needs.{needs}
 use native.Mathlib.Omega.{arith}
-use mathlib.Core.Path.{_≡_, refl, sym, _∙_, ap, fun-ext}
-use mathlib.Core.Bool.{Bool, true, false, not, _&&_, _||_, or-false}
-use Prim.Native.Nat.{ℕ, _≤_, _<_, _+_, _*_, _-_}
-use lib.ListN.{length, getD, drop}
-use Rattle.answer_sets.specs.Words.{rulesOf, ruleSize}
-use lib.ListN.{set, length-set, length-replicate}
+use mathlib.Core.Path.{_≡_, sym, _∙_, fun-ext}
+use mathlib.Core.Bool.{false, _||_, or-false}
+use Prim.Native.Nat.{ℕ, _≤_, _-_}
+use lib.ListN.{length}
+use Rattle.answer_sets.specs.Words.{rulesOf}
+use lib.ListN.{length-replicate}
 use Rattle.answer_sets.specs.Verdicts.{round}
 use Rattle.answer_sets.specs.Parts.{marked, Sound}
 use Rattle.answer_sets.proofs.Stores.{clear-marks}
-use Rattle.answer_sets.proofs.Fronts.{round-idle, round-mark, derives-literal, sound-size, sound-head, sound-rest, left-behind, shorter, rules-end, round-turn}
+use Rattle.answer_sets.proofs.Fronts.{derives-literal, sound-size, sound-head, sound-rest, left-behind, shorter, rules-end, round-turn}
 use Rattle.answer_sets.proofs.derivation.round.Statement.{statement}
 use Rattle.answer_sets.proofs.derivation.round.Tie as tie
-use Rattle.answer_sets.proofs.derivation.round.Reads as reads
-use Rattle.answer_sets.proofs.derivation.round.Lts as lts
-use Rattle.answer_sets.proofs.marks.clear.Reads as clear-reads
-use Rattle.answer_sets.proofs.table.rule_derives.Reads as rule-derives-reads
-use Rattle.answer_sets.proofs.table.rule_size.Reads as rule-size-reads
 
 abbrev Inv-loop : tie.InvT-loop
 Inv-loop table x old new₀ rest₀ new rest = (length rest ≤ length table) × Sound rest × (length new ≡ 2048) × ((k : ℕ) → (marked new k || round (rulesOf rest) (marked x) (marked old) k) ≡ round (rulesOf table) (marked x) (marked old) k)
@@ -25,67 +19,51 @@ Inv-loop table x old new₀ rest₀ new rest = (length rest ≤ length table) ×
 abbrev μ-loop : tie.MeasureT-loop
 μ-loop table x old new₀ rest₀ new rest = length rest
 
--- src/derivation.rt:17:19
 clear-requires : tie.Need-clear-requires Inv-loop μ-loop
 clear-requires c κs = tt
 
--- src/derivation.rt:19:5
 loop-holds : tie.Need-loop-holds Inv-loop μ-loop
 loop-holds c = (omega arith, c .before .before .pre, rw (c .clear .ensures) (length-replicate 2048 false), λ k. rw (c .clear .ensures, clear-marks 2048 k))
 
--- src/derivation.rt:20:20
 shared-slice-read-head : tie.Need-shared-slice-read-head Inv-loop μ-loop
 shared-slice-read-head c = c .before .loop-test .taken
 
--- src/derivation.rt:20:20
 cast-head : tie.Need-cast-head Inv-loop μ-loop
 cast-head c = omega (arith, c .shared-slice-known2 .given 0)
 
--- src/derivation.rt:21:38
 slice-aggregate-rule-derives : tie.Need-slice-aggregate-rule-derives Inv-loop μ-loop
 slice-aggregate-rule-derives c = omega arith
 
--- src/derivation.rt:21:42
 slice-aggregate-rule-derives-2 : tie.Need-slice-aggregate-rule-derives-2 Inv-loop μ-loop
 slice-aggregate-rule-derives-2 c = omega arith
 
--- src/derivation.rt:21:12
 rule-derives-requires : tie.Need-rule-derives-requires Inv-loop μ-loop
 rule-derives-requires c κs = sound-size _ (c .before .before .before .loop-test .taken) (c .before .before .before .before .loop .inv .1)
 
--- src/derivation.rt:22:13
 array-write-new : tie.Need-array-write-new Inv-loop μ-loop
 array-write-new c = sound-head (c .before .before .before .before .before .before .loop .rest .now) (c .before .before .before .before .before .loop-test .taken) (c .before .before .before .before .before .before .loop .inv .1) (derives-literal (marked (c .before .before .before .before .before .before .before .before .before .args .t2)) (marked (c .before .before .before .before .before .before .before .before .before .args .t3)) (c .before .before .before .before .before .before .loop .rest .now) _ (c .before .rule-derives .ensures) (c .if1 .taken))
 
--- src/derivation.rt:24:13
 rule-size-requires : tie.Need-rule-size-requires Inv-loop μ-loop
 rule-size-requires c κs = omega (arith, sound-size (c .before .before .before .before .before .before .loop .rest .now) (c .before .before .before .before .before .loop-test .taken) (c .before .before .before .before .before .before .loop .inv .1))
 
--- src/derivation.rt:25:16
 mul-rest : tie.Need-mul-rest Inv-loop μ-loop
 mul-rest c = omega (arith, sound-size (c .before .before .before .before .before .before .before .loop .rest .now) (c .before .before .before .before .before .before .loop-test .taken) (c .before .before .before .before .before .before .before .loop .inv .1), c .rule-size .ensures)
 
--- src/derivation.rt:25:16
 sub-rest : tie.Need-sub-rest Inv-loop μ-loop
 sub-rest c = omega (arith, sound-size (c .before .before .before .before .before .before .before .loop .rest .now) (c .before .before .before .before .before .before .loop-test .taken) (c .before .before .before .before .before .before .before .loop .inv .1), c .rule-size .ensures)
 
--- src/derivation.rt:25:16
 part-rest-start : tie.Need-part-rest-start Inv-loop μ-loop
 part-rest-start c = omega (arith, sound-size (c .before .before .before .before .before .before .before .loop .rest .now) (c .before .before .before .before .before .before .loop-test .taken) (c .before .before .before .before .before .before .before .loop .inv .1), c .rule-size .ensures)
 
--- src/derivation.rt:25:16
 part-rest-end : tie.Need-part-rest-end Inv-loop μ-loop
 part-rest-end c = omega arith
 
--- src/derivation.rt:19:5
 loop-less : tie.Need-loop-less Inv-loop μ-loop
 loop-less c = let ws = c .before .before .before .before .before .before .before .before .loop .rest .now in let h = c .before .before .before .before .before .before .before .loop-test .taken in rw (left-behind ws _ (c .before .rule-size .ensures)) (shorter ws h)
 
--- src/derivation.rt:19:5
 loop-again : tie.Need-loop-again Inv-loop μ-loop
 loop-again c = let ws = c .before .before .before .before .before .before .before .before .loop .rest .now in let h = c .before .before .before .before .before .before .before .loop-test .taken in let turn = round-turn (marked (c .before .before .before .before .before .before .before .before .before .before .before .args .t2)) (marked (c .before .before .before .before .before .before .before .before .before .before .before .args .t3)) ws h (c .before .before .before .before .before .before .before .before .loop .inv .1) (c .before .before .before .before .before .before .before .before .loop .new) (c .before .before .if1 .new) _ (c .before .before .before .rule-derives .ensures) (⊎-elim (λ w. inl (w .0 .taken, w .1)) (λ w. inr (w .0 .left, w .1)) (c .before .before .if1 .came)) (c .before .before .before .before .before .before .before .before .loop .inv .2) (c .before .before .before .before .before .before .before .before .loop .inv .3) in rw (left-behind ws _ (c .before .rule-size .ensures)) (omega (arith, shorter ws h), sound-rest ws h (c .before .before .before .before .before .before .before .before .loop .inv .1), turn .0, turn .1)
 
--- src/derivation.rt:13:1
 returns : tie.Need-returns Inv-loop μ-loop
 returns c = fun-ext (λ k. sym (or-false _) ∙ (rw (rules-end (c .before .loop .rest .now) (c .loop-test .left)) at (c .before .loop .inv .3 k)))
 

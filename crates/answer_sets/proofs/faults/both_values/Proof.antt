@@ -1,38 +1,26 @@
 use Rattle.search.proofs.Loops.{and-stop, and-go}
-use borrow.Author.Tests.{not-true, not-false}
-use mathlib.Core.Path.{_≡_, sym, _∙_}
 use borrow.Author.Needs.{needs}
 use Rattle.answer_sets.proofs.faults.both_values.Statement.{statement}
 use Rattle.answer_sets.proofs.faults.both_values.Tie as tie
-use Rattle.answer_sets.proofs.faults.both_values.Reads as reads
-use Rattle.answer_sets.proofs.faults.both_values.Lts as lts
-use Rattle.answer_sets.proofs.marks.has.Reads as has-reads
 
--- src/faults.rt:23:23
 mul-has : tie.Need-mul-has
 mul-has c = search needs
 
--- src/faults.rt:23:9
 has-requires : tie.Need-has-requires
 has-requires c κs = search needs
 
--- src/faults.rt:24:9
 returns : tie.Need-returns
 returns c = and-stop _ _ (c .before .has .ensures) (c .if1 .taken)
 
--- src/faults.rt:26:19
 mul-has-2 : tie.Need-mul-has-2
 mul-has-2 c = search needs
 
--- src/faults.rt:26:19
 add-has : tie.Need-add-has
 add-has c = search needs
 
--- src/faults.rt:26:5
 has-requires-2 : tie.Need-has-requires-2
 has-requires-2 c κs = search needs
 
--- src/faults.rt:19:1
 returns-2 : tie.Need-returns-2
 returns-2 c = and-go _ _ (c .before .before .has .ensures) (c .before .if1 .left) (c .has2 .ensures)
 

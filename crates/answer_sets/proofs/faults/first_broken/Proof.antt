@@ -1,21 +1,14 @@
-use borrow.Author.Needs.{needs}
 use native.Mathlib.Omega.{arith}
-use mathlib.Core.Path.{_≡_, refl, sym, _∙_, ap}
-use mathlib.Core.Bool.{Bool, true, false, not, _&&_, _||_}
-use Prim.Native.Nat.{ℕ, _≤_, _<_, _+_, _*_, _-_}
-use lib.ListN.{length, getD, drop}
+use mathlib.Core.Path.{_≡_, refl, sym, _∙_}
+use Prim.Native.Nat.{_≤_, _+_, _-_}
+use lib.ListN.{length}
 use Rattle.search.specs.Search.{first}
-use Rattle.search.proofs.Loops.{to-the-end}
-use Rattle.answer_sets.specs.Words.{rulesOf, ruleSize}
+use Rattle.answer_sets.specs.Words.{rulesOf}
 use Rattle.answer_sets.specs.Parts.{marked, Sound}
 use Rattle.answer_sets.specs.Verdicts.{isBroken}
 use Rattle.answer_sets.proofs.Fronts.{rule-stop, rule-go, rule-end, sound-size, sound-rest, left-behind, shorter}
 use Rattle.answer_sets.proofs.faults.first_broken.Statement.{statement}
 use Rattle.answer_sets.proofs.faults.first_broken.Tie as tie
-use Rattle.answer_sets.proofs.faults.first_broken.Reads as reads
-use Rattle.answer_sets.proofs.faults.first_broken.Lts as lts
-use Rattle.answer_sets.proofs.faults.is_broken.Reads as is-broken-reads
-use Rattle.answer_sets.proofs.table.rule_size.Reads as rule-size-reads
 
 abbrev Inv-loop : tie.InvT-loop
 Inv-loop table x rest₀ rule₀ rest rule = (length rest ≤ length table) × Sound rest × (first (isBroken (marked x)) rule (rulesOf rest) ≡ first (isBroken (marked x)) 0 (rulesOf table)) × (rule + length rest ≤ length table)
@@ -23,51 +16,39 @@ Inv-loop table x rest₀ rule₀ rest rule = (length rest ≤ length table) × S
 abbrev μ-loop : tie.MeasureT-loop
 μ-loop table x rest₀ rule₀ rest rule = length rest
 
--- src/faults.rt:60:5
 loop-holds : tie.Need-loop-holds Inv-loop μ-loop
 loop-holds c = (omega arith, c .before .before .pre, refl, omega arith)
 
--- src/faults.rt:61:12
 is-broken-requires : tie.Need-is-broken-requires Inv-loop μ-loop
 is-broken-requires c κs = sound-size _ (c .loop-test .taken) (c .before .loop .inv .1)
 
--- src/faults.rt:62:13
 returns : tie.Need-returns Inv-loop μ-loop
 returns c = rule-stop _ _ (c .before .before .before .loop .rest .now) (c .before .before .loop-test .taken) (c .before .before .before .loop .inv .2) (sym (c .before .is-broken .ensures) ∙ c .if1 .taken)
 
--- src/faults.rt:64:13
 rule-size-requires : tie.Need-rule-size-requires Inv-loop μ-loop
 rule-size-requires c κs = omega (arith, sound-size _ (c .before .before .loop-test .taken) (c .before .before .before .loop .inv .1))
 
--- src/faults.rt:65:16
 mul-rest : tie.Need-mul-rest Inv-loop μ-loop
 mul-rest c = omega (arith, sound-size _ (c .before .before .before .loop-test .taken) (c .before .before .before .before .loop .inv .1))
 
--- src/faults.rt:65:16
 sub-rest : tie.Need-sub-rest Inv-loop μ-loop
 sub-rest c = omega (arith, sound-size _ (c .before .before .before .loop-test .taken) (c .before .before .before .before .loop .inv .1))
 
--- src/faults.rt:65:16
 part-rest-start : tie.Need-part-rest-start Inv-loop μ-loop
 part-rest-start c = omega (arith, sound-size _ (c .before .before .before .loop-test .taken) (c .before .before .before .before .loop .inv .1))
 
--- src/faults.rt:65:16
 part-rest-end : tie.Need-part-rest-end Inv-loop μ-loop
 part-rest-end c = omega arith
 
--- src/faults.rt:66:9
 add-rule : tie.Need-add-rule Inv-loop μ-loop
 add-rule c = omega arith
 
--- src/faults.rt:60:5
 loop-less : tie.Need-loop-less Inv-loop μ-loop
 loop-less c = let ws = c .before .before .before .before .before .loop .rest .now in let h = c .before .before .before .before .loop-test .taken in rw (left-behind ws _ (c .before .rule-size .ensures)) (shorter ws h)
 
--- src/faults.rt:60:5
 loop-again : tie.Need-loop-again Inv-loop μ-loop
 loop-again c = let ws = c .before .before .before .before .before .loop .rest .now in let h = c .before .before .before .before .loop-test .taken in rw (left-behind ws _ (c .before .rule-size .ensures)) (omega (arith, shorter ws h), sound-rest ws h (c .before .before .before .before .before .loop .inv .1), rule-go _ _ ws h (c .before .before .before .before .before .loop .inv .2) (sym (c .before .before .before .is-broken .ensures) ∙ c .before .before .if1 .left), omega (arith, shorter ws h))
 
--- src/faults.rt:54:1
 returns-2 : tie.Need-returns-2 Inv-loop μ-loop
 returns-2 c = rule-end _ _ (c .before .loop .rest .now) (c .loop-test .left) (c .before .loop .inv .2)
 

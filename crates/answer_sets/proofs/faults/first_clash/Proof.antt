@@ -1,19 +1,13 @@
 use native.Mathlib.Nat.{sub-zero}
-use borrow.Author.Needs.{needs}
 use native.Mathlib.Omega.{arith}
-use mathlib.Core.Path.{_≡_, refl, sym, _∙_, ap}
-use mathlib.Core.Bool.{Bool, true, false, not, _&&_, _||_}
-use Prim.Native.Nat.{ℕ, _≤_, _<_, _+_, _*_, _-_}
-use lib.ListN.{length, getD, drop}
+use mathlib.Core.Path.{_≡_, sym, _∙_}
+use Prim.Native.Nat.{_≤_, _-_}
 use Rattle.search.specs.Search.{first, range}
 use Rattle.answer_sets.specs.Parts.{marked}
 use Rattle.search.proofs.Loops.{range-stop, range-go, range-done}
 use Rattle.answer_sets.specs.Verdicts.{bothValues}
 use Rattle.answer_sets.proofs.faults.first_clash.Statement.{statement}
 use Rattle.answer_sets.proofs.faults.first_clash.Tie as tie
-use Rattle.answer_sets.proofs.faults.first_clash.Reads as reads
-use Rattle.answer_sets.proofs.faults.first_clash.Lts as lts
-use Rattle.answer_sets.proofs.faults.both_values.Reads as both-values-reads
 
 abbrev Inv-loop : tie.InvT-loop
 Inv-loop x atoms atom₀ atom = (atom ≤ atoms) × (first (bothValues (marked x)) atom (range atom (atoms - atom)) ≡ first (bothValues (marked x)) 0 (range 0 atoms))
@@ -21,31 +15,24 @@ Inv-loop x atoms atom₀ atom = (atom ≤ atoms) × (first (bothValues (marked x
 abbrev μ-loop : tie.MeasureT-loop
 μ-loop x atoms atom₀ atom = atoms - atom
 
--- src/faults.rt:34:5
 loop-holds : tie.Need-loop-holds Inv-loop μ-loop
 loop-holds c = (omega arith, simp sub-zero)
 
--- src/faults.rt:35:12
 both-values-requires : tie.Need-both-values-requires Inv-loop μ-loop
 both-values-requires c κs = omega arith
 
--- src/faults.rt:36:13
 returns : tie.Need-returns Inv-loop μ-loop
 returns c = range-stop _ _ _ (c .before .before .loop-test .taken) (c .before .before .before .loop .inv .1) (sym (c .before .both-values .ensures) ∙ c .if1 .taken)
 
--- src/faults.rt:34:9
 add-atom : tie.Need-add-atom Inv-loop μ-loop
 add-atom c = omega arith
 
--- src/faults.rt:34:5
 loop-less : tie.Need-loop-less Inv-loop μ-loop
 loop-less c = omega arith
 
--- src/faults.rt:34:5
 loop-again : tie.Need-loop-again Inv-loop μ-loop
 loop-again c = (omega arith, range-go _ _ _ (c .before .before .loop-test .taken) (c .before .before .before .loop .inv .1) (sym (c .before .both-values .ensures) ∙ c .if1 .left))
 
--- src/faults.rt:30:1
 returns-2 : tie.Need-returns-2 Inv-loop μ-loop
 returns-2 c = range-done _ _ _ (c .loop-test .left) (c .before .loop .inv .1)
 

@@ -1,19 +1,13 @@
 use native.Mathlib.Nat.{sub-zero}
-use borrow.Author.Needs.{needs}
 use native.Mathlib.Omega.{arith}
-use mathlib.Core.Path.{_≡_, refl, sym, _∙_, ap}
-use mathlib.Core.Bool.{Bool, true, false, not, _&&_, _||_}
-use Prim.Native.Nat.{ℕ, _≤_, _<_, _+_, _*_, _-_}
-use lib.ListN.{length, getD, drop}
+use mathlib.Core.Path.{_≡_, sym, _∙_}
+use Prim.Native.Nat.{_≤_, _-_}
 use Rattle.search.specs.Search.{first, range}
 use Rattle.answer_sets.specs.Parts.{marked}
 use Rattle.search.proofs.Loops.{range-stop, range-go, range-done}
 use Rattle.answer_sets.specs.Verdicts.{isUnfounded}
 use Rattle.answer_sets.proofs.faults.first_unfounded.Statement.{statement}
 use Rattle.answer_sets.proofs.faults.first_unfounded.Tie as tie
-use Rattle.answer_sets.proofs.faults.first_unfounded.Reads as reads
-use Rattle.answer_sets.proofs.faults.first_unfounded.Lts as lts
-use Rattle.answer_sets.proofs.faults.is_unfounded.Reads as is-unfounded-reads
 
 abbrev Inv-loop : tie.InvT-loop
 Inv-loop x least codes code₀ code = (code ≤ codes) × (first (isUnfounded (marked x) (marked least)) code (range code (codes - code)) ≡ first (isUnfounded (marked x) (marked least)) 0 (range 0 codes))
@@ -21,31 +15,24 @@ Inv-loop x least codes code₀ code = (code ≤ codes) × (first (isUnfounded (m
 abbrev μ-loop : tie.MeasureT-loop
 μ-loop x least codes code₀ code = codes - code
 
--- src/faults.rt:85:5
 loop-holds : tie.Need-loop-holds Inv-loop μ-loop
 loop-holds c = (omega arith, simp sub-zero)
 
--- src/faults.rt:86:12
 is-unfounded-requires : tie.Need-is-unfounded-requires Inv-loop μ-loop
 is-unfounded-requires c κs = tt
 
--- src/faults.rt:87:13
 returns : tie.Need-returns Inv-loop μ-loop
 returns c = range-stop _ _ _ (c .before .before .loop-test .taken) (c .before .before .before .loop .inv .1) (sym (c .before .is-unfounded .ensures) ∙ c .if1 .taken)
 
--- src/faults.rt:85:9
 add-code : tie.Need-add-code Inv-loop μ-loop
 add-code c = omega arith
 
--- src/faults.rt:85:5
 loop-less : tie.Need-loop-less Inv-loop μ-loop
 loop-less c = omega arith
 
--- src/faults.rt:85:5
 loop-again : tie.Need-loop-again Inv-loop μ-loop
 loop-again c = (omega arith, range-go _ _ _ (c .before .before .loop-test .taken) (c .before .before .before .loop .inv .1) (sym (c .before .is-unfounded .ensures) ∙ c .if1 .left))
 
--- src/faults.rt:82:1
 returns-2 : tie.Need-returns-2 Inv-loop μ-loop
 returns-2 c = range-done _ _ _ (c .loop-test .left) (c .before .loop .inv .1)
 

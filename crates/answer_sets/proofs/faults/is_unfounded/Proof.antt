@@ -1,27 +1,19 @@
 use Rattle.search.proofs.Loops.{and-stop, and-go}
-use borrow.Author.Tests.{not-true, not-false}
-use mathlib.Core.Path.{_≡_, sym, _∙_, ap}
+use mathlib.Core.Path.{ap}
 use mathlib.Core.Bool.{not}
 use borrow.Author.Needs.{needs}
 use Rattle.answer_sets.proofs.faults.is_unfounded.Statement.{statement}
 use Rattle.answer_sets.proofs.faults.is_unfounded.Tie as tie
-use Rattle.answer_sets.proofs.faults.is_unfounded.Reads as reads
-use Rattle.answer_sets.proofs.faults.is_unfounded.Lts as lts
-use Rattle.answer_sets.proofs.marks.has.Reads as has-reads
 
--- src/faults.rt:75:9
 has-requires : tie.Need-has-requires
 has-requires c κs = search needs
 
--- src/faults.rt:76:9
 returns : tie.Need-returns
 returns c = and-stop _ _ (c .before .has .ensures) (c .if1 .taken)
 
--- src/faults.rt:78:6
 has-requires-2 : tie.Need-has-requires-2
 has-requires-2 c κs = search needs
 
--- src/faults.rt:72:1
 returns-2 : tie.Need-returns-2
 returns-2 c = and-go _ _ (c .before .before .has .ensures) (c .before .if1 .left) (ap not (c .has2 .ensures))
 

@@ -1,89 +1,73 @@
+use mathlib.Core.Path.{ap}
+use native.Mathlib.Omega.{arith}
+use borrow.Author.Needs.{needs}
+use Rattle.search.proofs.Loops.{at-place, no-place}
+use Rattle.answer_sets.specs.Parts.{marked}
+use Rattle.answer_sets.specs.Answers.{judged}
+use Rattle.answer_sets.proofs.Fronts.{accepted-sound}
+use Rattle.answer_sets.proofs.Judging.{says-clash, says-broken, says-unfounded, says-passes}
 use Rattle.answer_sets.proofs.faults.judge.Statement.{statement}
 use Rattle.answer_sets.proofs.faults.judge.Tie as tie
-use Rattle.answer_sets.proofs.faults.judge.Reads as reads
-use Rattle.answer_sets.proofs.faults.judge.Lts as lts
-use Rattle.answer_sets.proofs.derivation.derive.Reads as derive-reads
-use Rattle.answer_sets.proofs.faults.first_broken.Reads as first-broken-reads
-use Rattle.answer_sets.proofs.faults.first_clash.Reads as first-clash-reads
-use Rattle.answer_sets.proofs.faults.first_unfounded.Reads as first-unfounded-reads
-use Rattle.answer_sets.proofs.values.marks_of.Reads as marks-of-reads
 
--- src/faults.rt:101:13
 marks-of-requires : tie.Need-marks-of-requires
-marks-of-requires c κs = ?
+marks-of-requires c κs = search needs
 
--- src/faults.rt:102:42
 slice-aggregate-first-clash : tie.Need-slice-aggregate-first-clash
-slice-aggregate-first-clash c = ?
+slice-aggregate-first-clash c = omega arith
 
--- src/faults.rt:102:30
 first-clash-requires : tie.Need-first-clash-requires
-first-clash-requires c κs = ?
+first-clash-requires c κs = search needs
 
--- src/faults.rt:102:22
 enum-known-atom : tie.Need-enum-known-atom
-enum-known-atom c = ?
+enum-known-atom c = search needs
 
--- src/faults.rt:103:9
 returns : tie.Need-returns
-returns c = ?
+returns c = ap judged (says-clash _ _ _ (marked (c .before .before .before .before .before .marks-of .result)) (c .before .before .before .before .before .marks-of .ensures) (at-place (c .before .before .before .first-clash .ensures) (c .before .atom .given .1)))
 
 enum-told : tie.Need-enum-told
-enum-told c = ?
+enum-told c = search needs
 
--- src/faults.rt:105:50
 slice-aggregate-first-broken : tie.Need-slice-aggregate-first-broken
-slice-aggregate-first-broken c = ?
+slice-aggregate-first-broken c = omega arith
 
--- src/faults.rt:105:30
 first-broken-requires : tie.Need-first-broken-requires
-first-broken-requires c κs = ?
+first-broken-requires c κs = accepted-sound _ _ (c .before .before .before .before .before .before .before .before .pre .0) (c .before .before .before .before .before .before .before .before .pre .1)
 
--- src/faults.rt:105:22
 enum-known-rule : tie.Need-enum-known-rule
-enum-known-rule c = ?
+enum-known-rule c = search needs
 
--- src/faults.rt:106:9
 returns-2 : tie.Need-returns-2
-returns-2 c = ?
+returns-2 c = ap judged (says-broken _ _ _ (marked (c .before .before .before .before .before .before .before .before .before .marks-of .result)) (c .before .before .before .before .before .before .before .before .before .marks-of .ensures) (no-place (c .before .before .before .before .before .before .before .first-clash .ensures) (c .before .before .before .before .before .enum-told .given .1)) (at-place (c .before .before .before .first-broken .ensures) (c .before .rule .given .1)))
 
 enum-told-2 : tie.Need-enum-told-2
-enum-told-2 c = ?
+enum-told-2 c = search needs
 
--- src/faults.rt:108:17
 derive-requires : tie.Need-derive-requires
-derive-requires c κs = ?
+derive-requires c κs = (c .before .before .before .before .before .before .before .before .before .before .before .pre .0, c .before .before .before .before .before .before .before .before .before .before .before .pre .1)
 
--- src/faults.rt:109:46
 slice-aggregate-first-unfounded : tie.Need-slice-aggregate-first-unfounded
-slice-aggregate-first-unfounded c = ?
+slice-aggregate-first-unfounded c = omega arith
 
--- src/faults.rt:109:50
 slice-aggregate-first-unfounded-2 : tie.Need-slice-aggregate-first-unfounded-2
-slice-aggregate-first-unfounded-2 c = ?
+slice-aggregate-first-unfounded-2 c = omega arith
 
--- src/faults.rt:109:58
 mul-first-unfounded : tie.Need-mul-first-unfounded
-mul-first-unfounded c = ?
+mul-first-unfounded c = omega (arith, c .before .before .before .before .before .before .before .before .before .before .before .before .before .before .pre .0)
 
--- src/faults.rt:109:30
 first-unfounded-requires : tie.Need-first-unfounded-requires
-first-unfounded-requires c κs = ?
+first-unfounded-requires c κs = tt
 
--- src/faults.rt:109:22
 enum-known-code : tie.Need-enum-known-code
-enum-known-code c = ?
+enum-known-code c = search needs
 
--- src/faults.rt:110:9
 returns-3 : tie.Need-returns-3
-returns-3 c = ?
+returns-3 c = ap judged (says-unfounded _ _ _ (marked (c .before .before .before .before .before .before .before .before .before .before .before .before .before .before .before .marks-of .result)) (c .before .before .before .before .before .before .before .before .before .before .before .before .before .before .before .marks-of .ensures) (no-place (c .before .before .before .before .before .before .before .before .before .before .before .before .before .first-clash .ensures) (c .before .before .before .before .before .before .before .before .before .before .before .enum-told .given .1)) (no-place (c .before .before .before .before .before .before .before .before .before .first-broken .ensures) (c .before .before .before .before .before .before .before .enum-told2 .given .1)) (marked (c .before .before .before .before .before .before .derive .result)) (c .before .before .before .before .before .before .derive .ensures) (at-place (c .before .before .before .first-unfounded .ensures) (c .before .code .given .1)))
 
 enum-told-3 : tie.Need-enum-told-3
-enum-told-3 c = ?
+enum-told-3 c = search needs
 
--- src/faults.rt:95:1
 returns-4 : tie.Need-returns-4
-returns-4 c = ?
+returns-4 c = ap judged (says-passes _ _ _ (marked (c .before .before .before .before .before .before .before .before .before .before .before .before .before .before .marks-of .result)) (c .before .before .before .before .before .before .before .before .before .before .before .before .before .before .marks-of .ensures) (no-place (c .before .before .before .before .before .before .before .before .before .before .before .before .first-clash .ensures) (c .before .before .before .before .before .before .before .before .before .before .enum-told .given .1)) (no-place (c .before .before .before .before .before .before .before .before .first-broken .ensures) (c .before .before .before .before .before .before .enum-told2 .given .1)) (marked (c .before .before .before .before .before .derive .result)) (c .before .before .before .before .before .derive .ensures) (no-place (c .before .before .first-unfounded .ensures) (c .enum-told3 .given .1)))
 
 pub judge-spec : {M : Type 1} → statement M
 judge-spec =

@@ -1,18 +1,15 @@
 use borrow.Author.Needs.{needs}
 use native.Mathlib.Omega.{arith}
-use mathlib.Core.Path.{_≡_, refl, sym, _∙_, ap}
-use mathlib.Core.Bool.{Bool, true, false, not}
+use mathlib.Core.Path.{_≡_, refl}
+use mathlib.Core.Bool.{true, false}
 use Prim.Native.Nat.{ℕ, _≤_, _-_}
-use lib.ListN.{length, getD, drop}
+use lib.ListN.{length, drop}
 use Rattle.search.specs.Search.{all}
 use Rattle.answer_sets.specs.Parts.{marked, is}
 use Rattle.search.proofs.Loops.{all-stop, all-go, all-done}
 use Rattle.answer_sets.proofs.Stores.{differs}
 use Rattle.answer_sets.proofs.marks.all_are.Statement.{statement}
 use Rattle.answer_sets.proofs.marks.all_are.Tie as tie
-use Rattle.answer_sets.proofs.marks.all_are.Reads as reads
-use Rattle.answer_sets.proofs.marks.all_are.Lts as lts
-use Rattle.answer_sets.proofs.marks.has.Reads as has-reads
 
 abbrev Inv-loop : tie.InvT-loop
 Inv-loop parts marks want i₀ i = (i ≤ length parts) × (all (λ c. is want (marked marks c)) (drop i parts) ≡ all (λ c. is want (marked marks c)) parts)
@@ -20,43 +17,33 @@ Inv-loop parts marks want i₀ i = (i ≤ length parts) × (all (λ c. is want (
 abbrev μ-loop : tie.MeasureT-loop
 μ-loop parts marks want i₀ i = length parts - i
 
--- src/marks.rt:30:5
 loop-holds : tie.Need-loop-holds Inv-loop μ-loop
 loop-holds c = (omega arith, refl)
 
--- src/marks.rt:31:32
 mul-has : tie.Need-mul-has Inv-loop μ-loop
 mul-has c = search needs
 
--- src/marks.rt:31:32
 shared-slice-read-has : tie.Need-shared-slice-read-has Inv-loop μ-loop
 shared-slice-read-has c = omega arith
 
--- src/marks.rt:31:32
 cast-has : tie.Need-cast-has Inv-loop μ-loop
 cast-has c = omega (arith, c .shared-slice-known3 .given (c .before .before .loop .i))
 
--- src/marks.rt:31:13
 has-requires : tie.Need-has-requires Inv-loop μ-loop
 has-requires c κs = search needs
 
--- src/marks.rt:33:13
 returns : tie.Need-returns Inv-loop μ-loop
 returns c = all-stop _ _ (c .before .before .before .before .loop .i) 0 (c .before .before .before .loop-test .taken) (c .before .before .before .before .loop .inv .1) (differs _ _ _ true (c .before .has .ensures) (c .if1 .taken))
 
--- src/marks.rt:35:9
 add-i : tie.Need-add-i Inv-loop μ-loop
 add-i c = omega arith
 
--- src/marks.rt:30:5
 loop-less : tie.Need-loop-less Inv-loop μ-loop
 loop-less c = omega arith
 
--- src/marks.rt:30:5
 loop-again : tie.Need-loop-again Inv-loop μ-loop
 loop-again c = (omega arith, all-go _ _ (c .before .before .before .before .loop .i) 0 (c .before .before .before .loop-test .taken) (c .before .before .before .before .loop .inv .1) (differs _ _ _ false (c .before .has .ensures) (c .if1 .left)))
 
--- src/marks.rt:26:1
 returns-2 : tie.Need-returns-2 Inv-loop μ-loop
 returns-2 c = all-done {A = ℕ} _ _ (c .before .loop .i) 0 (c .loop-test .left) (c .before .loop .inv .1)
 

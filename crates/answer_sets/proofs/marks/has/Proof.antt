@@ -4,18 +4,13 @@ use mathlib.Core.Path.{sym}
 use borrow.Author.Needs.{needs}
 use Rattle.answer_sets.proofs.marks.has.Statement.{statement}
 use Rattle.answer_sets.proofs.marks.has.Tie as tie
-use Rattle.answer_sets.proofs.marks.has.Reads as reads
-use Rattle.answer_sets.proofs.marks.has.Lts as lts
 
--- src/marks.rt:20:16
 shared-slice-read-result : tie.Need-shared-slice-read-result
 shared-slice-read-result c = search needs
 
--- src/marks.rt:20:9
 returns : tie.Need-returns
 returns c = search needs
 
--- src/marks.rt:16:1
 returns-2 : tie.Need-returns-2
 returns-2 c = sym (List·getD-eq-default (c .before .args .marks .now) false (c .if1 .left))
 

@@ -3,16 +3,13 @@ use Rattle.search.proofs.Loops.{no-difference, difference}
 use mathlib.Core.Bool.{false≢true}
 use borrow.Author.Count.{below-none, below-more}
 use lib.Seq.{ext-getD}
-use borrow.Author.Needs.{needs}
 use native.Mathlib.Omega.{arith}
-use mathlib.Core.Path.{_≡_, refl, sym, _∙_, ap}
-use mathlib.Core.Bool.{Bool, true, false, not}
-use Prim.Native.Nat.{ℕ, _≤_, _<_, _+_, _*_, _-_}
-use lib.ListN.{length, getD, drop}
+use mathlib.Core.Path.{_≡_, refl, ap}
+use mathlib.Core.Bool.{Bool, true, false}
+use Prim.Native.Nat.{ℕ, _≤_, _<_, _-_}
+use lib.ListN.{length, getD}
 use Rattle.answer_sets.proofs.marks.same.Statement.{statement}
 use Rattle.answer_sets.proofs.marks.same.Tie as tie
-use Rattle.answer_sets.proofs.marks.same.Reads as reads
-use Rattle.answer_sets.proofs.marks.same.Lts as lts
 
 abbrev Inv-loop : tie.InvT-loop
 Inv-loop a b i₀ i = (i ≤ length a) × ((k : ℕ) → k < i → getD a k false ≡ getD b k false)
@@ -20,39 +17,30 @@ Inv-loop a b i₀ i = (i ≤ length a) × ((k : ℕ) → k < i → getD a k fals
 abbrev μ-loop : tie.MeasureT-loop
 μ-loop a b i₀ i = length a - i
 
--- src/marks.rt:45:9
 returns : tie.Need-returns Inv-loop μ-loop
 returns c = (λ e. absurd (false≢true e), λ q. absurd (c .if1 .taken (ap length q)))
 
--- src/marks.rt:48:5
 loop-holds : tie.Need-loop-holds Inv-loop μ-loop
 loop-holds c = (omega arith, below-none _)
 
--- src/marks.rt:49:12
 shared-slice-read-if2 : tie.Need-shared-slice-read-if2 Inv-loop μ-loop
 shared-slice-read-if2 c = omega arith
 
--- src/marks.rt:49:20
 shared-slice-read-if2-2 : tie.Need-shared-slice-read-if2-2 Inv-loop μ-loop
 shared-slice-read-if2-2 c = omega arith
 
--- src/marks.rt:50:13
 returns-2 : tie.Need-returns-2 Inv-loop μ-loop
 returns-2 c = (λ e. absurd (false≢true e), λ q. absurd (difference _ _ (c .if2 .taken) (ap (λ (l : List Bool). getD l (c .before .before .before .before .loop .i) false) q)))
 
--- src/marks.rt:52:9
 add-i : tie.Need-add-i Inv-loop μ-loop
 add-i c = omega arith
 
--- src/marks.rt:48:5
 loop-less : tie.Need-loop-less Inv-loop μ-loop
 loop-less c = omega arith
 
--- src/marks.rt:48:5
 loop-again : tie.Need-loop-again Inv-loop μ-loop
 loop-again c = (omega arith, below-more _ _ (c .before .before .before .before .loop .inv .1) (no-difference _ _ (c .if2 .left)))
 
--- src/marks.rt:41:1
 returns-3 : tie.Need-returns-3 Inv-loop μ-loop
 returns-3 c = (λ e. ext-getD false (c .before .before .before .args .a .now) _ (omega arith) (λ i h. c .before .loop .inv .1 i (omega arith)), λ q. refl)
 

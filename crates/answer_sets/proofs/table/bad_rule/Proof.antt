@@ -1,19 +1,13 @@
-use borrow.Author.Needs.{needs}
 use native.Mathlib.Omega.{arith}
-use mathlib.Core.Path.{_≡_, refl, sym, _∙_, ap}
-use mathlib.Core.Bool.{Bool, true, false, not, _&&_, _||_}
-use Prim.Native.Nat.{ℕ, _≤_, _<_, _+_, _*_, _-_}
-use lib.ListN.{length, getD, drop, length-drop}
-use Rattle.answer_sets.specs.Words.{rulesOf, ruleSize}
+use mathlib.Core.Path.{_≡_, sym}
+use Prim.Native.Nat.{_≤_, _+_, _-_}
+use lib.ListN.{length, length-drop}
+use Rattle.answer_sets.specs.Words.{ruleSize}
 use Rattle.answer_sets.specs.Words.{badRule}
 use Rattle.answer_sets.proofs.Decoding.{badRuleFrom, badRule-from}
 use Rattle.answer_sets.proofs.Fronts.{bad-many, bad-stop, bad-go, bad-end, fits-size, left-behind, shorter}
 use Rattle.answer_sets.proofs.table.bad_rule.Statement.{statement}
 use Rattle.answer_sets.proofs.table.bad_rule.Tie as tie
-use Rattle.answer_sets.proofs.table.bad_rule.Reads as reads
-use Rattle.answer_sets.proofs.table.bad_rule.Lts as lts
-use Rattle.answer_sets.proofs.table.rule_fits.Reads as rule-fits-reads
-use Rattle.answer_sets.proofs.table.rule_size.Reads as rule-size-reads
 
 abbrev Inv-loop : tie.InvT-loop
 Inv-loop table atoms rest₀ at₀ rules₀ rest at rules = (at + length rest ≡ length table) × (rules ≤ at) × (badRuleFrom atoms rules at rest ≡ badRule atoms table)
@@ -21,59 +15,45 @@ Inv-loop table atoms rest₀ at₀ rules₀ rest at rules = (at + length rest �
 abbrev μ-loop : tie.MeasureT-loop
 μ-loop table atoms rest₀ at₀ rules₀ rest at rules = length rest
 
--- src/table.rt:76:5
 loop-holds : tie.Need-loop-holds Inv-loop μ-loop
 loop-holds c = (omega arith, omega arith, sym (badRule-from _ _))
 
--- src/table.rt:78:13
 returns : tie.Need-returns Inv-loop μ-loop
 returns c = bad-many _ _ _ (c .before .before .loop .rest .now) (c .before .loop-test .taken) (c .before .before .loop .inv .2) (c .if1 .taken)
 
--- src/table.rt:80:13
 rule-fits-requires : tie.Need-rule-fits-requires Inv-loop μ-loop
 rule-fits-requires c κs = c .before .before .before .before .pre
 
--- src/table.rt:81:13
 returns-2 : tie.Need-returns-2 Inv-loop μ-loop
 returns-2 c = bad-stop _ _ _ (c .before .before .before .before .loop .rest .now) _ (c .before .before .before .loop-test .taken) (c .before .before .before .before .loop .inv .2) (c .before .rule-fits .ensures) (c .if2 .taken)
 
--- src/table.rt:83:13
 rule-size-requires : tie.Need-rule-size-requires Inv-loop μ-loop
 rule-size-requires c κs = omega (arith, fits-size _ (c .before .before .before .before .loop .rest .now) _ (c .before .rule-fits .ensures) (c .if2 .left))
 
--- src/table.rt:84:16
 mul-rest : tie.Need-mul-rest Inv-loop μ-loop
 mul-rest c = omega (arith, fits-size _ (c .before .before .before .before .before .loop .rest .now) _ (c .before .before .rule-fits .ensures) (c .before .if2 .left))
 
--- src/table.rt:84:16
 sub-rest : tie.Need-sub-rest Inv-loop μ-loop
 sub-rest c = omega (arith, fits-size _ (c .before .before .before .before .before .loop .rest .now) _ (c .before .before .rule-fits .ensures) (c .before .if2 .left))
 
--- src/table.rt:84:16
 part-rest-start : tie.Need-part-rest-start Inv-loop μ-loop
 part-rest-start c = omega (arith, fits-size _ (c .before .before .before .before .before .loop .rest .now) _ (c .before .before .rule-fits .ensures) (c .before .if2 .left))
 
--- src/table.rt:84:16
 part-rest-end : tie.Need-part-rest-end Inv-loop μ-loop
 part-rest-end c = omega arith
 
--- src/table.rt:85:9
 add-at : tie.Need-add-at Inv-loop μ-loop
 add-at c = omega (arith, fits-size _ (c .before .before .before .before .before .before .loop .rest .now) _ (c .before .before .before .rule-fits .ensures) (c .before .before .if2 .left))
 
--- src/table.rt:86:9
 add-rules : tie.Need-add-rules Inv-loop μ-loop
 add-rules c = omega arith
 
--- src/table.rt:76:5
 loop-less : tie.Need-loop-less Inv-loop μ-loop
 loop-less c = let ws = c .before .before .before .before .before .before .loop .rest .now in let h = c .before .before .before .before .before .loop-test .taken in rw (left-behind ws _ (c .before .rule-size .ensures)) (shorter ws h)
 
--- src/table.rt:76:5
 loop-again : tie.Need-loop-again Inv-loop μ-loop
 loop-again c = let ws = c .before .before .before .before .before .before .loop .rest .now in let h = c .before .before .before .before .before .loop-test .taken in rw (left-behind ws _ (c .before .rule-size .ensures)) (omega (arith, length-drop (ruleSize ws) ws, c .before .rule-size .ensures, fits-size _ ws _ (c .before .before .before .rule-fits .ensures) (c .before .before .if2 .left)), omega (arith, c .before .rule-size .ensures), bad-go _ _ _ ws _ _ (c .before .rule-size .ensures) h (c .before .before .before .before .before .before .loop .inv .2) (c .before .before .before .before .if1 .left) (c .before .before .before .rule-fits .ensures) (c .before .before .if2 .left))
 
--- src/table.rt:69:1
 returns-3 : tie.Need-returns-3 Inv-loop μ-loop
 returns-3 c = bad-end _ _ _ (c .before .loop .rest .now) (c .loop-test .left) (c .before .loop .inv .2)
 

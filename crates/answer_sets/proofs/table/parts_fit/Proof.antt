@@ -1,17 +1,13 @@
 use borrow.Author.Needs.{needs}
 use native.Mathlib.Omega.{arith}
-use mathlib.Core.Path.{_≡_, refl, sym, _∙_, ap}
-use mathlib.Core.Bool.{Bool, true, false, not}
-use Prim.Native.Nat.{ℕ, _≤_, _<_, _+_, _*_, _-_}
-use lib.ListN.{length, getD, drop}
-use lib.Dec.{ltb}
+use mathlib.Core.Path.{_≡_, refl}
+use Prim.Native.Nat.{ℕ, _≤_, _-_}
+use lib.ListN.{length, drop}
 use Rattle.answer_sets.specs.Words.{partsFit}
 use Rattle.search.proofs.Loops.{all-stop, all-go, all-done}
 use borrow.Author.Tests.{lt-ltb, le-ltb}
 use Rattle.answer_sets.proofs.table.parts_fit.Statement.{statement}
 use Rattle.answer_sets.proofs.table.parts_fit.Tie as tie
-use Rattle.answer_sets.proofs.table.parts_fit.Reads as reads
-use Rattle.answer_sets.proofs.table.parts_fit.Lts as lts
 
 abbrev Inv-loop : tie.InvT-loop
 Inv-loop parts atoms limit i₀ i = (i ≤ length parts) × (partsFit atoms (drop i parts) ≡ partsFit atoms parts)
@@ -19,43 +15,33 @@ Inv-loop parts atoms limit i₀ i = (i ≤ length parts) × (partsFit atoms (dro
 abbrev μ-loop : tie.MeasureT-loop
 μ-loop parts atoms limit i₀ i = length parts - i
 
--- src/table.rt:37:17
 mul-limit : tie.Need-mul-limit Inv-loop μ-loop
 mul-limit c = omega arith
 
--- src/table.rt:39:5
 loop-holds : tie.Need-loop-holds Inv-loop μ-loop
 loop-holds c = (omega arith, refl)
 
--- src/table.rt:40:20
 mul-part : tie.Need-mul-part Inv-loop μ-loop
 mul-part c = search needs
 
--- src/table.rt:40:20
 shared-slice-read-part : tie.Need-shared-slice-read-part Inv-loop μ-loop
 shared-slice-read-part c = omega arith
 
--- src/table.rt:40:20
 cast-part : tie.Need-cast-part Inv-loop μ-loop
 cast-part c = omega (arith, c .shared-slice-known .given (c .before .before .loop .i))
 
--- src/table.rt:42:13
 returns : tie.Need-returns Inv-loop μ-loop
 returns c = all-stop _ _ (c .before .before .before .loop .i) 0 (c .before .before .loop-test .taken) (c .before .before .before .loop .inv .1) (le-ltb _ _ (c .if1 .taken))
 
--- src/table.rt:44:9
 add-i : tie.Need-add-i Inv-loop μ-loop
 add-i c = omega arith
 
--- src/table.rt:39:5
 loop-less : tie.Need-loop-less Inv-loop μ-loop
 loop-less c = omega arith
 
--- src/table.rt:39:5
 loop-again : tie.Need-loop-again Inv-loop μ-loop
 loop-again c = (omega arith, all-go _ _ (c .before .before .before .loop .i) 0 (c .before .before .loop-test .taken) (c .before .before .before .loop .inv .1) (lt-ltb _ _ (c .if1 .left)))
 
--- src/table.rt:33:1
 returns-2 : tie.Need-returns-2 Inv-loop μ-loop
 returns-2 c = all-done {A = ℕ} _ _ (c .before .loop .i) 0 (c .loop-test .left) (c .before .loop .inv .1)
 

@@ -3,75 +3,55 @@ use Rattle.answer_sets.proofs.Fronts.{applies-stop, applies-go}
 use borrow.Author.Needs.{needs}
 use Rattle.answer_sets.proofs.table.rule_applies.Statement.{statement}
 use Rattle.answer_sets.proofs.table.rule_applies.Tie as tie
-use Rattle.answer_sets.proofs.table.rule_applies.Reads as reads
-use Rattle.answer_sets.proofs.table.rule_applies.Lts as lts
-use Rattle.answer_sets.proofs.marks.all_are.Reads as all-are-reads
 
--- src/table.rt:96:23
 shared-slice-read-middle : tie.Need-shared-slice-read-middle
 shared-slice-read-middle c = search needs
 
--- src/table.rt:96:23
 cast-middle : tie.Need-cast-middle
 cast-middle c = search needs
 
--- src/table.rt:96:18
 add-middle : tie.Need-add-middle
 add-middle c = search needs
 
--- src/table.rt:97:25
 shared-slice-read-end : tie.Need-shared-slice-read-end
 shared-slice-read-end c = search needs
 
--- src/table.rt:97:25
 cast-end : tie.Need-cast-end
 cast-end c = search needs
 
--- src/table.rt:97:15
 add-end : tie.Need-add-end
 add-end c = search needs
 
--- src/table.rt:98:24
 sub-all-are : tie.Need-sub-all-are
 sub-all-are c = search needs
 
--- src/table.rt:98:24
 part-all-are-start : tie.Need-part-all-are-start
 part-all-are-start c = search needs
 
--- src/table.rt:98:24
 part-all-are-end : tie.Need-part-all-are-end
 part-all-are-end c = search needs
 
--- src/table.rt:98:9
 all-are-requires : tie.Need-all-are-requires
 all-are-requires c κs = search needs
 
--- src/table.rt:99:9
 returns : tie.Need-returns
 returns c = applies-stop (marked (c .before .before .before .before .before .before .before .before .args .x .now)) (marked (c .before .before .before .before .before .before .before .before .args .y .now)) (c .before .before .before .before .before .before .before .before .args .rest .now) _ (c .before .all-are .ensures) (c .if1 .taken)
 
--- src/table.rt:101:20
 mul-all-are : tie.Need-mul-all-are
 mul-all-are c = search needs
 
--- src/table.rt:101:20
 sub-all-are-2 : tie.Need-sub-all-are-2
 sub-all-are-2 c = search needs
 
--- src/table.rt:101:20
 part-all-are-start-2 : tie.Need-part-all-are-start-2
 part-all-are-start-2 c = search needs
 
--- src/table.rt:101:20
 part-all-are-end-2 : tie.Need-part-all-are-end-2
 part-all-are-end-2 c = search needs
 
--- src/table.rt:101:5
 all-are-requires-2 : tie.Need-all-are-requires-2
 all-are-requires-2 c κs = search needs
 
--- src/table.rt:92:1
 returns-2 : tie.Need-returns-2
 returns-2 c = applies-go (marked (c .before .before .before .before .before .before .before .before .before .before .args .x .now)) (marked (c .before .before .before .before .before .before .before .before .before .before .args .y .now)) (c .before .before .before .before .before .before .before .before .before .before .args .rest .now) _ (c .before .before .before .all-are .ensures) _ (c .before .before .if1 .left) (c .all-are2 .ensures)
 

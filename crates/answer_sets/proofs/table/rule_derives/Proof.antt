@@ -1,25 +1,17 @@
 use borrow.Author.Tests.{eq-eqb, ne-eqb}
-use Rattle.search.proofs.Loops.{and-stop, and-go}
 use borrow.Author.Needs.{needs}
 use Rattle.answer_sets.proofs.table.rule_derives.Statement.{statement}
 use Rattle.answer_sets.proofs.table.rule_derives.Tie as tie
-use Rattle.answer_sets.proofs.table.rule_derives.Reads as reads
-use Rattle.answer_sets.proofs.table.rule_derives.Lts as lts
-use Rattle.answer_sets.proofs.table.rule_applies.Reads as rule-applies-reads
 
--- src/table.rt:109:8
 shared-slice-read-if1 : tie.Need-shared-slice-read-if1
 shared-slice-read-if1 c = search needs
 
--- src/table.rt:110:9
 returns : tie.Need-returns
 returns c = simp (eq-eqb _ _ (c .if1 .taken))
 
--- src/table.rt:112:5
 rule-applies-requires : tie.Need-rule-applies-requires
 rule-applies-requires c κs = search needs
 
--- src/table.rt:105:1
 returns-2 : tie.Need-returns-2
 returns-2 c = simp (ne-eqb _ _ (c .before .if1 .left)) (c .rule-applies .ensures)
 

@@ -1,40 +1,28 @@
 use borrow.Author.Needs.{needs}
 use native.Mathlib.Omega.{arith}
-use mathlib.Core.Path.{_≡_, refl, sym, _∙_, ap}
-use mathlib.Core.Bool.{Bool, true, false, not}
-use Prim.Native.Nat.{ℕ, _≤_, _<_, _+_, _*_, _-_}
-use lib.ListN.{length, getD, drop}
+use Prim.Native.Nat.{_-_}
 use borrow.Author.Needs.{needs}
 use Rattle.answer_sets.proofs.table.rule_size.Statement.{statement}
 use Rattle.answer_sets.proofs.table.rule_size.Tie as tie
-use Rattle.answer_sets.proofs.table.rule_size.Reads as reads
-use Rattle.answer_sets.proofs.table.rule_size.Lts as lts
 
--- src/table.rt:18:10
 shared-slice-read-result : tie.Need-shared-slice-read-result
 shared-slice-read-result c = search needs
 
--- src/table.rt:18:10
 cast-result : tie.Need-cast-result
 cast-result c = omega (arith, c .shared-slice-known .given 1)
 
--- src/table.rt:18:5
 add-result : tie.Need-add-result
 add-result c = omega (arith, c .shared-slice-known .given 1)
 
--- src/table.rt:18:31
 shared-slice-read-result-2 : tie.Need-shared-slice-read-result-2
 shared-slice-read-result-2 c = search needs
 
--- src/table.rt:18:31
 cast-result-2 : tie.Need-cast-result-2
 cast-result-2 c = omega (arith, c .shared-slice-known2 .given 2)
 
--- src/table.rt:18:5
 add-result-2 : tie.Need-add-result-2
 add-result-2 c = omega (arith, c .before .shared-slice-known .given 1, c .shared-slice-known2 .given 2)
 
--- src/table.rt:14:1
 returns : tie.Need-returns
 returns c = search needs
 

@@ -1,0 +1,72 @@
+-- The verdict and the answer, from what the searches found, in the order in which the code makes them.
+-- Assumes nothing.
+use mathlib.Core.Path.{_≡_, refl, sym, _∙_, ap}
+use mathlib.Core.Bool.{Bool, true, false, cond}
+use mathlib.Core.List.{List}
+use mathlib.Core.Option.{Option, none, some}
+use Prim.Native.Nat.{ℕ, _+_, _-_, _*_, _≤_, _<_}
+use native.Mathlib.Numerals.{add-one}
+use native.Mathlib.Omega.{arith}
+use borrow.Author.Tests.{lt-ltb, le-ltb}
+use lib.ListN.{length}
+use Rattle.search.specs.Search.{first, range}
+use Rattle.answer_sets.specs.Literals.{Lits, setOf}
+use Rattle.answer_sets.specs.Rules.{Rule}
+use Rattle.answer_sets.specs.Verdicts.{Verdict, clash, broken, unfounded, passes, round, rounds, bothValues, isBroken, isUnfounded, verdict}
+use Rattle.answer_sets.specs.Words.{rulesOf, badRule}
+use Rattle.answer_sets.specs.Answers.{Reply, refused, judged, badValue, answer}
+use Rattle.answer_sets.proofs.Least.{HeadsBelow, rounds-stay, rounds-settle}
+
+-- Y is the set X, as marks
+module _ (n : ℕ) (Π : List Rule) (X Y : Lits) (is : Y ≡ X) where
+  pub says-clash : {a : ℕ} → first (bothValues Y) 0 (range 0 n) ≡ some a → clash a ≡ verdict n Π X
+  unfolding verdict
+  says-clash e = rw (← is, e)
+
+  module _ (none₁ : first (bothValues Y) 0 (range 0 n) ≡ none) where
+    pub says-broken : {r : ℕ} → first (isBroken Y) 0 Π ≡ some r → broken r ≡ verdict n Π X
+    unfolding verdict
+    says-broken e = rw (← is, none₁, e)
+
+    module _ (none₂ : first (isBroken Y) 0 Π ≡ none) (L : Lits) (least : L ≡ rounds (2 * n) Π Y) where
+      pub says-unfounded : {c : ℕ} → first (isUnfounded Y L) 0 (range 0 (2 * n)) ≡ some c → unfounded c ≡ verdict n Π X
+      unfolding verdict
+      says-unfounded e = rw (← is, none₁, none₂, ← least, e)
+
+      pub says-passes : first (isUnfounded Y L) 0 (range 0 (2 * n)) ≡ none → passes ≡ verdict n Π X
+      unfolding verdict
+      says-passes e = rw (← is, none₁, none₂, ← least, e)
+
+module _ (vs ws : List ℕ) where
+  pub says-10 : 1024 < length vs → refused 10 (length vs) ≡ answer vs ws
+  unfolding answer
+  says-10 h = rw (lt-ltb 1024 (length vs) h)
+
+  module _ (few : length vs ≤ 1024) where
+    pub says-11 : {k : ℕ} → badValue vs ≡ some k → refused 11 k ≡ answer vs ws
+    unfolding answer
+    says-11 e = rw (le-ltb 1024 (length vs) few, e)
+
+    module _ (none₁ : badValue vs ≡ none) where
+      pub says-12 : {k : ℕ} → badRule (length vs) ws ≡ some k → refused 12 k ≡ answer vs ws
+      unfolding answer
+      says-12 e = rw (le-ltb 1024 (length vs) few, none₁, e)
+
+      pub says-verdict : badRule (length vs) ws ≡ none → judged (verdict (length vs) (rulesOf ws) (setOf vs)) ≡ answer vs ws
+      unfolding answer
+      says-verdict e = rw (le-ltb 1024 (length vs) few, none₁, e)
+
+-- the rounds of a derivation: Y is the round k, Z the one after it
+module _ (Π : List Rule) (X Y : Lits) (k : ℕ) (is : Y ≡ rounds k Π X) where
+  pub round-after : (Z : Lits) → Z ≡ round Π X Y → Z ≡ rounds (k + 1) Π X
+  round-after Z next = rw (add-one k) (rw is at next)
+
+  -- a round that adds nothing: all later ones add nothing
+  pub round-last : (Z : Lits) (N : ℕ) → Z ≡ round Π X Y → Z ≡ Y → k ≤ N → Y ≡ rounds N Π X
+  round-last Z N next same before =
+      let rest : k + (N - k) ≡ N = omega arith in
+      is ∙ sym (rw rest at (rounds-stay Π X k (N - k) (sym (rw is at next) ∙ same ∙ is)))
+
+  -- so many rounds that the last one added nothing
+  pub round-enough : (n : ℕ) → HeadsBelow (2 * n) Π → k ≡ 2 * n + 1 → Y ≡ rounds (2 * n) Π X
+  round-enough n low e = is ∙ (rw (e, add-one (2 * n)) (rounds-settle (2 * n) Π X low))
