@@ -1,3 +1,5 @@
+-- `answer_sets::check_set` meets its contract.
+-- Assumes nothing.
 use mathlib.Core.Path.{_∙_}
 use Rattle.search.proofs.Loops.{at-place, no-place}
 use Rattle.answer_sets.proofs.Judging.{says-10, says-11, says-12, says-verdict}
@@ -15,7 +17,10 @@ enum-known-place : tie.Need-enum-known-place
 enum-known-place c = search needs
 
 returns-2 : tie.Need-returns-2
-returns-2 c = says-11 _ _ (c .before .before .before .before .if1 .left) (at-place (c .before .before .before .bad-value .ensures) (c .before .place .given .1))
+returns-2 c =
+    let c3 = c .before .before .before in
+    let c4 = c3 .before in
+    says-11 _ _ (c4 .if1 .left) (at-place (c3 .bad-value .ensures) (c .before .place .given .1))
 
 enum-told : tie.Need-enum-told
 enum-told c = search needs
@@ -27,16 +32,31 @@ enum-known-place-2 : tie.Need-enum-known-place-2
 enum-known-place-2 c = search needs
 
 returns-3 : tie.Need-returns-3
-returns-3 c = says-12 _ _ (c .before .before .before .before .before .before .before .if1 .left) (no-place (c .before .before .before .before .before .before .bad-value .ensures) (c .before .before .before .before .enum-told .given .1)) (at-place (c .before .before .before .bad-rule .ensures) (c .before .place2 .given .1))
+returns-3 c =
+    let c3 = c .before .before .before in
+    let c4 = c3 .before in
+    let c6 = c4 .before .before in
+    let c7 = c6 .before in
+    says-12 _ _ (c7 .if1 .left) (no-place (c6 .bad-value .ensures) (c4 .enum-told .given .1))
+    (at-place (c3 .bad-rule .ensures) (c .before .place2 .given .1))
 
 enum-told-2 : tie.Need-enum-told-2
 enum-told-2 c = search needs
 
 judge-requires : tie.Need-judge-requires
-judge-requires c κs = (c .before .before .before .before .before .before .if1 .left, no-place (c .before .before .bad-rule .ensures) (c .enum-told2 .given .1))
+judge-requires c κs =
+    let c2 = c .before .before in
+    let c6 = c2 .before .before .before .before in
+    (c6 .if1 .left, no-place (c2 .bad-rule .ensures) (c .enum-told2 .given .1))
 
 returns-4 : tie.Need-returns-4
-returns-4 c = c .judge .ensures ∙ says-verdict _ _ (c .before .before .before .before .before .before .before .if1 .left) (no-place (c .before .before .before .before .before .before .bad-value .ensures) (c .before .before .before .before .enum-told .given .1)) (no-place (c .before .before .before .bad-rule .ensures) (c .before .enum-told2 .given .1))
+returns-4 c =
+    let c3 = c .before .before .before in
+    let c4 = c3 .before in
+    let c6 = c4 .before .before in
+    let c7 = c6 .before in
+    c .judge .ensures ∙ says-verdict _ _ (c7 .if1 .left) (no-place (c6 .bad-value .ensures) (c4 .enum-told .given .1))
+    (no-place (c3 .bad-rule .ensures) (c .before .enum-told2 .given .1))
 
 pub check-set-spec : {M : Type 1} → statement M
 check-set-spec =

@@ -1,3 +1,5 @@
+-- `answer_sets::derivation::derive` meets its contract.
+-- Assumes nothing.
 use Rattle.answer_sets.proofs.Judging.{round-after, round-last, round-enough}
 use native.Mathlib.Omega.{arith}
 use mathlib.Core.Path.{_≡_, ap}
@@ -46,7 +48,12 @@ same-requires : tie.Need-same-requires Inv-loop μ-loop
 same-requires c κs = tt
 
 returns : tie.Need-returns Inv-loop μ-loop
-returns c = round-last _ _ (marked (c .before .before .before .before .before .before .loop .marks)) (c .before .before .before .before .before .before .loop .k) (c .before .before .before .before .before .before .loop .inv .2) _ (2 * c .before .before .before .before .before .before .before .before .before .args .atoms) (c .before .before .before .before .round .ensures) (ap marked (c .before .same .ensures .0 (c .if1 .taken))) (omega arith)
+returns c =
+    let c4 = c .before .before .before .before in
+    let c6 = c4 .before .before in
+    let c9 = c6 .before .before .before in
+    round-last _ _ (marked (c6 .loop .marks)) (c6 .loop .k) (c6 .loop .inv .2) _ (2 * c9 .args .atoms) (c4 .round .ensures)
+    (ap marked (c .before .same .ensures .0 (c .if1 .taken))) (omega arith)
 
 add-k : tie.Need-add-k Inv-loop μ-loop
 add-k c = omega arith
@@ -55,10 +62,16 @@ loop-less : tie.Need-loop-less Inv-loop μ-loop
 loop-less c = omega arith
 
 loop-again : tie.Need-loop-again Inv-loop μ-loop
-loop-again c = (omega arith, omega arith, round-after _ _ (marked (c .before .before .before .before .before .before .loop .marks)) (c .before .before .before .before .before .before .loop .k) (c .before .before .before .before .before .before .loop .inv .2) _ (c .before .before .before .before .round .ensures))
+loop-again c =
+    let c4 = c .before .before .before .before in
+    let c6 = c4 .before .before in
+    (omega arith, omega arith, round-after _ _ (marked (c6 .loop .marks)) (c6 .loop .k) (c6 .loop .inv .2) _ (c4 .round .ensures))
 
 returns-2 : tie.Need-returns-2 Inv-loop μ-loop
-returns-2 c = round-enough _ _ (marked (c .before .loop .marks)) (c .before .loop .k) (c .before .loop .inv .2) (c .before .before .before .before .args .atoms) (codes-heads (2 * c .before .before .before .before .args .atoms) (rulesOf (c .before .before .before .before .args .table .now)) (accepted-below _ _ (c .before .before .before .before .pre .1))) (omega arith)
+returns-2 c =
+    let c4 = c .before .before .before .before in
+    round-enough _ _ (marked (c .before .loop .marks)) (c .before .loop .k) (c .before .loop .inv .2) (c4 .args .atoms)
+    (codes-heads (2 * c4 .args .atoms) (rulesOf (c4 .args .table .now)) (accepted-below _ _ (c4 .pre .1))) (omega arith)
 
 pub derive-spec : {M : Type 1} → statement M
 derive-spec =

@@ -1,3 +1,5 @@
+-- `answer_sets::derivation::round` meets its contract.
+-- Assumes nothing.
 use mathlib.Core.Logic.{⊎-elim, inl, inr}
 use native.Mathlib.Omega.{arith}
 use mathlib.Core.Path.{_≡_, sym, _∙_, fun-ext}
@@ -23,7 +25,9 @@ clear-requires : tie.Need-clear-requires Inv-loop μ-loop
 clear-requires c κs = tt
 
 loop-holds : tie.Need-loop-holds Inv-loop μ-loop
-loop-holds c = (omega arith, c .before .before .pre, rw (c .clear .ensures) (length-replicate 2048 false), λ k. rw (c .clear .ensures, clear-marks 2048 k))
+loop-holds c =
+    let c2 = c .before .before in
+    (omega arith, c2 .pre, rw (c .clear .ensures) (length-replicate 2048 false), λ k. rw (c .clear .ensures, clear-marks 2048 k))
 
 shared-slice-read-head : tie.Need-shared-slice-read-head Inv-loop μ-loop
 shared-slice-read-head c = c .before .loop-test .taken
@@ -41,28 +45,53 @@ rule-derives-requires : tie.Need-rule-derives-requires Inv-loop μ-loop
 rule-derives-requires c κs = sound-size _ (c .before .before .before .loop-test .taken) (c .before .before .before .before .loop .inv .1)
 
 array-write-new : tie.Need-array-write-new Inv-loop μ-loop
-array-write-new c = sound-head (c .before .before .before .before .before .before .loop .rest .now) (c .before .before .before .before .before .loop-test .taken) (c .before .before .before .before .before .before .loop .inv .1) (derives-literal (marked (c .before .before .before .before .before .before .before .before .before .args .t2)) (marked (c .before .before .before .before .before .before .before .before .before .args .t3)) (c .before .before .before .before .before .before .loop .rest .now) _ (c .before .rule-derives .ensures) (c .if1 .taken))
+array-write-new c =
+    let c5 = c .before .before .before .before .before in
+    let c6 = c5 .before in
+    let c9 = c6 .before .before .before in
+    sound-head (c6 .loop .rest .now) (c5 .loop-test .taken) (c6 .loop .inv .1)
+    (derives-literal (marked (c9 .args .t2)) (marked (c9 .args .t3)) (c6 .loop .rest .now) _ (c .before .rule-derives .ensures) (c .if1 .taken))
 
 rule-size-requires : tie.Need-rule-size-requires Inv-loop μ-loop
-rule-size-requires c κs = omega (arith, sound-size (c .before .before .before .before .before .before .loop .rest .now) (c .before .before .before .before .before .loop-test .taken) (c .before .before .before .before .before .before .loop .inv .1))
+rule-size-requires c κs =
+    let c5 = c .before .before .before .before .before in
+    let c6 = c5 .before in
+    omega (arith, sound-size (c6 .loop .rest .now) (c5 .loop-test .taken) (c6 .loop .inv .1))
 
 mul-rest : tie.Need-mul-rest Inv-loop μ-loop
-mul-rest c = omega (arith, sound-size (c .before .before .before .before .before .before .before .loop .rest .now) (c .before .before .before .before .before .before .loop-test .taken) (c .before .before .before .before .before .before .before .loop .inv .1), c .rule-size .ensures)
+mul-rest c =
+    let c6 = c .before .before .before .before .before .before in
+    let c7 = c6 .before in
+    omega (arith, sound-size (c7 .loop .rest .now) (c6 .loop-test .taken) (c7 .loop .inv .1), c .rule-size .ensures)
 
 sub-rest : tie.Need-sub-rest Inv-loop μ-loop
-sub-rest c = omega (arith, sound-size (c .before .before .before .before .before .before .before .loop .rest .now) (c .before .before .before .before .before .before .loop-test .taken) (c .before .before .before .before .before .before .before .loop .inv .1), c .rule-size .ensures)
+sub-rest c =
+    let c6 = c .before .before .before .before .before .before in
+    let c7 = c6 .before in
+    omega (arith, sound-size (c7 .loop .rest .now) (c6 .loop-test .taken) (c7 .loop .inv .1), c .rule-size .ensures)
 
 part-rest-start : tie.Need-part-rest-start Inv-loop μ-loop
-part-rest-start c = omega (arith, sound-size (c .before .before .before .before .before .before .before .loop .rest .now) (c .before .before .before .before .before .before .loop-test .taken) (c .before .before .before .before .before .before .before .loop .inv .1), c .rule-size .ensures)
+part-rest-start c =
+    let c6 = c .before .before .before .before .before .before in
+    let c7 = c6 .before in
+    omega (arith, sound-size (c7 .loop .rest .now) (c6 .loop-test .taken) (c7 .loop .inv .1), c .rule-size .ensures)
 
 part-rest-end : tie.Need-part-rest-end Inv-loop μ-loop
 part-rest-end c = omega arith
 
 loop-less : tie.Need-loop-less Inv-loop μ-loop
-loop-less c = let ws = c .before .before .before .before .before .before .before .before .loop .rest .now in let h = c .before .before .before .before .before .before .before .loop-test .taken in rw (left-behind ws _ (c .before .rule-size .ensures)) (shorter ws h)
+loop-less c =
+    let ws = c .before .before .before .before .before .before .before .before .loop .rest .now in
+    let h = c .before .before .before .before .before .before .before .loop-test .taken in
+    rw (left-behind ws _ (c .before .rule-size .ensures)) (shorter ws h)
 
 loop-again : tie.Need-loop-again Inv-loop μ-loop
-loop-again c = let ws = c .before .before .before .before .before .before .before .before .loop .rest .now in let h = c .before .before .before .before .before .before .before .loop-test .taken in let turn = round-turn (marked (c .before .before .before .before .before .before .before .before .before .before .before .args .t2)) (marked (c .before .before .before .before .before .before .before .before .before .before .before .args .t3)) ws h (c .before .before .before .before .before .before .before .before .loop .inv .1) (c .before .before .before .before .before .before .before .before .loop .new) (c .before .before .if1 .new) _ (c .before .before .before .rule-derives .ensures) (⊎-elim (λ w. inl (w .0 .taken, w .1)) (λ w. inr (w .0 .left, w .1)) (c .before .before .if1 .came)) (c .before .before .before .before .before .before .before .before .loop .inv .2) (c .before .before .before .before .before .before .before .before .loop .inv .3) in rw (left-behind ws _ (c .before .rule-size .ensures)) (omega (arith, shorter ws h), sound-rest ws h (c .before .before .before .before .before .before .before .before .loop .inv .1), turn .0, turn .1)
+loop-again c =
+    let ws = c .before .before .before .before .before .before .before .before .loop .rest .now in
+    let h = c .before .before .before .before .before .before .before .loop-test .taken in
+    let turn = round-turn (marked (c .before .before .before .before .before .before .before .before .before .before .before .args .t2)) (marked (c .before .before .before .before .before .before .before .before .before .before .before .args .t3)) ws h (c .before .before .before .before .before .before .before .before .loop .inv .1) (c .before .before .before .before .before .before .before .before .loop .new) (c .before .before .if1 .new) _ (c .before .before .before .rule-derives .ensures) (⊎-elim (λ w. inl (w .0 .taken, w .1)) (λ w. inr (w .0 .left, w .1)) (c .before .before .if1 .came)) (c .before .before .before .before .before .before .before .before .loop .inv .2) (c .before .before .before .before .before .before .before .before .loop .inv .3) in
+    rw (left-behind ws _ (c .before .rule-size .ensures))
+    (omega (arith, shorter ws h), sound-rest ws h (c .before .before .before .before .before .before .before .before .loop .inv .1), turn .0, turn .1)
 
 returns : tie.Need-returns Inv-loop μ-loop
 returns c = fun-ext (λ k. sym (or-false _) ∙ (rw (rules-end (c .before .loop .rest .now) (c .loop-test .left)) at (c .before .loop .inv .3 k)))

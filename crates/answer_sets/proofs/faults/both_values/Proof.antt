@@ -1,3 +1,5 @@
+-- `answer_sets::faults::both_values` meets its contract.
+-- Assumes nothing.
 use Rattle.search.proofs.Loops.{and-stop, and-go}
 use borrow.Author.Needs.{needs}
 use Rattle.answer_sets.proofs.faults.both_values.Statement.{statement}

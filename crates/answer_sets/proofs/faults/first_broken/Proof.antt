@@ -1,3 +1,5 @@
+-- `answer_sets::faults::first_broken` meets its contract.
+-- Assumes nothing.
 use native.Mathlib.Omega.{arith}
 use mathlib.Core.Path.{_≡_, refl, sym, _∙_}
 use Prim.Native.Nat.{_≤_, _+_, _-_}
@@ -23,7 +25,10 @@ is-broken-requires : tie.Need-is-broken-requires Inv-loop μ-loop
 is-broken-requires c κs = sound-size _ (c .loop-test .taken) (c .before .loop .inv .1)
 
 returns : tie.Need-returns Inv-loop μ-loop
-returns c = rule-stop _ _ (c .before .before .before .loop .rest .now) (c .before .before .loop-test .taken) (c .before .before .before .loop .inv .2) (sym (c .before .is-broken .ensures) ∙ c .if1 .taken)
+returns c =
+    let c2 = c .before .before in
+    let c3 = c2 .before in
+    rule-stop _ _ (c3 .loop .rest .now) (c2 .loop-test .taken) (c3 .loop .inv .2) (sym (c .before .is-broken .ensures) ∙ c .if1 .taken)
 
 rule-size-requires : tie.Need-rule-size-requires Inv-loop μ-loop
 rule-size-requires c κs = omega (arith, sound-size _ (c .before .before .loop-test .taken) (c .before .before .before .loop .inv .1))
@@ -44,10 +49,17 @@ add-rule : tie.Need-add-rule Inv-loop μ-loop
 add-rule c = omega arith
 
 loop-less : tie.Need-loop-less Inv-loop μ-loop
-loop-less c = let ws = c .before .before .before .before .before .loop .rest .now in let h = c .before .before .before .before .loop-test .taken in rw (left-behind ws _ (c .before .rule-size .ensures)) (shorter ws h)
+loop-less c =
+    let ws = c .before .before .before .before .before .loop .rest .now in
+    let h = c .before .before .before .before .loop-test .taken in
+    rw (left-behind ws _ (c .before .rule-size .ensures)) (shorter ws h)
 
 loop-again : tie.Need-loop-again Inv-loop μ-loop
-loop-again c = let ws = c .before .before .before .before .before .loop .rest .now in let h = c .before .before .before .before .loop-test .taken in rw (left-behind ws _ (c .before .rule-size .ensures)) (omega (arith, shorter ws h), sound-rest ws h (c .before .before .before .before .before .loop .inv .1), rule-go _ _ ws h (c .before .before .before .before .before .loop .inv .2) (sym (c .before .before .before .is-broken .ensures) ∙ c .before .before .if1 .left), omega (arith, shorter ws h))
+loop-again c =
+    let ws = c .before .before .before .before .before .loop .rest .now in
+    let h = c .before .before .before .before .loop-test .taken in
+    rw (left-behind ws _ (c .before .rule-size .ensures))
+    (omega (arith, shorter ws h), sound-rest ws h (c .before .before .before .before .before .loop .inv .1), rule-go _ _ ws h (c .before .before .before .before .before .loop .inv .2) (sym (c .before .before .before .is-broken .ensures) ∙ c .before .before .if1 .left), omega (arith, shorter ws h))
 
 returns-2 : tie.Need-returns-2 Inv-loop μ-loop
 returns-2 c = rule-end _ _ (c .before .loop .rest .now) (c .loop-test .left) (c .before .loop .inv .2)

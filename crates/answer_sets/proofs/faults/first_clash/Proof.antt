@@ -1,3 +1,5 @@
+-- `answer_sets::faults::first_clash` meets its contract.
+-- Assumes nothing.
 use native.Mathlib.Nat.{sub-zero}
 use native.Mathlib.Omega.{arith}
 use mathlib.Core.Path.{_≡_, sym, _∙_}
@@ -22,7 +24,10 @@ both-values-requires : tie.Need-both-values-requires Inv-loop μ-loop
 both-values-requires c κs = omega arith
 
 returns : tie.Need-returns Inv-loop μ-loop
-returns c = range-stop _ _ _ (c .before .before .loop-test .taken) (c .before .before .before .loop .inv .1) (sym (c .before .both-values .ensures) ∙ c .if1 .taken)
+returns c =
+    let c2 = c .before .before in
+    let c3 = c2 .before in
+    range-stop _ _ _ (c2 .loop-test .taken) (c3 .loop .inv .1) (sym (c .before .both-values .ensures) ∙ c .if1 .taken)
 
 add-atom : tie.Need-add-atom Inv-loop μ-loop
 add-atom c = omega arith
@@ -31,7 +36,10 @@ loop-less : tie.Need-loop-less Inv-loop μ-loop
 loop-less c = omega arith
 
 loop-again : tie.Need-loop-again Inv-loop μ-loop
-loop-again c = (omega arith, range-go _ _ _ (c .before .before .loop-test .taken) (c .before .before .before .loop .inv .1) (sym (c .before .both-values .ensures) ∙ c .if1 .left))
+loop-again c =
+    let c2 = c .before .before in
+    let c3 = c2 .before in
+    (omega arith, range-go _ _ _ (c2 .loop-test .taken) (c3 .loop .inv .1) (sym (c .before .both-values .ensures) ∙ c .if1 .left))
 
 returns-2 : tie.Need-returns-2 Inv-loop μ-loop
 returns-2 c = range-done _ _ _ (c .loop-test .left) (c .before .loop .inv .1)

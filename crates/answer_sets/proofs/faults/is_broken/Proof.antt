@@ -1,3 +1,5 @@
+-- `answer_sets::faults::is_broken` meets its contract.
+-- Assumes nothing.
 use Rattle.search.proofs.Loops.{and-stop, and-go}
 use native.Mathlib.Omega.{arith}
 use mathlib.Core.Path.{ap}

@@ -1,3 +1,5 @@
+-- `answer_sets::faults::is_unfounded` meets its contract.
+-- Assumes nothing.
 use Rattle.search.proofs.Loops.{and-stop, and-go}
 use mathlib.Core.Path.{ap}
 use mathlib.Core.Bool.{not}

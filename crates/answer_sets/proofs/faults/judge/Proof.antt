@@ -1,3 +1,5 @@
+-- `answer_sets::faults::judge` meets its contract.
+-- Assumes nothing.
 use mathlib.Core.Path.{ap}
 use native.Mathlib.Omega.{arith}
 use borrow.Author.Needs.{needs}
@@ -22,7 +24,11 @@ enum-known-atom : tie.Need-enum-known-atom
 enum-known-atom c = search needs
 
 returns : tie.Need-returns
-returns c = ap judged (says-clash _ _ _ (marked (c .before .before .before .before .before .marks-of .result)) (c .before .before .before .before .before .marks-of .ensures) (at-place (c .before .before .before .first-clash .ensures) (c .before .atom .given .1)))
+returns c =
+    let c3 = c .before .before .before in
+    let c5 = c3 .before .before in
+    ap judged
+    (says-clash _ _ _ (marked (c5 .marks-of .result)) (c5 .marks-of .ensures) (at-place (c3 .first-clash .ensures) (c .before .atom .given .1)))
 
 enum-told : tie.Need-enum-told
 enum-told c = search needs
@@ -31,19 +37,29 @@ slice-aggregate-first-broken : tie.Need-slice-aggregate-first-broken
 slice-aggregate-first-broken c = omega arith
 
 first-broken-requires : tie.Need-first-broken-requires
-first-broken-requires c κs = accepted-sound _ _ (c .before .before .before .before .before .before .before .before .pre .0) (c .before .before .before .before .before .before .before .before .pre .1)
+first-broken-requires c κs =
+    let c8 = c .before .before .before .before .before .before .before .before in
+    accepted-sound _ _ (c8 .pre .0) (c8 .pre .1)
 
 enum-known-rule : tie.Need-enum-known-rule
 enum-known-rule c = search needs
 
 returns-2 : tie.Need-returns-2
-returns-2 c = ap judged (says-broken _ _ _ (marked (c .before .before .before .before .before .before .before .before .before .marks-of .result)) (c .before .before .before .before .before .before .before .before .before .marks-of .ensures) (no-place (c .before .before .before .before .before .before .before .first-clash .ensures) (c .before .before .before .before .before .enum-told .given .1)) (at-place (c .before .before .before .first-broken .ensures) (c .before .rule .given .1)))
+returns-2 c =
+    let c3 = c .before .before .before in
+    let c5 = c3 .before .before in
+    let c7 = c5 .before .before in
+    let c9 = c7 .before .before in
+    ap judged
+    (says-broken _ _ _ (marked (c9 .marks-of .result)) (c9 .marks-of .ensures) (no-place (c7 .first-clash .ensures) (c5 .enum-told .given .1)) (at-place (c3 .first-broken .ensures) (c .before .rule .given .1)))
 
 enum-told-2 : tie.Need-enum-told-2
 enum-told-2 c = search needs
 
 derive-requires : tie.Need-derive-requires
-derive-requires c κs = (c .before .before .before .before .before .before .before .before .before .before .before .pre .0, c .before .before .before .before .before .before .before .before .before .before .before .pre .1)
+derive-requires c κs =
+    let c11 = c .before .before .before .before .before .before .before .before .before .before .before in
+    (c11 .pre .0, c11 .pre .1)
 
 slice-aggregate-first-unfounded : tie.Need-slice-aggregate-first-unfounded
 slice-aggregate-first-unfounded c = omega arith
@@ -52,7 +68,9 @@ slice-aggregate-first-unfounded-2 : tie.Need-slice-aggregate-first-unfounded-2
 slice-aggregate-first-unfounded-2 c = omega arith
 
 mul-first-unfounded : tie.Need-mul-first-unfounded
-mul-first-unfounded c = omega (arith, c .before .before .before .before .before .before .before .before .before .before .before .before .before .before .pre .0)
+mul-first-unfounded c =
+    let c14 = c .before .before .before .before .before .before .before .before .before .before .before .before .before .before in
+    omega (arith, c14 .pre .0)
 
 first-unfounded-requires : tie.Need-first-unfounded-requires
 first-unfounded-requires c κs = tt
@@ -61,13 +79,31 @@ enum-known-code : tie.Need-enum-known-code
 enum-known-code c = search needs
 
 returns-3 : tie.Need-returns-3
-returns-3 c = ap judged (says-unfounded _ _ _ (marked (c .before .before .before .before .before .before .before .before .before .before .before .before .before .before .before .marks-of .result)) (c .before .before .before .before .before .before .before .before .before .before .before .before .before .before .before .marks-of .ensures) (no-place (c .before .before .before .before .before .before .before .before .before .before .before .before .before .first-clash .ensures) (c .before .before .before .before .before .before .before .before .before .before .before .enum-told .given .1)) (no-place (c .before .before .before .before .before .before .before .before .before .first-broken .ensures) (c .before .before .before .before .before .before .before .enum-told2 .given .1)) (marked (c .before .before .before .before .before .before .derive .result)) (c .before .before .before .before .before .before .derive .ensures) (at-place (c .before .before .before .first-unfounded .ensures) (c .before .code .given .1)))
+returns-3 c =
+    let c3 = c .before .before .before in
+    let c6 = c3 .before .before .before in
+    let c7 = c6 .before in
+    let c9 = c7 .before .before in
+    let c11 = c9 .before .before in
+    let c13 = c11 .before .before in
+    let c15 = c13 .before .before in
+    ap judged
+    (says-unfounded _ _ _ (marked (c15 .marks-of .result)) (c15 .marks-of .ensures) (no-place (c13 .first-clash .ensures) (c11 .enum-told .given .1)) (no-place (c9 .first-broken .ensures) (c7 .enum-told2 .given .1)) (marked (c6 .derive .result)) (c6 .derive .ensures) (at-place (c3 .first-unfounded .ensures) (c .before .code .given .1)))
 
 enum-told-3 : tie.Need-enum-told-3
 enum-told-3 c = search needs
 
 returns-4 : tie.Need-returns-4
-returns-4 c = ap judged (says-passes _ _ _ (marked (c .before .before .before .before .before .before .before .before .before .before .before .before .before .before .marks-of .result)) (c .before .before .before .before .before .before .before .before .before .before .before .before .before .before .marks-of .ensures) (no-place (c .before .before .before .before .before .before .before .before .before .before .before .before .first-clash .ensures) (c .before .before .before .before .before .before .before .before .before .before .enum-told .given .1)) (no-place (c .before .before .before .before .before .before .before .before .first-broken .ensures) (c .before .before .before .before .before .before .enum-told2 .given .1)) (marked (c .before .before .before .before .before .derive .result)) (c .before .before .before .before .before .derive .ensures) (no-place (c .before .before .first-unfounded .ensures) (c .enum-told3 .given .1)))
+returns-4 c =
+    let c2 = c .before .before in
+    let c5 = c2 .before .before .before in
+    let c6 = c5 .before in
+    let c8 = c6 .before .before in
+    let c10 = c8 .before .before in
+    let c12 = c10 .before .before in
+    let c14 = c12 .before .before in
+    ap judged
+    (says-passes _ _ _ (marked (c14 .marks-of .result)) (c14 .marks-of .ensures) (no-place (c12 .first-clash .ensures) (c10 .enum-told .given .1)) (no-place (c8 .first-broken .ensures) (c6 .enum-told2 .given .1)) (marked (c5 .derive .result)) (c5 .derive .ensures) (no-place (c2 .first-unfounded .ensures) (c .enum-told3 .given .1)))
 
 pub judge-spec : {M : Type 1} → statement M
 judge-spec =

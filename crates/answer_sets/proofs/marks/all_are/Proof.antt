@@ -1,3 +1,5 @@
+-- `answer_sets::marks::all_are` meets its contract.
+-- Assumes nothing.
 use borrow.Author.Needs.{needs}
 use native.Mathlib.Omega.{arith}
 use mathlib.Core.Path.{_≡_, refl}
@@ -33,7 +35,10 @@ has-requires : tie.Need-has-requires Inv-loop μ-loop
 has-requires c κs = search needs
 
 returns : tie.Need-returns Inv-loop μ-loop
-returns c = all-stop _ _ (c .before .before .before .before .loop .i) 0 (c .before .before .before .loop-test .taken) (c .before .before .before .before .loop .inv .1) (differs _ _ _ true (c .before .has .ensures) (c .if1 .taken))
+returns c =
+    let c3 = c .before .before .before in
+    let c4 = c3 .before in
+    all-stop _ _ (c4 .loop .i) 0 (c3 .loop-test .taken) (c4 .loop .inv .1) (differs _ _ _ true (c .before .has .ensures) (c .if1 .taken))
 
 add-i : tie.Need-add-i Inv-loop μ-loop
 add-i c = omega arith
@@ -42,7 +47,10 @@ loop-less : tie.Need-loop-less Inv-loop μ-loop
 loop-less c = omega arith
 
 loop-again : tie.Need-loop-again Inv-loop μ-loop
-loop-again c = (omega arith, all-go _ _ (c .before .before .before .before .loop .i) 0 (c .before .before .before .loop-test .taken) (c .before .before .before .before .loop .inv .1) (differs _ _ _ false (c .before .has .ensures) (c .if1 .left)))
+loop-again c =
+    let c3 = c .before .before .before in
+    let c4 = c3 .before in
+    (omega arith, all-go _ _ (c4 .loop .i) 0 (c3 .loop-test .taken) (c4 .loop .inv .1) (differs _ _ _ false (c .before .has .ensures) (c .if1 .left)))
 
 returns-2 : tie.Need-returns-2 Inv-loop μ-loop
 returns-2 c = all-done {A = ℕ} _ _ (c .before .loop .i) 0 (c .loop-test .left) (c .before .loop .inv .1)

@@ -1,3 +1,5 @@
+-- `answer_sets::marks::has` meets its contract.
+-- Assumes nothing.
 use mathlib.Core.Bool.{false}
 use lib.ListN.{List·getD-eq-default}
 use mathlib.Core.Path.{sym}

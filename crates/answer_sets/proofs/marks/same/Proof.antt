@@ -1,3 +1,5 @@
+-- `answer_sets::marks::same` meets its contract.
+-- Assumes nothing.
 use mathlib.Core.List.{List}
 use Rattle.search.proofs.Loops.{no-difference, difference}
 use mathlib.Core.Bool.{false≢true}
@@ -30,7 +32,9 @@ shared-slice-read-if2-2 : tie.Need-shared-slice-read-if2-2 Inv-loop μ-loop
 shared-slice-read-if2-2 c = omega arith
 
 returns-2 : tie.Need-returns-2 Inv-loop μ-loop
-returns-2 c = (λ e. absurd (false≢true e), λ q. absurd (difference _ _ (c .if2 .taken) (ap (λ (l : List Bool). getD l (c .before .before .before .before .loop .i) false) q)))
+returns-2 c =
+    let c4 = c .before .before .before .before in
+    (λ e. absurd (false≢true e), λ q. absurd (difference _ _ (c .if2 .taken) (ap (λ (l : List Bool). getD l (c4 .loop .i) false) q)))
 
 add-i : tie.Need-add-i Inv-loop μ-loop
 add-i c = omega arith
@@ -42,7 +46,9 @@ loop-again : tie.Need-loop-again Inv-loop μ-loop
 loop-again c = (omega arith, below-more _ _ (c .before .before .before .before .loop .inv .1) (no-difference _ _ (c .if2 .left)))
 
 returns-3 : tie.Need-returns-3 Inv-loop μ-loop
-returns-3 c = (λ e. ext-getD false (c .before .before .before .args .a .now) _ (omega arith) (λ i h. c .before .loop .inv .1 i (omega arith)), λ q. refl)
+returns-3 c =
+    let c3 = c .before .before .before in
+    (λ e. ext-getD false (c3 .args .a .now) _ (omega arith) (λ i h. c .before .loop .inv .1 i (omega arith)), λ q. refl)
 
 pub same-spec : {M : Type 1} → statement M
 same-spec =

@@ -1,3 +1,5 @@
+-- `answer_sets::table::bad_rule` meets its contract.
+-- Assumes nothing.
 use native.Mathlib.Omega.{arith}
 use mathlib.Core.Path.{_≡_, sym}
 use Prim.Native.Nat.{_≤_, _+_, _-_}
@@ -25,34 +27,59 @@ rule-fits-requires : tie.Need-rule-fits-requires Inv-loop μ-loop
 rule-fits-requires c κs = c .before .before .before .before .pre
 
 returns-2 : tie.Need-returns-2 Inv-loop μ-loop
-returns-2 c = bad-stop _ _ _ (c .before .before .before .before .loop .rest .now) _ (c .before .before .before .loop-test .taken) (c .before .before .before .before .loop .inv .2) (c .before .rule-fits .ensures) (c .if2 .taken)
+returns-2 c =
+    let c3 = c .before .before .before in
+    let c4 = c3 .before in
+    bad-stop _ _ _ (c4 .loop .rest .now) _ (c3 .loop-test .taken) (c4 .loop .inv .2) (c .before .rule-fits .ensures) (c .if2 .taken)
 
 rule-size-requires : tie.Need-rule-size-requires Inv-loop μ-loop
-rule-size-requires c κs = omega (arith, fits-size _ (c .before .before .before .before .loop .rest .now) _ (c .before .rule-fits .ensures) (c .if2 .left))
+rule-size-requires c κs =
+    let c4 = c .before .before .before .before in
+    omega (arith, fits-size _ (c4 .loop .rest .now) _ (c .before .rule-fits .ensures) (c .if2 .left))
 
 mul-rest : tie.Need-mul-rest Inv-loop μ-loop
-mul-rest c = omega (arith, fits-size _ (c .before .before .before .before .before .loop .rest .now) _ (c .before .before .rule-fits .ensures) (c .before .if2 .left))
+mul-rest c =
+    let c2 = c .before .before in
+    let c5 = c2 .before .before .before in
+    omega (arith, fits-size _ (c5 .loop .rest .now) _ (c2 .rule-fits .ensures) (c .before .if2 .left))
 
 sub-rest : tie.Need-sub-rest Inv-loop μ-loop
-sub-rest c = omega (arith, fits-size _ (c .before .before .before .before .before .loop .rest .now) _ (c .before .before .rule-fits .ensures) (c .before .if2 .left))
+sub-rest c =
+    let c2 = c .before .before in
+    let c5 = c2 .before .before .before in
+    omega (arith, fits-size _ (c5 .loop .rest .now) _ (c2 .rule-fits .ensures) (c .before .if2 .left))
 
 part-rest-start : tie.Need-part-rest-start Inv-loop μ-loop
-part-rest-start c = omega (arith, fits-size _ (c .before .before .before .before .before .loop .rest .now) _ (c .before .before .rule-fits .ensures) (c .before .if2 .left))
+part-rest-start c =
+    let c2 = c .before .before in
+    let c5 = c2 .before .before .before in
+    omega (arith, fits-size _ (c5 .loop .rest .now) _ (c2 .rule-fits .ensures) (c .before .if2 .left))
 
 part-rest-end : tie.Need-part-rest-end Inv-loop μ-loop
 part-rest-end c = omega arith
 
 add-at : tie.Need-add-at Inv-loop μ-loop
-add-at c = omega (arith, fits-size _ (c .before .before .before .before .before .before .loop .rest .now) _ (c .before .before .before .rule-fits .ensures) (c .before .before .if2 .left))
+add-at c =
+    let c2 = c .before .before in
+    let c3 = c2 .before in
+    let c6 = c3 .before .before .before in
+    omega (arith, fits-size _ (c6 .loop .rest .now) _ (c3 .rule-fits .ensures) (c2 .if2 .left))
 
 add-rules : tie.Need-add-rules Inv-loop μ-loop
 add-rules c = omega arith
 
 loop-less : tie.Need-loop-less Inv-loop μ-loop
-loop-less c = let ws = c .before .before .before .before .before .before .loop .rest .now in let h = c .before .before .before .before .before .loop-test .taken in rw (left-behind ws _ (c .before .rule-size .ensures)) (shorter ws h)
+loop-less c =
+    let ws = c .before .before .before .before .before .before .loop .rest .now in
+    let h = c .before .before .before .before .before .loop-test .taken in
+    rw (left-behind ws _ (c .before .rule-size .ensures)) (shorter ws h)
 
 loop-again : tie.Need-loop-again Inv-loop μ-loop
-loop-again c = let ws = c .before .before .before .before .before .before .loop .rest .now in let h = c .before .before .before .before .before .loop-test .taken in rw (left-behind ws _ (c .before .rule-size .ensures)) (omega (arith, length-drop (ruleSize ws) ws, c .before .rule-size .ensures, fits-size _ ws _ (c .before .before .before .rule-fits .ensures) (c .before .before .if2 .left)), omega (arith, c .before .rule-size .ensures), bad-go _ _ _ ws _ _ (c .before .rule-size .ensures) h (c .before .before .before .before .before .before .loop .inv .2) (c .before .before .before .before .if1 .left) (c .before .before .before .rule-fits .ensures) (c .before .before .if2 .left))
+loop-again c =
+    let ws = c .before .before .before .before .before .before .loop .rest .now in
+    let h = c .before .before .before .before .before .loop-test .taken in
+    rw (left-behind ws _ (c .before .rule-size .ensures))
+    (omega (arith, length-drop (ruleSize ws) ws, c .before .rule-size .ensures, fits-size _ ws _ (c .before .before .before .rule-fits .ensures) (c .before .before .if2 .left)), omega (arith, c .before .rule-size .ensures), bad-go _ _ _ ws _ _ (c .before .rule-size .ensures) h (c .before .before .before .before .before .before .loop .inv .2) (c .before .before .before .before .if1 .left) (c .before .before .before .rule-fits .ensures) (c .before .before .if2 .left))
 
 returns-3 : tie.Need-returns-3 Inv-loop μ-loop
 returns-3 c = bad-end _ _ _ (c .before .loop .rest .now) (c .loop-test .left) (c .before .loop .inv .2)

@@ -1,3 +1,5 @@
+-- `answer_sets::table::head_in` meets its contract.
+-- Assumes nothing.
 use borrow.Author.Needs.{needs}
 use borrow.Author.Tests.{eq-eqb, ne-eqb}
 use Rattle.answer_sets.proofs.table.head_in.Statement.{statement}

@@ -1,3 +1,5 @@
+-- `answer_sets::table::parts_fit` meets its contract.
+-- Assumes nothing.
 use borrow.Author.Needs.{needs}
 use native.Mathlib.Omega.{arith}
 use mathlib.Core.Path.{_≡_, refl}
@@ -31,7 +33,10 @@ cast-part : tie.Need-cast-part Inv-loop μ-loop
 cast-part c = omega (arith, c .shared-slice-known .given (c .before .before .loop .i))
 
 returns : tie.Need-returns Inv-loop μ-loop
-returns c = all-stop _ _ (c .before .before .before .loop .i) 0 (c .before .before .loop-test .taken) (c .before .before .before .loop .inv .1) (le-ltb _ _ (c .if1 .taken))
+returns c =
+    let c2 = c .before .before in
+    let c3 = c2 .before in
+    all-stop _ _ (c3 .loop .i) 0 (c2 .loop-test .taken) (c3 .loop .inv .1) (le-ltb _ _ (c .if1 .taken))
 
 add-i : tie.Need-add-i Inv-loop μ-loop
 add-i c = omega arith
@@ -40,7 +45,10 @@ loop-less : tie.Need-loop-less Inv-loop μ-loop
 loop-less c = omega arith
 
 loop-again : tie.Need-loop-again Inv-loop μ-loop
-loop-again c = (omega arith, all-go _ _ (c .before .before .before .loop .i) 0 (c .before .before .loop-test .taken) (c .before .before .before .loop .inv .1) (lt-ltb _ _ (c .if1 .left)))
+loop-again c =
+    let c2 = c .before .before in
+    let c3 = c2 .before in
+    (omega arith, all-go _ _ (c3 .loop .i) 0 (c2 .loop-test .taken) (c3 .loop .inv .1) (lt-ltb _ _ (c .if1 .left)))
 
 returns-2 : tie.Need-returns-2 Inv-loop μ-loop
 returns-2 c = all-done {A = ℕ} _ _ (c .before .loop .i) 0 (c .loop-test .left) (c .before .loop .inv .1)

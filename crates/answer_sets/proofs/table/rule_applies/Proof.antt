@@ -1,3 +1,5 @@
+-- `answer_sets::table::rule_applies` meets its contract.
+-- Assumes nothing.
 use Rattle.answer_sets.specs.Parts.{marked}
 use Rattle.answer_sets.proofs.Fronts.{applies-stop, applies-go}
 use borrow.Author.Needs.{needs}
@@ -35,7 +37,9 @@ all-are-requires : tie.Need-all-are-requires
 all-are-requires c κs = search needs
 
 returns : tie.Need-returns
-returns c = applies-stop (marked (c .before .before .before .before .before .before .before .before .args .x .now)) (marked (c .before .before .before .before .before .before .before .before .args .y .now)) (c .before .before .before .before .before .before .before .before .args .rest .now) _ (c .before .all-are .ensures) (c .if1 .taken)
+returns c =
+    let c8 = c .before .before .before .before .before .before .before .before in
+    applies-stop (marked (c8 .args .x .now)) (marked (c8 .args .y .now)) (c8 .args .rest .now) _ (c .before .all-are .ensures) (c .if1 .taken)
 
 mul-all-are : tie.Need-mul-all-are
 mul-all-are c = search needs
@@ -53,7 +57,12 @@ all-are-requires-2 : tie.Need-all-are-requires-2
 all-are-requires-2 c κs = search needs
 
 returns-2 : tie.Need-returns-2
-returns-2 c = applies-go (marked (c .before .before .before .before .before .before .before .before .before .before .args .x .now)) (marked (c .before .before .before .before .before .before .before .before .before .before .args .y .now)) (c .before .before .before .before .before .before .before .before .before .before .args .rest .now) _ (c .before .before .before .all-are .ensures) _ (c .before .before .if1 .left) (c .all-are2 .ensures)
+returns-2 c =
+    let c2 = c .before .before in
+    let c3 = c2 .before in
+    let c10 = c3 .before .before .before .before .before .before .before in
+    applies-go (marked (c10 .args .x .now)) (marked (c10 .args .y .now)) (c10 .args .rest .now) _ (c3 .all-are .ensures) _ (c2 .if1 .left)
+    (c .all-are2 .ensures)
 
 pub rule-applies-spec : {M : Type 1} → statement M
 rule-applies-spec =

@@ -1,3 +1,5 @@
+-- `answer_sets::table::rule_derives` meets its contract.
+-- Assumes nothing.
 use borrow.Author.Tests.{eq-eqb, ne-eqb}
 use borrow.Author.Needs.{needs}
 use Rattle.answer_sets.proofs.table.rule_derives.Statement.{statement}

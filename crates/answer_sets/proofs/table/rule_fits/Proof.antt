@@ -1,3 +1,5 @@
+-- `answer_sets::table::rule_fits` meets its contract.
+-- Assumes nothing.
 use native.Mathlib.Omega.{arith}
 use Rattle.answer_sets.proofs.Fronts.{fits-short, fits-head, fits-parts}
 use borrow.Author.Needs.{needs}
@@ -23,7 +25,9 @@ head-fits-requires : tie.Need-head-fits-requires
 head-fits-requires c κs = search needs
 
 returns-3 : tie.Need-returns-3
-returns-3 c = fits-head _ (c .before .before .before .before .before .before .before .args .rest .now) _ (omega arith) (c .before .head-fits .ensures) (c .if3 .taken)
+returns-3 c =
+    let c7 = c .before .before .before .before .before .before .before in
+    fits-head _ (c7 .args .rest .now) _ (omega arith) (c .before .head-fits .ensures) (c .if3 .taken)
 
 sub-parts-fit : tie.Need-sub-parts-fit
 sub-parts-fit c = search needs
@@ -38,7 +42,12 @@ parts-fit-requires : tie.Need-parts-fit-requires
 parts-fit-requires c κs = search needs
 
 returns-4 : tie.Need-returns-4
-returns-4 c = fits-parts _ (c .before .before .before .before .before .before .before .before .before .args .rest .now) _ _ _ (c .before .before .before .before .before .before .rule-size .ensures) (omega arith) (c .before .before .before .head-fits .ensures) (c .before .before .if3 .left) (c .parts-fit .ensures)
+returns-4 c =
+    let c2 = c .before .before in
+    let c3 = c2 .before in
+    let c6 = c3 .before .before .before in
+    let c9 = c6 .before .before .before in
+    fits-parts _ (c9 .args .rest .now) _ _ _ (c6 .rule-size .ensures) (omega arith) (c3 .head-fits .ensures) (c2 .if3 .left) (c .parts-fit .ensures)
 
 pub rule-fits-spec : {M : Type 1} → statement M
 rule-fits-spec =

@@ -1,3 +1,5 @@
+-- `answer_sets::table::rule_size` meets its contract.
+-- Assumes nothing.
 use borrow.Author.Needs.{needs}
 use native.Mathlib.Omega.{arith}
 use Prim.Native.Nat.{_-_}

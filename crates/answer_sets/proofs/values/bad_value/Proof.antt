@@ -1,3 +1,5 @@
+-- `answer_sets::values::bad_value` meets its contract.
+-- Assumes nothing.
 use native.Mathlib.Omega.{arith}
 use mathlib.Core.Path.{_≡_, refl}
 use Prim.Native.Nat.{ℕ, _≤_, _-_}
@@ -23,7 +25,10 @@ shared-slice-read-if1 : tie.Need-shared-slice-read-if1 Inv-loop μ-loop
 shared-slice-read-if1 c = omega arith
 
 returns : tie.Need-returns Inv-loop μ-loop
-returns c = first-stop _ _ (c .before .before .before .loop .i) 0 (c .before .before .loop-test .taken) (c .before .before .before .loop .inv .1) (lt-ltb _ _ (c .if1 .taken))
+returns c =
+    let c2 = c .before .before in
+    let c3 = c2 .before in
+    first-stop _ _ (c3 .loop .i) 0 (c2 .loop-test .taken) (c3 .loop .inv .1) (lt-ltb _ _ (c .if1 .taken))
 
 add-i : tie.Need-add-i Inv-loop μ-loop
 add-i c = omega arith
@@ -32,7 +37,10 @@ loop-less : tie.Need-loop-less Inv-loop μ-loop
 loop-less c = omega arith
 
 loop-again : tie.Need-loop-again Inv-loop μ-loop
-loop-again c = (omega arith, first-go _ _ (c .before .before .before .loop .i) 0 (c .before .before .loop-test .taken) (c .before .before .before .loop .inv .1) (le-ltb _ _ (c .if1 .left)))
+loop-again c =
+    let c2 = c .before .before in
+    let c3 = c2 .before in
+    (omega arith, first-go _ _ (c3 .loop .i) 0 (c2 .loop-test .taken) (c3 .loop .inv .1) (le-ltb _ _ (c .if1 .left)))
 
 returns-2 : tie.Need-returns-2 Inv-loop μ-loop
 returns-2 c = first-done {A = ℕ} _ _ (c .before .loop .i) 0 (c .loop-test .left) (c .before .loop .inv .1)

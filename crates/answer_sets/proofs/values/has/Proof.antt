@@ -1,3 +1,5 @@
+-- `answer_sets::values::has` meets its contract.
+-- Assumes nothing.
 use borrow.Author.Tests.{eq-eqb, ne-eqb}
 use Rattle.answer_sets.specs.Literals.{setOf}
 use Rattle.answer_sets.proofs.Stores.{setOf-past}

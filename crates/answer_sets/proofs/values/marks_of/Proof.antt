@@ -1,3 +1,5 @@
+-- `answer_sets::values::marks_of` meets its contract.
+-- Assumes nothing.
 use native.Mathlib.Omega.{arith}
 use mathlib.Core.Path.{_≡_}
 use mathlib.Core.Bool.{false, _&&_}
@@ -38,7 +40,12 @@ loop-less : tie.Need-loop-less Inv-loop μ-loop
 loop-less c = omega arith
 
 loop-again : tie.Need-loop-again Inv-loop μ-loop
-loop-again c = (omega arith, simp length-set (c .before .before .loop .inv .1), fill-step _ (c .before .before .loop .marks) (c .before .before .loop .code) _ (omega arith) (c .has .ensures) (c .before .before .loop .inv .2))
+loop-again c =
+    let c2 = c .before .before in (
+      omega arith,
+      simp length-set (c2 .loop .inv .1),
+      fill-step _ (c2 .loop .marks) (c2 .loop .code) _ (omega arith) (c .has .ensures) (c2 .loop .inv .2),
+    )
 
 returns : tie.Need-returns Inv-loop μ-loop
 returns c = fill-done _ (c .before .loop .code) (c .before .loop .marks) (omega arith) (c .before .loop .inv .2)
