@@ -1,11 +1,13 @@
 -- The engine's theory, and the laws that its functions' proofs cite.
 pub mod Sets
+pub mod Complements
 pub mod Least
+pub mod Supported
 pub mod FirstFault
 pub mod Passes
 pub mod Decoding
+pub mod Theorems
 pub mod Stores
 pub mod Fronts
 pub mod Judging
 pub mod Examples
-pub mod Theorems

@@ -117,7 +117,7 @@ pub(crate) fn head_in(head: usize, x: &[bool]) -> bool
     ensures { λ r. ⌜ r ≡ headIn (headOf head) (marked (now (x .entry))) ⌝ }
 {
     if head == 65535 {
-        return false;
+        return false; // false is in no set
     }
     marks::has(x, head)
 }

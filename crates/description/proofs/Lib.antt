@@ -1,2 +1,4 @@
--- What acceptance gives to the crates above, and what the functions' proofs cite.
+-- The laws of descriptions that proofs above cite.
 pub mod Laws
+pub mod Literals
+pub mod Fits

@@ -1,3 +1,4 @@
 -- Laws of the searches, as facts and as loops make them.
 pub mod Tests
+pub mod Lists
 pub mod Loops

@@ -11,9 +11,9 @@ use lib.ListN.{length, length-take}
 use borrow.Author.Tests.{ltb-true, eqb-true, eqb-false, eq-eqb, ne-eqb}
 use Rattle.answer_sets.specs.Literals.{complement}
 use Rattle.answer_sets.specs.Rules.{Rule}
-use Rattle.answer_sets.specs.Verdicts.{range}
+use Rattle.search.specs.Search.{Each, range}
 use Rattle.answer_sets.specs.Words.{words}
-use Rattle.search.proofs.Tests.{Each, each-map, each-append}
+use Rattle.search.proofs.Tests.{each-map, each-append}
 use Rattle.answer_sets.proofs.Least.{HeadBelow}
 use Rattle.answer_sets.proofs.Decoding.{RuleBelow, CodesBelow}
 use Rattle.description.specs.declared.Head as described

@@ -9,7 +9,7 @@ use lib.ListN.{length, length-append, length-map}
 use Rattle.answer_sets.specs.Literals.{complement}
 use Rattle.answer_sets.specs.Rules.{Rule}
 use Rattle.answer_sets.specs.Words.{ruleWords, words}
-use Rattle.answer_sets.specs.Verdicts.{range}
+use Rattle.search.specs.Search.{range}
 use Rattle.search.proofs.Tests.{length-range}
 use Rattle.description.specs.declared.Kind.{Kind}
 use Rattle.description.specs.declared.Kind.the-variants.{Static, Dynamic}

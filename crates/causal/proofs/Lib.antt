@@ -1,0 +1,2 @@
+-- The laws of the causal reading that proofs cite.
+pub mod Causes

@@ -1,0 +1,143 @@
+-- A transition is causally explained exactly where the resulting state satisfies all that is caused and the literal of each
+-- fluent that holds there is caused: "the set of formulas caused is the state" (000, section 2).
+-- Assumes nothing.
+use mathlib.Core.Path.{_≡_, refl, sym, _∙_}
+use mathlib.Core.Logic.{_↔_, ⊎-elim}
+use mathlib.Core.Bool.{Bool, true, false, not, cond, and-true}
+use mathlib.Core.List.{List, [], _∷_, List·Memᴰ}
+use Prim.Native.Nat.{ℕ, _+_, _*_, _/_, _<_}
+use native.Mathlib.Omega.{arith}
+use lib.Dec.{eqb}
+use borrow.Author.Tests.{eqb-true, eq-eqb}
+use Rattle.search.specs.Search.{Each}
+use Rattle.search.proofs.Tests.{not-both, false-of-not, true-of-not, not-iff, each-map₂}
+use Rattle.search.proofs.Lists.{each-member, member-each}
+use Rattle.description.specs.declared.Head.{Head}
+use Rattle.description.specs.declared.Head.the-variants.{Lit, False}
+use Rattle.description.specs.declared.Kind.{Kind}
+use Rattle.description.specs.declared.Kind.the-variants.{Static, Dynamic}
+use Rattle.description.specs.declared.Law.{Law}
+use Rattle.description.specs.Laws.{ifList}
+use Rattle.description.specs.Meaning.{Interpretation, satisfies, holds, satisfiesHead, causing, caused, SatisfiesAll, Explained}
+use Rattle.description.proofs.Literals.{even-or-odd, satisfies-even, satisfies-odd}
+use Rattle.causal.specs.Verdicts.{appliesInStep, literalIn, headIs, someCause}
+use Rattle.causal.proofs.Causes.{Heads, cause-heads, heads-cause}
+
+-- The literal of a fluent that holds
+
+pub satisfied-literal : (I : Interpretation) (c : ℕ) → satisfies I c ≡ true → c ≡ literalIn I (c / 2)
+satisfied-literal I c e = ⊎-elim even odd (even-or-odd c)
+  where
+    even : c ≡ 2 * (c / 2) → c ≡ literalIn I (c / 2)
+    even p = let t : I (c / 2) ≡ true = sym (satisfies-even I (c / 2)) ∙ (rw p at e) in rw t p
+
+    odd : c ≡ 2 * (c / 2) + 1 → c ≡ literalIn I (c / 2)
+    odd p = let f : I (c / 2) ≡ false = not-iff (I (c / 2)) .0 (sym (satisfies-odd I (c / 2)) ∙ (rw p at e)) in rw f p
+
+pub literal-holds : (I : Interpretation) (f : ℕ) → satisfies I (literalIn I f) ≡ true
+literal-holds I f = go (I f) refl
+  where
+    go : (b : Bool) → I f ≡ b → satisfies I (literalIn I f) ≡ true
+    go true t = rw t (satisfies-even I f ∙ t)
+    go false e = rw e (satisfies-odd I f ∙ not-iff (I f) .1 e)
+
+pub literal-below : (I : Interpretation) (f n : ℕ) → f < n → literalIn I f < 2 * n
+literal-below I f n b = go (I f)
+  where
+    go : (v : Bool) → cond v (2 * f) (2 * f + 1) < 2 * n
+    go true = omega arith
+    go false = omega arith
+
+literal-satisfied : (I J : Interpretation) (f : ℕ) → satisfies I (literalIn J f) ≡ true → I f ≡ J f
+literal-satisfied I J f = go (J f) refl
+  where
+    go : (b : Bool) → J f ≡ b → satisfies I (literalIn J f) ≡ true → I f ≡ J f
+    go true t e = rw t (sym (satisfies-even I f) ∙ (rw t at e))
+    go false t e = rw t (not-iff (I f) .0 (sym (satisfies-odd I f) ∙ (rw t at e)))
+
+-- an interpretation with the value of one fluent changed
+flipped : Interpretation → ℕ → Interpretation
+flipped I f i = cond (eqb i f) (not (I i)) (I i)
+
+flips : (I : Interpretation) (f : ℕ) → flipped I f f ≡ I f → ⊥
+unfolding flipped
+flips I f e = differs (I f) (rw (eq-eqb f f refl) at e)
+  where
+    differs : (b : Bool) → not b ≡ b → ⊥
+    differs true p = not-both p refl
+    differs false p = not-both refl p
+
+-- it still satisfies each head but the literal of that fluent
+flipped-head : (I : Interpretation) (f : ℕ) (h : Head) → satisfiesHead I h ≡ true → headIs h (literalIn I f) ≡ false
+    → satisfiesHead (flipped I f) h ≡ true
+unfolding flipped
+flipped-head I f (Lit c) e other = rw elsewhere e
+  where
+    elsewhere : eqb (c / 2) f ≡ false
+    elsewhere = false-of-not (eqb (c / 2) f) (λ t. let same : c / 2 ≡ f = eqb-true (c / 2) f t in
+        not-both (eq-eqb c (literalIn I f) (rw same at (satisfied-literal I c e))) other)
+flipped-head I f False e other = e
+
+-- What is caused, law by law
+
+module _ (n : ℕ) (s a s′ : Interpretation) where
+  abbrev applies : Law → Bool
+  applies = appliesInStep n s a s′
+
+  causing-applies : (k : Kind) (l : Law) → l .kind ≡ k → causing n s a s′ k l ≡ applies l
+  causing-applies Static l e = rw e (sym (and-true (holds s′ (ifList l))))
+  causing-applies Dynamic l e = rw e
+
+  pub caused-iff : (P : Head → Type 0) (ls : List Law) → Each P (caused n s a s′ ls) ↔ Heads P (appliesInStep n s a s′) ls
+  caused-iff P [] = (λ h. h, λ h. h)
+  caused-iff P (l ∷ ls) = go (causing n s a s′ (l .kind) l) refl (caused-iff P ls)
+    where
+      same : causing n s a s′ (l .kind) l ≡ applies l
+      same = causing-applies (l .kind) l refl
+
+      go : (b : Bool) → causing n s a s′ (l .kind) l ≡ b → (Each P (caused n s a s′ ls) ↔ Heads P applies ls)
+          → Each P (caused n s a s′ (l ∷ ls)) ↔ Heads P applies (l ∷ ls)
+      go true t rest = rw t (λ h. (λ e. h .0, rest .0 (h .1)), λ h. (h .0 (sym same ∙ t), rest .1 (h .1)))
+      go false f rest = rw f (λ h. (λ e. absurd (not-both (same ∙ e) f), rest .0 h), λ h. rest .1 (h .1))
+
+  -- a literal has a cause exactly where it is caused
+  pub cause-iff-caused : (c : ℕ) (ls : List Law) → someCause (appliesInStep n s a s′) c ls ≡ true ↔ List·Memᴰ (Lit c) (caused n s a s′ ls)
+  cause-iff-caused c ls = (
+    λ e. cause-heads applies c (λ h. List·Memᴰ h heads) ls e (caused-iff (λ h. List·Memᴰ h heads) ls .0 (each-member heads)),
+    λ m. member-each Caused heads (caused-iff Caused ls .1 (heads-cause applies c ls)) m (eq-eqb c c refl),
+  )
+    where
+      heads : List Head
+      heads = caused n s a s′ ls
+
+      Caused : Head → Type 0
+      Caused h = headIs h c ≡ true → someCause applies c ls ≡ true
+
+  -- Explained transitions
+
+  -- all that is caused is satisfied, and each fluent's literal is caused
+  abbrev pub StateCaused : List Law → Type 0
+  StateCaused ls =
+      SatisfiesAll s′ (caused n s a s′ ls) × ((f : ℕ) → f < n → someCause (appliesInStep n s a s′) (literalIn s′ f) ls ≡ true)
+
+  -- else the state with that fluent's value changed would satisfy all that is caused too
+  explained-caused : (ls : List Law) → Explained n ls s a s′ → (f : ℕ) → f < n → someCause applies (literalIn s′ f) ls ≡ true
+  explained-caused ls h f b =
+      true-of-not (someCause applies (literalIn s′ f) ls) (λ uncaused. flips s′ f (h .only (flipped s′ f) (satisfied uncaused) f b))
+    where
+      satisfied : someCause applies (literalIn s′ f) ls ≡ false → SatisfiesAll (flipped s′ f) (caused n s a s′ ls)
+      satisfied uncaused =
+          caused-iff (λ h. satisfiesHead (flipped s′ f) h ≡ true) ls .1
+          (each-map₂ (λ l holds cause e. flipped-head s′ f (l .head) (holds e) (false-of-not _ (λ i. not-both (cause e i) uncaused))) ls
+          (caused-iff (λ h. satisfiesHead s′ h ≡ true) ls .0 (h .satisfied)) (heads-cause applies (literalIn s′ f) ls))
+
+  pub explained-iff : (ls : List Law) → Explained n ls s a s′ ↔ StateCaused ls
+  explained-iff ls = (
+    λ h. (h .satisfied, explained-caused ls h),
+    λ h. record {
+      satisfied = h .0;
+      only = λ I all f b. literal-satisfied I s′ f
+          (cause-heads applies (literalIn s′ f) (λ h. satisfiesHead I h ≡ true) ls (h .1 f b)
+          (caused-iff (λ h. satisfiesHead I h ≡ true) ls .0 all));
+    },
+  )

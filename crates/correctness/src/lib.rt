@@ -1,0 +1,4 @@
+// The theorems that join the layers; no code.
+pub enum Nothing {
+    Here,
+}
