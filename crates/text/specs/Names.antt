@@ -1,0 +1,36 @@
+-- Names and literals.
+-- Assumes nothing.
+use mathlib.Core.Bool.{Bool, true, false, not, cond, _&&_}
+use mathlib.Core.List.{List, [], _∷_}
+use mathlib.Core.Option.{Option, none, some}
+use Prim.Native.Nat.{ℕ, _+_, _*_}
+use lib.Dec.{eqb, ltb, leb}
+use lib.ListN.{length}
+use Rattle.search.specs.Search.{all, first}
+use Rattle.text.specs.Bytes.{hyphen, isLetter, isNameByte, same}
+
+abbrev pub falseBytes : List ℕ
+falseBytes = 102 ∷ 97 ∷ 108 ∷ 115 ∷ 101 ∷ []
+
+-- a letter, then up to 15 letters, digits or underscores; `false` is no name
+abbrev pub startsWithLetter : List ℕ → Bool
+startsWithLetter [] = false
+startsWithLetter (b ∷ bs) = isLetter b
+
+unfoldable pub isName : List ℕ → Bool
+isName bs = startsWithLetter bs && leb (length bs) 16 && all isNameByte bs && not (same bs falseBytes)
+
+-- where a name was declared: fluents and actions have one list, fluents first, so that the place i stands for code 2i
+abbrev pub declaredAt : List (List ℕ) → List ℕ → Option ℕ
+declaredAt names bs = first (same bs) 0 names
+
+-- the names that a literal may have: those from place low up to, not including, place high
+abbrev pub inSort : ℕ → ℕ → ℕ → Option ℕ → Option ℕ
+inSort low high sign none = none
+inSort low high sign (some i) = cond (leb low i && ltb i high) (some (2 * i + sign)) none
+
+-- the code of a literal of the allowed sort: a name, or a hyphen and a name
+unfoldable pub literal : List (List ℕ) → ℕ → ℕ → List ℕ → Option ℕ
+literal names low high [] = inSort low high 0 (declaredAt names [])
+literal names low high (b ∷ bs) =
+    cond (eqb b hyphen) (inSort low high 1 (declaredAt names bs)) (inSort low high 0 (declaredAt names (b ∷ bs)))
