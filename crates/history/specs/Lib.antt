@@ -1,0 +1,2 @@
+-- What the history check's promise means.
+pub mod Checks
