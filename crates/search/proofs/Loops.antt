@@ -53,10 +53,10 @@ module _ (p : ℕ → Bool) (i n : ℕ) {R : Option ℕ} where
 
 -- the elements of the first count that are not yet passed
 pub rest-cons : {A : Type 0} (xs : List A) (count i : ℕ) (d : A) → i < count → count ≤ length xs
-    → drop i (take count xs) ≡ getD xs i d ∷ drop (suc i) (take count xs)
+    → drop i (take count xs) ≡ getD xs i d ∷ drop (i + 1) (take count xs)
 rest-cons xs count i d more within =
     let size : i < length (take count xs) = omega (arith, length-take count xs) in
-    drop-cons (take count xs) i d size ∙ ap (λ x. x ∷ drop (suc i) (take count xs)) (getD-take count xs i d more)
+    rw (add-one, drop-cons (take count xs) i d size, getD-take)
 
 pub rest-done : {A : Type 0} (xs : List A) (count i : ℕ) → count ≤ i → drop i (take count xs) ≡ []
 rest-done xs count i h = drop-of-length-le (take count xs) {i = i} (omega (arith, length-take count xs))
@@ -68,7 +68,7 @@ module _ {A : Type 0} (p : A → Bool) (xs : List A) (count i : ℕ) (d : A) {R 
 
   pub prefix-go : i < count → count ≤ length xs → first p i (drop i (take count xs)) ≡ R → p (getD xs i d) ≡ false
       → first p (i + 1) (drop (i + 1) (take count xs)) ≡ R
-  prefix-go h within inv e = rw (add-one i) (rw (rest-cons xs count i d h within, e) at inv)
+  prefix-go h within inv e = rw (add-one i) (rw (rest-cons xs count i d h within, e, add-one i) at inv)
 
 pub prefix-done : {A : Type 0} (p : A → Bool) (xs : List A) (count i : ℕ) {R : Option ℕ} → count ≤ i
     → first p i (drop i (take count xs)) ≡ R → none ≡ R

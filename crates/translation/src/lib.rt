@@ -1,6 +1,38 @@
+// The published translation of action language C into rules (000, section 4), written as words into a lent table.
+use description::Description;
 use description::Law;
+use search::Found;
+ghost use mathlib.Core.Path.{_≡_};
+ghost use lib.ListN.{length};
+ghost use Rattle.translation.specs.Translated.{outcomeOf, outcome, tableAfter};
 
+mod lists;
+mod sizes;
+mod writers;
+
+// A refusal's number and place, or how many atoms, rules and words there are.
 pub enum Translated {
     Refused(u8, usize),
     Written(usize, usize, usize),
+}
+
+// Writes the translation of the laws that the description counts. Nothing is written where the answer is a refusal.
+pub fn translate(d: Description, laws: [Law; 64], lent: usize, table: &mut [u16]) -> Translated
+    ensures { λ r. ⌜ outcomeOf r ≡ outcome d laws lent (length (now (table .entry))) ⌝ }
+    ensures { λ _. ⌜ now (table .exit) ≡ tableAfter d laws lent (now (table .entry)) ⌝ }
+{
+    if let Found::At(place) = description::bad_record(d, laws, lent) {
+        return Translated::Refused(8, place);
+    }
+    if let Found::At(place) = description::bad_horizon(d.horizon) {
+        return Translated::Refused(3, place);
+    }
+    let needed = sizes::words_needed(d, laws);
+    if table.len() < needed {
+        return Translated::Refused(9, needed);
+    }
+    let atoms = d.horizon * (d.fluents + d.actions) + d.fluents;
+    let rules = sizes::rules_needed(d, laws);
+    let words = writers::write_table(table, d, laws);
+    Translated::Written(atoms, rules, words)
 }

@@ -9,7 +9,6 @@ use lib.ListN.{length, take, drop}
 use borrow.Author.Tests.{le-leb, lt-leb, lt-ltb, le-ltb}
 use Rattle.description.specs.Acceptance.{codesBelow}
 use Rattle.search.proofs.Loops.{rest-cons, rest-done}
-use native.Mathlib.Numerals.{add-one}
 use Rattle.description.proofs.list_fits.Statement.{statement}
 use Rattle.description.proofs.list_fits.Tie as tie
 
@@ -39,7 +38,7 @@ next : (c : tie.After-wide Inv-loop μ-loop) → let h = c .before .before in
     && codesBelow (h .before .before .args .limit) (drop (h .loop .i + 1) (take (h .before .before .args .count) (h .before .before .args .t1))))
 next c =
     let h = c .before .before in
-    rw (c .wide .ensures, ← h .loop .inv .3, rest-cons (h .before .before .args .t1) (h .before .before .args .count) (h .loop .i) 0 (c .before .loop-test .taken) (omega arith), add-one)
+    rw (c .wide .ensures, ← h .loop .inv .3, rest-cons (h .before .before .args .t1) (h .before .before .args .count) (h .loop .i) 0 (c .before .loop-test .taken) (omega arith))
 
 returns-2 : tie.Need-returns-2 Inv-loop μ-loop
 returns-2 c = rw (le-leb _ _ (c .before .before .before .loop .inv .1), next (c .before), le-ltb _ _ (c .if2 .taken))

@@ -1,0 +1,48 @@
+-- What the counting loops share: sums over the laws not yet passed, and what one law adds.
+-- Assumes nothing.
+use mathlib.Core.Path.{_≡_, refl}
+use mathlib.Core.Bool.{cond}
+use mathlib.Core.List.{List, [], _∷_}
+use Prim.Native.Nat.{ℕ, suc, _+_, _*_, _<_, _≤_}
+use native.Mathlib.Nat.{add-zero}
+use native.Mathlib.Numerals.{add-one}
+use native.Mathlib.Omega.{arith}
+use lib.ListN.{length, take, drop, getD}
+use Rattle.description.specs.declared.Head.the-variants.{Lit}
+use Rattle.description.specs.declared.Kind.{Kind}
+use Rattle.description.specs.declared.Kind.the-variants.{Static, Dynamic}
+use Rattle.description.specs.declared.Law.{Law}
+use Rattle.description.specs.Laws.{isStatic, ifList, afterList}
+use Rattle.search.proofs.Loops.{rest-cons}
+use Rattle.translation.proofs.Counts.{sumLaws, staticOf, dynamicOf, statics, dynamics, lawWordsOf}
+
+-- a turn adds what the next law counts, and takes it off what is left
+pub sum-turn : (g : Kind → Law → ℕ) (laws : List Law) (d : Law) (count i total : ℕ) {x sum : ℕ} → i < count → count ≤ length laws
+    → x ≡ g (getD laws i d .kind) (getD laws i d) → total + sumLaws g (drop i (take count laws)) ≡ sum
+    → total + x + sumLaws g (drop (i + 1) (take count laws)) ≡ sum
+sum-turn g laws d count i total h k e left = omega (arith, e, rw (rest-cons laws count i d h k) at left)
+
+-- what a read past the end of a run of laws would give
+abbrev pub past : Law
+past = record { kind = Static; head = Lit 0; «if_count» = 0; «if_codes» = []; «after_count» = 0; «after_codes» = [] }
+
+-- as many rules as a law has, each of one size
+pub law-words : (T : ℕ) (l : Law) {x y : ℕ} → x ≡ cond (isStatic (l .kind)) (T + 1) T
+    → y ≡ 3 + length (ifList l) + cond (isStatic (l .kind)) 0 (length (afterList l)) → x * y ≡ lawWordsOf T (l .kind) l
+law-words T l p q = rw (p, q) (go (l .kind))
+  where
+    go : (k : Kind) → cond (isStatic k) (T + 1) T * (3 + length (ifList l) + cond (isStatic k) 0 (length (afterList l))) ≡ lawWordsOf T k l
+    go Static = rw (add-one T, add-zero (3 + length (ifList l)))
+    go Dynamic = refl
+
+-- the number of rules of one law, and of all
+abbrev pub ruleTimes : ℕ → Kind → Law → ℕ
+ruleTimes T k l = cond (isStatic k) (T + 1) T
+
+pub rules-sum : (T : ℕ) (ls : List Law) → sumLaws (ruleTimes T) ls ≡ statics ls * suc T + dynamics ls * T
+rules-sum T [] = omega arith
+rules-sum T (l ∷ ls) = omega (arith, rules-sum T ls, one (l .kind))
+  where
+    one : (k : Kind) → cond (isStatic k) (T + 1) T ≡ staticOf k * suc T + dynamicOf k * T
+    one Static = omega arith
+    one Dynamic = omega arith

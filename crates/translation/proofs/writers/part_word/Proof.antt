@@ -1,0 +1,46 @@
+-- `part_word` meets its contract. The complement of an even code is the next one, and of an odd code the one before.
+-- Assumes nothing.
+use borrow.Author.Needs.{needs}
+use borrow.Author.Tests.{eq-eqb, ne-eqb}
+use Rattle.answer_sets.specs.Literals.{complement}
+use Rattle.translation.proofs.writers.part_word.Statement.{statement}
+use Rattle.translation.proofs.writers.part_word.Tie as tie
+
+add-result : tie.Need-add-result
+add-result c = search needs
+
+cast-result : tie.Need-cast-result
+cast-result c = search needs
+
+sub-result : tie.Need-sub-result
+sub-result c = search needs
+
+cast-result-2 : tie.Need-cast-result-2
+cast-result-2 c = search needs
+
+cast-result-3 : tie.Need-cast-result-3
+cast-result-3 c = search needs
+
+returns : tie.Need-returns
+unfolding complement
+returns c = rw (c .before .if1 .taken, eq-eqb _ 0 (c .if2 .taken))
+
+returns-2 : tie.Need-returns-2
+unfolding complement
+returns-2 c = rw (c .before .if1 .taken, ne-eqb _ 0 (c .if2 .left))
+
+returns-3 : tie.Need-returns-3
+returns-3 c = rw (c .if1 .left)
+
+pub part-word-spec : {M : Type 1} → statement M
+part-word-spec =
+    tie.close
+    (tie.spec
+    add-result
+    cast-result
+    sub-result
+    cast-result-2
+    cast-result-3
+    returns
+    returns-2
+    returns-3)
