@@ -4,4 +4,5 @@ pub mod Bounds
 pub mod RuleByRule
 pub mod Sums
 pub mod Writing
+pub mod Outcomes
 pub mod Examples

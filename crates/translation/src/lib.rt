@@ -16,10 +16,9 @@ pub enum Translated {
     Written(usize, usize, usize),
 }
 
-// Writes the translation of the laws that the description counts. Nothing is written where the answer is a refusal.
-pub fn translate(d: Description, laws: [Law; 64], lent: usize, table: &mut [u16]) -> Translated
-    ensures { λ r. ⌜ outcomeOf r ≡ outcome d laws lent (length (now (table .entry))) ⌝ }
-    ensures { λ _. ⌜ now (table .exit) ≡ tableAfter d laws lent (now (table .entry)) ⌝ }
+// What the translation answers for a table of so many words. Nothing is written.
+pub fn measure(d: Description, laws: [Law; 64], lent: usize, room: usize) -> Translated
+    ensures { λ r. ⌜ outcomeOf r ≡ outcome d laws lent room ⌝ }
 {
     if let Found::At(place) = description::bad_record(d, laws, lent) {
         return Translated::Refused(8, place);
@@ -28,11 +27,25 @@ pub fn translate(d: Description, laws: [Law; 64], lent: usize, table: &mut [u16]
         return Translated::Refused(3, place);
     }
     let needed = sizes::words_needed(d, laws);
-    if table.len() < needed {
+    if room < needed {
         return Translated::Refused(9, needed);
     }
     let atoms = d.horizon * (d.fluents + d.actions) + d.fluents;
     let rules = sizes::rules_needed(d, laws);
-    let words = writers::write_table(table, d, laws);
-    Translated::Written(atoms, rules, words)
+    Translated::Written(atoms, rules, needed)
+}
+
+// Writes the translation of the laws that the description counts. Nothing is written where the answer is a refusal.
+pub fn translate(d: Description, laws: [Law; 64], lent: usize, table: &mut [u16]) -> Translated
+    ensures { λ r. ⌜ outcomeOf r ≡ outcome d laws lent (length (now (table .entry))) ⌝ }
+    ensures { λ _. ⌜ now (table .exit) ≡ tableAfter d laws lent (now (table .entry)) ⌝ }
+{
+    let measured = measure(d, laws, lent, table.len());
+    match measured {
+        Translated::Refused(number, place) => Translated::Refused(number, place),
+        Translated::Written(atoms, rules, _) => {
+            let words = writers::write_table(table, d, laws);
+            Translated::Written(atoms, rules, words)
+        }
+    }
 }

@@ -1,123 +1,53 @@
--- `translate` meets its contract. Each refusal answers before anything is written; else the room that was tested is enough.
+-- `translate` meets its contract. What `measure` says is the answer; the words are written only where it is no refusal.
 -- Assumes nothing.
-use mathlib.Core.Option.{none, some}
 use mathlib.Core.Path.{_≡_, refl, sym, ap, _∙_}
-use Prim.Native.Nat.{_+_, _*_, _≤_}
-use native.Mathlib.Omega.{arith}
 use borrow.Author.Needs.{needs}
-use borrow.Author.Tests.{lt-ltb, le-ltb}
-use Rattle.description.proofs.Laws.{accepted-counts, accepted-horizon}
-use Rattle.search.specs.Search.{placeOf}
-use Rattle.description.specs.Acceptance.{badRecord, badHorizon}
-use Rattle.translation.specs.Translated.{outcome, tableAfter}
-use Rattle.translation.proofs.Writing.{product-bound}
+use lib.ListN.{length}
+use Rattle.translation.specs.Translated.{Outcome, refused, written, outcomeOf, outcome}
+use Rattle.translation.proofs.Outcomes.{written-accepted, refused-left, written-left, written-limits}
 use Rattle.translation.proofs.translate.Statement.{statement}
 use Rattle.translation.proofs.translate.Tie as tie
 
--- where no refusal 8 was found, there is none
-record-taken : (c : tie.After-enum-told) → let a = c .before .before .before .before .args in badRecord (a .d) (a .laws) (a .lent) ≡ none
-record-taken c = sym (c .before .before .bad-record .ensures) ∙ ap placeOf (c .enum-told .given .1)
+measure-requires : tie.Need-measure-requires
+measure-requires c κs = search needs
 
-horizon-taken : (c : tie.After-enum-told2) → badHorizon (c .before .before .before .before .before .before .before .args .d .horizon) ≡ none
-horizon-taken c = sym (c .before .before .bad-horizon .ensures) ∙ ap placeOf (c .enum-told2 .given .1)
+enum-known-measured : tie.Need-enum-known-measured
+enum-known-measured c = search needs
 
-limits : (c : tie.After-enum-told2) → let d = c .before .before .before .before .before .before .before .args .d in (d .fluents ≤ 24) × (d .actions ≤ 8) × (d .laws ≤ 64) × (d .horizon ≤ 30)
-limits c =
-    let counts = accepted-counts _ _ _ (record-taken (c .before .before .before)) in
-    (counts .1, counts .2, counts .3, accepted-horizon _ (horizon-taken c) .1)
-
-atoms-bound : (c : tie.After-enum-told2) → let d = c .before .before .before .before .before .before .before .args .d in d .horizon * (d .fluents + d .actions) ≤ 30 * 32
-atoms-bound c =
-    let d = c .before .before .before .before .before .before .before .args .d in
-    let l = limits c in
-    product-bound (d .horizon) (d .fluents + d .actions) 30 32 (l .3) (omega arith)
-
-bad-record-requires : tie.Need-bad-record-requires
-bad-record-requires c κs = search needs
-
-enum-known-place : tie.Need-enum-known-place
-enum-known-place c = search needs
-
-returns : tie.Need-returns
-unfolding outcome tableAfter
-returns c =
-    let e : badRecord _ _ _ ≡ some _ = sym (c .before .before .before .bad-record .ensures) ∙ ap placeOf (c .before .place .given .1) in
-    rw e (refl, refl)
-
-enum-told : tie.Need-enum-told
-enum-told c = search needs
-
-bad-horizon-requires : tie.Need-bad-horizon-requires
-bad-horizon-requires c κs = search needs
-
-enum-known-place-2 : tie.Need-enum-known-place-2
-enum-known-place-2 c = search needs
-
-returns-2 : tie.Need-returns-2
-unfolding outcome tableAfter
-returns-2 c =
-    let e : badHorizon _ ≡ some _ = sym (c .before .before .before .bad-horizon .ensures) ∙ ap placeOf (c .before .place2 .given .1) in
-    rw (record-taken (c .before .before .before .before), e) (refl, refl)
-
-enum-told-2 : tie.Need-enum-told-2
-enum-told-2 c = search needs
-
-words-needed-requires : tie.Need-words-needed-requires
-words-needed-requires c κs = limits c
-
-returns-3 : tie.Need-returns-3
-unfolding outcome tableAfter
-returns-3 c =
-    let w = c .before in
-    let k = w .before in
-    let e = w .words-needed .ensures in
-    rw (record-taken (k .before .before .before), horizon-taken k, lt-ltb _ _ (rw e at (c .if1 .taken)), e) (refl, refl)
-
-add-atoms : tie.Need-add-atoms
-add-atoms c = omega (arith, limits (c .before .before .before))
-
-mul-atoms : tie.Need-mul-atoms
-mul-atoms c = omega (arith, atoms-bound (c .before .before .before .before))
-
-add-atoms-2 : tie.Need-add-atoms-2
-add-atoms-2 c = omega (arith, atoms-bound (c .before .before .before .before .before), limits (c .before .before .before .before .before))
-
-rules-needed-requires : tie.Need-rules-needed-requires
-rules-needed-requires c κs = limits (c .before .before .before .before .before)
+enum-known-measured-2 : tie.Need-enum-known-measured-2
+enum-known-measured-2 c = search needs
 
 write-table-requires : tie.Need-write-table-requires
-write-table-requires c κs = (limits (c .before .before .before .before .before .before .before), rw (c .before .before .before .before .before .before .words-needed .ensures) at (c .before .before .before .before .before .if1 .left))
+write-table-requires c κs =
+    let c4 = c .before .before .before .before in
+    let e = sym (c4 .measure .ensures) ∙ ap outcomeOf (c .before .before .measured2 .given .1) in
+    (written-limits _ _ _ _ e, written-accepted _ _ _ _ e .room-enough)
+
+returns : tie.Need-returns
+returns c =
+    let e = sym (c .before .before .before .measure .ensures) ∙ ap outcomeOf (c .before .measured .given .1) in
+    (sym e, refused-left _ _ _ (c .before .before .before .before .before .args .table .now) e)
 
 same-length : tie.Need-same-length
 same-length c = search needs
 
-returns-4 : tie.Need-returns-4
-unfolding outcome tableAfter
-returns-4 c =
-    let t = c .before .before in
-    let w = t .before .before .before .before .before .before .before in
-    let k = w .before in
-    let room = rw (w .words-needed .ensures) at (t .before .before .before .before .before .before .if1 .left) in
-    rw (record-taken (k .before .before .before), horizon-taken k, le-ltb _ _ room, t .before .before .rules-needed .ensures, t .write-table .ensures .0) (refl, t .write-table .ensures .1)
+returns-2 : tie.Need-returns-2
+returns-2 c =
+    let c5 = c .before .before .before .before .before in
+    let e = sym (c5 .before .before .measure .ensures) ∙ ap outcomeOf (c5 .measured2 .given .1) in
+    (
+      rw (c .before .before .write-table .ensures .0, ← (written-accepted _ _ _ _ e .words)) (sym e),
+      c .before .before .write-table .ensures .1 ∙ written-left _ _ _ (c5 .before .before .before .before .args .table .now) e,
+    )
 
 pub translate-spec : {M : Type 1} → statement M
 translate-spec =
     tie.close
     (tie.spec
-    bad-record-requires
-    enum-known-place
-    returns
-    enum-told
-    bad-horizon-requires
-    enum-known-place-2
-    returns-2
-    enum-told-2
-    words-needed-requires
-    returns-3
-    add-atoms
-    mul-atoms
-    add-atoms-2
-    rules-needed-requires
+    measure-requires
+    enum-known-measured
+    enum-known-measured-2
     write-table-requires
+    returns
     same-length
-    returns-4)
+    returns-2)

@@ -1,0 +1,84 @@
+-- What a translation that is written tells: no refusal held, and the counts are the definition's.
+-- Assumes nothing.
+use mathlib.Core.Path.{_≡_, refl, sym, _∙_, ap}
+use mathlib.Core.Bool.{Bool, true, false, cond}
+use mathlib.Core.List.{List}
+use mathlib.Core.Option.{Option, none, some}
+use Prim.Native.Nat.{ℕ, _≤_}
+use native.Mathlib.Omega.{arith}
+use borrow.Author.Tests.{ltb-false}
+use lib.Dec.{ltb}
+use lib.ListN.{length}
+use Rattle.description.specs.declared.Law.{Law}
+use Rattle.description.specs.declared.Description.{Description}
+use Rattle.description.specs.Atoms.{atomCount}
+use Rattle.description.specs.Acceptance.{badRecord, badHorizon}
+use Rattle.description.proofs.Laws.{accepted-counts, accepted-horizon}
+use Rattle.translation.specs.Translated.{Outcome, refused, written, orRefuse, tooShort, rulesFor, tableFor, outcome, overwritten, tableAfter}
+
+-- no refusal was made where the end is no refusal
+passed : (o : Option ℕ) (number : ℕ) (next : Outcome) {a r w : ℕ} → orRefuse o number next ≡ written a r w → (o ≡ none) × (next ≡ written a r w)
+passed none number next e = (refl, e)
+passed (some place) number next e = absurd (let z : _≡_ {A = ℕ} 0 1 = cc in omega arith)
+
+enough : (needed room : ℕ) → tooShort needed room ≡ none → needed ≤ room
+enough needed room e = go (ltb room needed) refl e
+  where
+    go : (b : Bool) → ltb room needed ≡ b → cond b (some needed) none ≡ none → needed ≤ room
+    go true q h = absurd (let z : _≡_ {A = ℕ} 0 1 = cc in omega arith)
+    go false q h = ltb-false room needed q
+
+pub record Accepted (d : Description) (ls : List Law) (lent room a r w : ℕ) : Type 0 where
+  pub taken : badRecord d ls lent ≡ none
+  pub horizon : badHorizon (d .horizon) ≡ none
+  pub room-enough : length (tableFor d ls) ≤ room
+  pub atoms : a ≡ atomCount (d .fluents) (d .actions) (d .horizon)
+  pub rules : r ≡ length (rulesFor d ls)
+  pub words : w ≡ length (tableFor d ls)
+
+pub written-accepted : (d : Description) (ls : List Law) (lent room : ℕ) {a r w : ℕ} → outcome d ls lent room ≡ written a r w
+    → Accepted d ls lent room a r w
+unfolding outcome
+written-accepted d ls lent room e =
+    let p₁ = passed (badRecord d ls lent) 8 _ e in
+    let p₂ = passed (badHorizon (d .horizon)) 3 _ (p₁ .1) in
+    let p₃ = passed (tooShort (length (tableFor d ls)) room) 9 _ (p₂ .1) in
+    record {
+      taken = p₁ .0;
+      horizon = p₂ .0;
+      room-enough = enough (length (tableFor d ls)) room (p₃ .0);
+      atoms = sym (ap atomsIn (p₃ .1));
+      rules = sym (ap rulesIn (p₃ .1));
+      words = sym (ap wordsIn (p₃ .1));
+    }
+  where
+    atomsIn : Outcome → ℕ
+    atomsIn (written a r w) = a
+    atomsIn (refused k p) = 0
+
+    rulesIn : Outcome → ℕ
+    rulesIn (written a r w) = r
+    rulesIn (refused k p) = 0
+
+    wordsIn : Outcome → ℕ
+    wordsIn (written a r w) = w
+    wordsIn (refused k p) = 0
+
+-- what each outcome leaves in the table
+pub refused-left : (d : Description) (ls : List Law) (lent : ℕ) (table : List ℕ) {k p : ℕ} → outcome d ls lent (length table) ≡ refused k p
+    → table ≡ tableAfter d ls lent table
+unfolding tableAfter
+refused-left d ls lent table e = rw e
+
+pub written-left : (d : Description) (ls : List Law) (lent : ℕ) (table : List ℕ) {a r w : ℕ} → outcome d ls lent (length table) ≡ written a r w
+    → overwritten (tableFor d ls) table ≡ tableAfter d ls lent table
+unfolding tableAfter
+written-left d ls lent table e = rw e
+
+-- the limits of a description whose translation is written
+pub written-limits : (d : Description) (ls : List Law) (lent room : ℕ) {a r w : ℕ} → outcome d ls lent room ≡ written a r w
+    → (d .fluents ≤ 24) × (d .actions ≤ 8) × (d .laws ≤ 64) × (d .horizon ≤ 30)
+written-limits d ls lent room e =
+    let a = written-accepted d ls lent room e in
+    let counts = accepted-counts d ls lent (a .taken) in
+    (counts .1, counts .2, counts .3, accepted-horizon (d .horizon) (a .horizon) .1)

@@ -1,0 +1,114 @@
+-- `measure` meets its contract, refusal by refusal.
+-- Assumes nothing.
+use mathlib.Core.Option.{none, some}
+use mathlib.Core.Path.{_≡_, refl, sym, ap, _∙_}
+use Prim.Native.Nat.{_+_, _*_, _≤_}
+use native.Mathlib.Omega.{arith}
+use borrow.Author.Needs.{needs}
+use borrow.Author.Tests.{lt-ltb, le-ltb}
+use Rattle.description.proofs.Laws.{accepted-counts, accepted-horizon}
+use Rattle.search.specs.Search.{placeOf}
+use Rattle.description.specs.Acceptance.{badRecord, badHorizon}
+use Rattle.translation.specs.Translated.{outcome, tableAfter}
+use Rattle.translation.proofs.Writing.{product-bound}
+use Rattle.translation.proofs.measure.Statement.{statement}
+use Rattle.translation.proofs.measure.Tie as tie
+
+-- where no refusal 8 was found, there is none
+record-taken : (c : tie.After-enum-told) → let a = c .before .before .before .args in badRecord (a .d) (a .laws) (a .lent) ≡ none
+record-taken c = sym (c .before .before .bad-record .ensures) ∙ ap placeOf (c .enum-told .given .1)
+
+horizon-taken : (c : tie.After-enum-told2) → badHorizon (c .before .before .before .before .before .before .args .d .horizon) ≡ none
+horizon-taken c = sym (c .before .before .bad-horizon .ensures) ∙ ap placeOf (c .enum-told2 .given .1)
+
+limits : (c : tie.After-enum-told2) → let d = c .before .before .before .before .before .before .args .d in (d .fluents ≤ 24) × (d .actions ≤ 8) × (d .laws ≤ 64) × (d .horizon ≤ 30)
+limits c =
+    let counts = accepted-counts _ _ _ (record-taken (c .before .before .before)) in
+    (counts .1, counts .2, counts .3, accepted-horizon _ (horizon-taken c) .1)
+
+atoms-bound : (c : tie.After-enum-told2) → let d = c .before .before .before .before .before .before .args .d in d .horizon * (d .fluents + d .actions) ≤ 30 * 32
+atoms-bound c =
+    let d = c .before .before .before .before .before .before .args .d in
+    let l = limits c in
+    product-bound (d .horizon) (d .fluents + d .actions) 30 32 (l .3) (omega arith)
+
+bad-record-requires : tie.Need-bad-record-requires
+bad-record-requires c κs = search needs
+
+enum-known-place : tie.Need-enum-known-place
+enum-known-place c = search needs
+
+returns : tie.Need-returns
+unfolding outcome
+returns c =
+    let e : badRecord _ _ _ ≡ some _ = sym (c .before .before .before .bad-record .ensures) ∙ ap placeOf (c .before .place .given .1) in
+    rw e refl
+
+enum-told : tie.Need-enum-told
+enum-told c = search needs
+
+bad-horizon-requires : tie.Need-bad-horizon-requires
+bad-horizon-requires c κs = search needs
+
+enum-known-place-2 : tie.Need-enum-known-place-2
+enum-known-place-2 c = search needs
+
+returns-2 : tie.Need-returns-2
+unfolding outcome
+returns-2 c =
+    let e : badHorizon _ ≡ some _ = sym (c .before .before .before .bad-horizon .ensures) ∙ ap placeOf (c .before .place2 .given .1) in
+    rw (record-taken (c .before .before .before .before), e) refl
+
+enum-told-2 : tie.Need-enum-told-2
+enum-told-2 c = search needs
+
+words-needed-requires : tie.Need-words-needed-requires
+words-needed-requires c κs = limits c
+
+returns-3 : tie.Need-returns-3
+unfolding outcome
+returns-3 c =
+    let w = c .before in
+    let k = w .before in
+    let e = w .words-needed .ensures in
+    rw (record-taken (k .before .before .before), horizon-taken k, lt-ltb _ _ (rw e at (c .if1 .taken)), e) refl
+
+add-atoms : tie.Need-add-atoms
+add-atoms c = omega (arith, limits (c .before .before .before))
+
+mul-atoms : tie.Need-mul-atoms
+mul-atoms c = omega (arith, atoms-bound (c .before .before .before .before))
+
+add-atoms-2 : tie.Need-add-atoms-2
+add-atoms-2 c = omega (arith, atoms-bound (c .before .before .before .before .before), limits (c .before .before .before .before .before))
+
+rules-needed-requires : tie.Need-rules-needed-requires
+rules-needed-requires c κs = limits (c .before .before .before .before .before)
+
+returns-4 : tie.Need-returns-4
+unfolding outcome
+returns-4 c =
+    let w = c .before .before .before .before .before in
+    let k = w .before in
+    let room = rw (w .words-needed .ensures) at (c .before .before .before .before .if1 .left) in
+    rw (record-taken (k .before .before .before), horizon-taken k, le-ltb _ _ room, c .rules-needed .ensures, w .words-needed .ensures)
+
+pub measure-spec : {M : Type 1} → statement M
+measure-spec =
+    tie.close
+    (tie.spec
+    bad-record-requires
+    enum-known-place
+    returns
+    enum-told
+    bad-horizon-requires
+    enum-known-place-2
+    returns-2
+    enum-told-2
+    words-needed-requires
+    returns-3
+    add-atoms
+    mul-atoms
+    add-atoms-2
+    rules-needed-requires
+    returns-4)
