@@ -3,7 +3,7 @@ mod derivation;
 mod faults;
 mod marks;
 mod table;
-mod values;
+pub mod values;
 
 use search::Found;
 ghost use mathlib.Core.Path.{_≡_};

@@ -10,7 +10,7 @@ ghost use Rattle.answer_sets.specs.Literals.{setOf, holdsTrue, holdsFals
 ghost use Rattle.answer_sets.specs.Parts.{marked};
 
 // The lowest index of a byte over 3.
-pub(crate) fn bad_value(values: &[u8]) -> Found
+pub fn bad_value(values: &[u8]) -> Found
     ensures { λ r. ⌜ placeOf r ≡ badValue (now (values .entry)) ⌝ }
 {
     let mut i = 0;

@@ -1,2 +1,5 @@
--- The laws of the causal reading that proofs cite.
-pub mod Causes
+-- Laws of the causal reading: those that its functions' proofs cite, and those that the theorems above cite.
+pub mod CausedHeads
+pub mod Lists
+pub mod Faults
+pub mod States

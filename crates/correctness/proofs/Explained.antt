@@ -21,7 +21,7 @@ use Rattle.description.specs.Laws.{ifList}
 use Rattle.description.specs.Meaning.{Interpretation, satisfies, holds, satisfiesHead, causing, caused, SatisfiesAll, Explained}
 use Rattle.description.proofs.Literals.{even-or-odd, satisfies-even, satisfies-odd}
 use Rattle.causal.specs.Verdicts.{appliesInStep, literalIn, headIs, someCause}
-use Rattle.causal.proofs.Causes.{Heads, cause-heads, heads-cause}
+use Rattle.causal.proofs.CausedHeads.{Heads, cause-heads, heads-cause}
 
 -- The literal of a fluent that holds
 

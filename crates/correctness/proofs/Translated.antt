@@ -37,7 +37,7 @@ use Rattle.description.proofs.Fits.{CodesBelow, HeadBelow, AfterBelow, Fits, la
 use Rattle.translation.specs.Rules.{atTime, headAt, literalsAt, staticRule, translation}
 use Rattle.translation.proofs.RuleByRule.{stepRule, AtStart, AtChoice, EachRule, each-rule}
 use Rattle.causal.specs.Verdicts.{appliesAtStart, literalIn, headIs, someCause}
-use Rattle.causal.proofs.Causes.{cause-heads, heads-cause}
+use Rattle.causal.proofs.CausedHeads.{cause-heads, heads-cause}
 use Rattle.correctness.proofs.Explained.{satisfied-literal, literal-holds, literal-below}
 use Rattle.correctness.proofs.Reading.{Obeyed, Supplied, inStep, path-iff}
 use Rattle.correctness.proofs.Values.{OneValue, fluent-in, complement-in, if-holds, after-holds}

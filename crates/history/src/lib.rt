@@ -1,4 +1,15 @@
 // The history check: whether values are a history of a description, by its translation and the answer-set engine.
+use answer_sets::Answer;
+use description::Description;
+use description::Law;
+use search::Found;
+use translation::Translated;
+ghost use mathlib.Core.Path.{_≡_};
+ghost use lib.Dec.{eqb};
+ghost use lib.ListN.{length};
+ghost use Rattle.search.specs.Search.{first, placeOf};
+ghost use Rattle.answer_sets.specs.Answers.{answer};
+ghost use Rattle.history.specs.Checks.{replyOf, orMissing, ofEngine, checked, tableAfter};
 
 // A refusal's number and place, or the first verdict that holds with the atom, rule or literal code that it names.
 pub enum Checked {
@@ -8,4 +19,70 @@ pub enum Checked {
     Broken(usize),
     Unfounded(usize),
     Passes,
+}
+
+// The lowest atom of value 0.
+fn first_missing(values: &[u8]) -> Found
+    ensures { λ r. ⌜ placeOf r ≡ first (eqb 0) 0 (now (values .entry)) ⌝ }
+{
+    let mut i = 0;
+    while i < values.len() {
+        let value = values[i];
+        if value == 0 {
+            return Found::At(i);
+        }
+        i += 1;
+    }
+    Found::Nothing
+}
+
+// The engine's answer as the history check's.
+fn from_engine(answer: Answer) -> Checked
+    ensures { λ r. ⌜ replyOf r ≡ ofEngine (Rattle.answer_sets.specs.Answers.replyOf answer) ⌝ }
+{
+    match answer {
+        Answer::Refused(number, place) => Checked::Refused(number, place),
+        Answer::Clash(atom) => Checked::Clash(atom),
+        Answer::Broken(rule) => Checked::Broken(rule),
+        Answer::Unfounded(code) => Checked::Unfounded(code),
+        Answer::Passes => Checked::Passes,
+    }
+}
+
+// Missing, or what the engine says of these words.
+fn judge(values: &[u8], words: &[u16]) -> Checked
+    ensures { λ r. ⌜ replyOf r ≡ orMissing (first (eqb 0) 0 (now (values .entry))) (ofEngine (answer (now (values .entry)) (now (words .entry)))) ⌝ }
+{
+    if let Found::At(atom) = first_missing(values) {
+        return Checked::Missing(atom);
+    }
+    from_engine(answer_sets::check_set(values, words))
+}
+
+// Checks values, one byte an atom, against the description's translation, which is left in the table unless the answer is a
+// refusal.
+pub fn check_history(
+    d: Description,
+    laws: [Law; 64],
+    lent: usize,
+    values: &[u8],
+    table: &mut [u16],
+) -> Checked
+    ensures { λ r. ⌜ replyOf r ≡ checked d laws lent (now (values .entry)) (length (now (table .entry))) ⌝ }
+    ensures { λ _. ⌜ now (table .exit) ≡ tableAfter d laws lent (now (values .entry)) (now (table .entry)) ⌝ }
+{
+    let measured = translation::measure(d, laws, lent, table.len());
+    match measured {
+        Translated::Refused(number, place) => Checked::Refused(number, place),
+        Translated::Written(atoms, _, words) => {
+            if values.len() != atoms {
+                return Checked::Refused(10, values.len());
+            }
+            if let Found::At(place) = answer_sets::values::bad_value(values) {
+                return Checked::Refused(11, place);
+            }
+            translation::translate(d, laws, lent, table);
+            judge(values, &table[..words])
+        }
+    }
 }

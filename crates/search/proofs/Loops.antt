@@ -74,6 +74,19 @@ pub prefix-done : {A : Type 0} (p : A → Bool) (xs : List A) (count i : ℕ) {R
     → first p i (drop i (take count xs)) ≡ R → none ≡ R
 prefix-done p xs count i h inv = rw (rest-done xs count i h) at inv
 
+-- a loop over the first count elements that leaves at the first that fails a test
+module _ {A : Type 0} (p : A → Bool) (xs : List A) (count i : ℕ) (d : A) {R : Bool} where
+  pub all-prefix-stop : i < count → count ≤ length xs → all p (drop i (take count xs)) ≡ R → p (getD xs i d) ≡ false → false ≡ R
+  all-prefix-stop h within inv e = rw (rest-cons xs count i d h within, e) at inv
+
+  pub all-prefix-go : i < count → count ≤ length xs → all p (drop i (take count xs)) ≡ R → p (getD xs i d) ≡ true
+      → all p (drop (i + 1) (take count xs)) ≡ R
+  all-prefix-go h within inv e = rw (rest-cons xs count i d h within, e) at inv
+
+pub all-prefix-done : {A : Type 0} (p : A → Bool) (xs : List A) (count i : ℕ) {R : Bool} → count ≤ i
+    → all p (drop i (take count xs)) ≡ R → true ≡ R
+all-prefix-done p xs count i h inv = rw (rest-done xs count i h) at inv
+
 -- a part that starts at n and runs to the end
 pub to-the-end : {A : Type 0} (n : ℕ) (xs : List A) → take (length xs - n) (drop n xs) ≡ drop n xs
 to-the-end n xs = take-all (length xs - n) (drop n xs) (omega (arith, length-drop n xs))

@@ -34,8 +34,7 @@ same-length c = search needs
 returns-2 : tie.Need-returns-2
 returns-2 c =
     let c5 = c .before .before .before .before .before in
-    let e = sym (c5 .before .before .measure .ensures) ∙ ap outcomeOf (c5 .measured2 .given .1) in
-    (
+    let e = sym (c5 .before .before .measure .ensures) ∙ ap outcomeOf (c5 .measured2 .given .1) in (
       rw (c .before .before .write-table .ensures .0, ← (written-accepted _ _ _ _ e .words)) (sym e),
       c .before .before .write-table .ensures .1 ∙ written-left _ _ _ (c5 .before .before .before .before .args .table .now) e,
     )

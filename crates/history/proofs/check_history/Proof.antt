@@ -1,0 +1,116 @@
+-- `history::check_history` meets its contract.
+-- Assumes nothing.
+use mathlib.Core.List.{List}
+use Prim.Native.Nat.{ℕ}
+use lib.Dec.{eqb}
+use lib.ListN.{take, length-take}
+use Rattle.search.specs.Search.{first}
+use Rattle.answer_sets.specs.Answers.{answer}
+use Rattle.history.specs.Checks.{orMissing, ofEngine}
+use mathlib.Core.Path.{sym, ap, _∙_}
+use native.Mathlib.Omega.{arith}
+use Rattle.search.proofs.Loops.{at-place, no-place}
+use Rattle.translation.specs.Translated.{outcomeOf}
+use Rattle.translation.proofs.Outcomes.{written-accepted, written-left}
+use Rattle.history.proofs.Judging.{words-front, says-refused, says-10, says-11, says-verdict, leaves-table}
+use borrow.Author.Needs.{needs}
+use Rattle.history.proofs.check_history.Statement.{statement}
+use Rattle.history.proofs.check_history.Tie as tie
+
+measure-requires : tie.Need-measure-requires
+measure-requires c κs = search needs
+
+enum-known-measured : tie.Need-enum-known-measured
+enum-known-measured c = search needs
+
+enum-known-measured-2 : tie.Need-enum-known-measured-2
+enum-known-measured-2 c = search needs
+
+returns : tie.Need-returns
+returns c =
+    let c2 = c .before .before in
+    let c4 = c2 .before .before in
+    let c7 = c4 .before .before .before in
+    says-10 _ _ _ _ (c7 .args .table .now) (sym (c4 .measure .ensures) ∙ ap outcomeOf (c2 .measured2 .given .1)) (c .if1 .taken)
+
+bad-value-requires : tie.Need-bad-value-requires
+bad-value-requires c κs = search needs
+
+enum-known-place : tie.Need-enum-known-place
+enum-known-place c = search needs
+
+returns-2 : tie.Need-returns-2
+returns-2 c =
+    let c3 = c .before .before .before in
+    let c4 = c3 .before in
+    let c6 = c4 .before .before in
+    let c8 = c6 .before .before in
+    let c11 = c8 .before .before .before in
+    says-11 _ _ _ _ (c11 .args .table .now) (sym (c8 .measure .ensures) ∙ ap outcomeOf (c6 .measured2 .given .1)) (c4 .if1 .left)
+    (at-place (c3 .bad-value .ensures) (c .before .place .given .1))
+
+enum-told : tie.Need-enum-told
+enum-told c = search needs
+
+translate-requires : tie.Need-translate-requires
+translate-requires c κs = search needs
+
+slice-reshare-prefix-judge : tie.Need-slice-reshare-prefix-judge
+slice-reshare-prefix-judge c =
+    let e = (sym (c .before .before .before .before .before .before .before .before .before .before .before .measure .ensures) ∙ ap outcomeOf (c .before .before .before .before .before .before .before .before .before .measured2 .given .1)) in
+    let a = written-accepted _ _ _ _ e in
+    omega (arith, a .words, a .room-enough, c .before .before .translate .kept .1 .1 .1 .0)
+
+slice-aggregate-judge : tie.Need-slice-aggregate-judge
+slice-aggregate-judge c =
+    let e = (sym (c .before .before .before .before .before .before .before .before .before .before .before .before .measure .ensures) ∙ ap outcomeOf (c .before .before .before .before .before .before .before .before .before .before .measured2 .given .1)) in
+    let a = written-accepted _ _ _ _ e in
+    let last = c .before .before .before .translate .last .1 .1 .1 .0 in
+    omega
+    (arith, a .words, a .room-enough, c .before .before .before .translate .kept .1 .1 .1 .0, length-take (c .before .before .before .before .before .before .before .before .before .before .measured2 .given .0 .1 .1 .0) last)
+
+judge-requires : tie.Need-judge-requires
+judge-requires c κs = search needs
+
+returns-3 : tie.Need-returns-3
+returns-3 c =
+    let c3 = c .before .before .before in
+    let c6 = c3 .before .before .before in
+    says-refused _ _ _ _ (c6 .args .table .now) (sym (c3 .measure .ensures) ∙ ap outcomeOf (c .before .measured .given .1))
+
+same-length : tie.Need-same-length
+same-length c = search needs
+
+returns-4 : tie.Need-returns-4
+returns-4 c =
+    let table = c .before .before .before .before .before .before .before .before .before .before .before .before .before .before .before .before .args .table .now in
+    let vs = c .before .before .before .before .before .before .before .before .before .before .before .before .before .before .before .before .args .values .now in
+    let e = (sym (c .before .before .before .before .before .before .before .before .before .before .before .before .before .measure .ensures) ∙ ap outcomeOf (c .before .before .before .before .before .before .before .before .before .before .before .measured2 .given .1)) in
+    let size = c .before .before .before .before .before .before .before .before .before .if1 .left in
+    let small = no-place (c .before .before .before .before .before .before .before .before .bad-value .ensures) (c .before .before .before .before .before .before .enum-told .given .1) in
+    let left = c .before .before .before .before .translate .ensures .1 ∙ sym (written-left _ _ _ table e) in
+    let front = ap (take (c .before .before .before .before .before .before .before .before .before .before .before .measured2 .given .0 .1 .1 .0)) left ∙ words-front _ table _ (written-accepted _ _ _ _ e .words) in (
+      says-verdict _ _ _ vs table e size small _
+          (c .judge .ensures ∙ ap (λ (ws : List ℕ). orMissing (first (eqb 0) 0 vs) (ofEngine (answer vs ws))) front),
+      left ∙ leaves-table _ _ _ vs table e size small,
+    )
+
+pub check-history-spec : {M : Type 1} → statement M
+check-history-spec =
+    tie.close
+    (tie.spec
+    measure-requires
+    enum-known-measured
+    enum-known-measured-2
+    returns
+    bad-value-requires
+    enum-known-place
+    returns-2
+    enum-told
+    translate-requires
+    slice-reshare-prefix-judge
+    slice-aggregate-judge
+    judge-requires
+    returns-3
+    same-length
+    returns-4)
