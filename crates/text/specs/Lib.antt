@@ -8,4 +8,5 @@ pub mod Answers
 pub mod Histories
 pub mod Shown
 pub mod Writing
+pub mod HistoryWriting
 pub mod Examples
