@@ -1,13 +1,14 @@
 -- The worked examples hold of the definitions.
 -- Assumes nothing.
 use mathlib.Core.Path.{_≡_, refl}
+use Rattle.search.specs.Search.{Each}
 use Rattle.answer_sets.specs.Literals.{complement, setOf, holdsTrue, holdsFalse}
 use Rattle.answer_sets.specs.Verdicts.{verdict}
 use Rattle.answer_sets.specs.Words.{rulesOf, badRule}
 use Rattle.answer_sets.specs.Answers.{answer}
-use Rattle.answer_sets.specs.Examples.{AllHold, examples, program11, answerSets11, allValues, passing}
+use Rattle.answer_sets.specs.Examples.{Holds, examples, program11, answerSets11, allValues, passing}
 
-pub worked : AllHold examples
+pub worked : Each Holds examples
 unfolding answer verdict rulesOf badRule setOf holdsTrue holdsFalse
 worked = (refl, (refl, (refl, (refl, (refl, (refl, (refl, (refl, (refl, (refl, tt))))))))))
 

@@ -18,7 +18,8 @@ use Rattle.answer_sets.specs.Verdicts.{Verdict, clash, broken, unfounded
 use Rattle.answer_sets.specs.Words.{rulesOf, badRule}
 use Rattle.answer_sets.specs.Answers.{Reply, refused, judged, tooManyValues, badValue, answer}
 use Rattle.answer_sets.specs.Examples.{program11, answerSets11, allValues, isPass, passing}
-use Rattle.search.proofs.Tests.{true-or-false, not-both, none-first, each-at}
+use Rattle.search.proofs.Tests.{true-or-false, not-both, none-first, each-at, each-map}
+use Rattle.search.proofs.Lists.{chosen-iff, tuples-all}
 use Rattle.answer_sets.proofs.Least.{HeadsBelow, Below, least-closed}
 use Rattle.answer_sets.proofs.FirstFault.{Clashing, BrokenAt, Unfounded, clash-iff, broken-iff, unfounded-iff}
 use Rattle.answer_sets.proofs.Passes.{passes-iff}
@@ -73,41 +74,13 @@ module _ (vs ws : List ℕ) (accepted : Accepted vs ws) where
 
 -- Program (11)
 
--- every list of n value bytes is among all of them
-all-values : (n : ℕ) (vs : List ℕ) → length vs ≡ n → Each (λ v. v ≤ 3) vs → List·Memᴰ vs (allValues n)
-all-values zero [] e h = List·Memᴰ·head refl
-all-values zero (v ∷ vs) e h = absurd (omega arith)
-all-values (suc n) [] e h = absurd (omega arith)
-all-values (suc n) (v ∷ vs) e h = byte v (h .0) (all-values n vs (omega arith) (h .1))
-  where
-    of : ℕ → List (List ℕ)
-    of b = map (λ us. b ∷ us) (allValues n)
-
-    byte : (v : ℕ) → v ≤ 3 → List·Memᴰ vs (allValues n) → List·Memᴰ (v ∷ vs) (of 0 ++ of 1 ++ of 2 ++ of 3)
-    byte zero b m = Memᴰ·append-left (of 3) (Memᴰ·append-left (of 2) (Memᴰ·append-left (of 1) (Memᴰ·map (λ us. 0 ∷ us) m)))
-    byte (suc zero) b m = Memᴰ·append-left (of 3) (Memᴰ·append-left (of 2) (Memᴰ·append-right (of 0) (Memᴰ·map (λ us. 1 ∷ us) m)))
-    byte (suc (suc zero)) b m = Memᴰ·append-left (of 3) (Memᴰ·append-right (of 0 ++ of 1) (Memᴰ·map (λ us. 2 ∷ us) m))
-    byte (suc (suc (suc zero))) b m = Memᴰ·append-right (of 0 ++ of 1 ++ of 2) (Memᴰ·map (λ us. 3 ∷ us) m)
-    byte (suc (suc (suc (suc v)))) b m = absurd (omega arith)
-
--- the lists that pass are those that the engine passes
-passing-iff : (ws : List ℕ) (uss : List (List ℕ)) (vs : List ℕ)
-    → List·Memᴰ vs (passing ws uss) ↔ (List·Memᴰ vs uss × (isPass (answer vs ws) ≡ true))
-passing-iff ws [] vs = (λ m. absurd (List·Memᴰ·not-nil m), λ h. h .0)
-passing-iff ws (us ∷ uss) vs = go (isPass (answer us ws)) refl (passing-iff ws uss vs)
-  where
-    go : (b : Bool) → isPass (answer us ws) ≡ b → List·Memᴰ vs (passing ws uss) ↔ (List·Memᴰ vs uss × (isPass (answer vs ws) ≡ true))
-        → List·Memᴰ vs (passing ws (us ∷ uss)) ↔ (List·Memᴰ vs (us ∷ uss) × (isPass (answer vs ws) ≡ true))
-    go true t rest =
-        rw t (
-          λ m. ⊎-elim (λ e. (List·Memᴰ·head e, rw e t)) (λ l. let h = rest .0 l in (List·Memᴰ·tail (h .0), h .1)) (List·Memᴰ·cases-cons m),
-          λ h. ⊎-elim (λ e. List·Memᴰ·head e) (λ l. List·Memᴰ·tail (rest .1 (l, h .1))) (List·Memᴰ·cases-cons (h .0)),
-        )
-    go false f rest =
-        rw f (
-          λ m. let h = rest .0 m in (List·Memᴰ·tail (h .0), h .1),
-          λ h. ⊎-elim (λ e. absurd (not-both (h .1) (rw e f))) (λ l. rest .1 (l, h .1)) (List·Memᴰ·cases-cons (h .0)),
-        )
+-- a value byte is one of four
+byte : (v : ℕ) → v ≤ 3 → List·Memᴰ v (0 ∷ 1 ∷ 2 ∷ 3 ∷ [])
+byte zero b = List·Memᴰ·head refl
+byte (suc zero) b = List·Memᴰ·tail (List·Memᴰ·head refl)
+byte (suc (suc zero)) b = List·Memᴰ·tail (List·Memᴰ·tail (List·Memᴰ·head refl))
+byte (suc (suc (suc zero))) b = List·Memᴰ·tail (List·Memᴰ·tail (List·Memᴰ·tail (List·Memᴰ·head refl)))
+byte (suc (suc (suc (suc v)))) b = absurd (omega arith)
 
 isPass-iff : (r : Reply) → isPass r ≡ true ↔ r ≡ judged passes
 isPass-iff (judged passes) = (λ e. refl, λ e. refl)
@@ -127,10 +100,10 @@ accepted11 vs e h = (
 pub program11-answer-sets : (vs : List ℕ) → length vs ≡ 3 → Each (λ v. v ≤ 3) vs
     → AnswerSet (rulesOf program11) (setOf vs) ↔ List·Memᴰ vs answerSets11
 program11-answer-sets vs e h =
-    (λ a. rw program11-passing at (listed .1 (all-values 3 vs e h, pass .1 a)), λ m. pass .0 (listed .0 (rw program11-passing m) .1))
+    (λ a. rw program11-passing at (listed .1 (tuples-all _ 3 vs e (each-map byte vs h), pass .1 a)), λ m. pass .0 (listed .0 (rw program11-passing m) .1))
   where
     listed : List·Memᴰ vs (passing program11 (allValues 3)) ↔ (List·Memᴰ vs (allValues 3) × (isPass (answer vs program11) ≡ true))
-    listed = passing-iff program11 (allValues 3) vs
+    listed = chosen-iff (λ us. isPass (answer us program11)) (allValues 3) vs
 
     pass : isPass (answer vs program11) ≡ true ↔ AnswerSet (rulesOf program11) (setOf vs)
     pass = Iff·trans (isPass-iff (answer vs program11)) (passes-exactly vs program11 (accepted11 vs e h))

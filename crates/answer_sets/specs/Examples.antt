@@ -1,9 +1,10 @@
 -- Worked examples of the engine: 01's M6 to M10, and program (11) of 000, section 6.
 -- Assumes nothing.
 use mathlib.Core.Path.{_≡_}
-use mathlib.Core.Bool.{Bool, true, false, cond}
-use mathlib.Core.List.{List, [], _∷_, _++_, map}
-use Prim.Native.Nat.{ℕ, zero, suc}
+use mathlib.Core.Bool.{Bool, true, false}
+use mathlib.Core.List.{List, [], _∷_, _++_}
+use Prim.Native.Nat.{ℕ}
+use Rattle.search.specs.Search.{Each, chosen, tuples}
 use Rattle.answer_sets.specs.Verdicts.{Verdict, clash, broken, unfounded, passes}
 use Rattle.answer_sets.specs.Answers.{Reply, refused, judged, answer}
 
@@ -15,10 +16,6 @@ pub record Example : Type 0 where
 
 abbrev pub Holds : Example → Type 0
 Holds e = answer (e .values) (e .table) ≡ e .reply
-
-abbrev pub AllHold : List Example → Type 0
-AllHold [] = Unit
-AllHold (e ∷ es) = Holds e × AllHold es
 
 -- p ← not ¬p; ¬p ← not p; q ← not ¬q; ¬q ← not q; r ← q, where p, q, r are atoms 0, 1, 2
 abbrev pub program11 : List ℕ
@@ -35,10 +32,7 @@ answerSets11 = (1 ∷ 1 ∷ 1 ∷ []) ∷ (1 ∷ 2 ∷ 0 ∷ []) ∷ (2 ∷ 1 �
 
 -- every list of n value bytes: every set of literals over n atoms
 abbrev pub allValues : ℕ → List (List ℕ)
-allValues zero = [] ∷ []
-allValues (suc n) =
-    let rest = allValues n in
-    map (λ vs. 0 ∷ vs) rest ++ map (λ vs. 1 ∷ vs) rest ++ map (λ vs. 2 ∷ vs) rest ++ map (λ vs. 3 ∷ vs) rest
+allValues n = tuples (0 ∷ 1 ∷ 2 ∷ 3 ∷ []) n
 
 abbrev pub isPass : Reply → Bool
 isPass (judged passes) = true
@@ -49,8 +43,7 @@ isPass (refused k p) = false
 
 -- the lists of value bytes that pass a table
 abbrev pub passing : List ℕ → List (List ℕ) → List (List ℕ)
-passing ws [] = []
-passing ws (vs ∷ rest) = cond (isPass (answer vs ws)) (vs ∷ passing ws rest) (passing ws rest)
+passing ws vss = chosen (λ vs. isPass (answer vs ws)) vss
 
 abbrev pub examples : List Example
 examples =

@@ -1,33 +1,107 @@
--- Demand 3 for an accepted description, an open horizon and a set with one value for each atom: the set is an answer set of
--- the published translation exactly where the whole history is a path of causally explained transitions, and the causal
--- verdict is path exactly there.
+-- Demand 3, for every accepted description, an open horizon and every set with one value for each atom. The engine's part goes
+-- through its own theorem (it passes exactly the answer sets), the history check's through the engine's.
 -- Assumes nothing.
-use mathlib.Core.Path.{_≡_}
-use mathlib.Core.Logic.{_↔_}
-use mathlib.Core.Bool.{true}
+use mathlib.Core.Path.{_≡_, refl, sym, _∙_, ap}
+use mathlib.Core.Logic.{_↔_, ⊎-elim, Iff·trans}
+use mathlib.Core.Bool.{Bool, true, false, not, cond, _||_}
 use mathlib.Core.List.{List}
-use Prim.Native.Nat.{ℕ}
+use mathlib.Core.Option.{Option, none, some}
+use Prim.Native.Nat.{ℕ, _*_, _≤_, _<_}
+use native.Mathlib.Omega.{arith}
+use borrow.Author.Tests.{eq-eqb, ne-eqb, le-ltb}
+use lib.Dec.{eqb, ltb}
 use lib.ListN.{length}
-use Rattle.search.specs.Search.{Each}
+use Rattle.search.specs.Search.{Each, first}
+use Rattle.search.proofs.Tests.{each-map}
+use Rattle.search.proofs.Lists.{none-iff}
 use Rattle.answer_sets.specs.Literals.{setOf}
 use Rattle.answer_sets.specs.AnswerSets.{AnswerSet}
+use Rattle.answer_sets.specs.Verdicts.{passes}
+use Rattle.answer_sets.specs.Words.{rulesOf}
+use Rattle.answer_sets.specs.Answers as engine
+use Rattle.answer_sets.proofs.Decoding.{rules-words, codes-coded}
+use Rattle.answer_sets.proofs.Theorems.{Accepted, passes-exactly}
 use Rattle.description.specs.declared.Law.{Law}
+use Rattle.description.specs.declared.Description.{Description}
+use Rattle.description.specs.Laws.{lawsOf}
 use Rattle.description.specs.Atoms.{atomCount}
-use Rattle.description.specs.Acceptance.{lawFits}
-use Rattle.description.specs.Meaning.{Path}
-use Rattle.translation.specs.Rules.{translation}
+use Rattle.description.specs.Acceptance.{badRecord, badHorizon}
+use Rattle.description.proofs.Laws.{accepted-law}
+use Rattle.translation.specs.Translated.{Outcome, written, rulesFor, tableFor, outcome}
+use Rattle.translation.proofs.Bounds.{codes-below}
+use Rattle.translation.proofs.Outcomes.{accepted-written, accepted-short}
+use Rattle.history.specs.Checks as history
+use Rattle.history.proofs.Judging.{few-atoms, table-accepted, engine-judges}
 use Rattle.causal.specs.Verdicts.{path, causalVerdict}
-use Rattle.correctness.proofs.Values.{OneValue}
+use Rattle.causal.specs.Readings as causal
+use Rattle.correctness.specs.Demand3.{OneValue, PathOf, Demand3}
 use Rattle.correctness.proofs.Reading.{causal-iff}
 use Rattle.correctness.proofs.Translated.{answer-set-iff-path}
 
-pub record Demand3 (n m T : ℕ) (ls : List Law) (vs : List ℕ) : Type 0 where
-  pub answer-set : AnswerSet (translation n m T ls) (setOf vs) ↔ Path n m T ls vs
-  pub causal-reading : causalVerdict n m T ls vs ≡ path ↔ Path n m T ls vs
+-- a value that is 1 or 2 is no byte over 3, is not 0, and is one value
+fits-byte : (v : ℕ) → OneValue v → ltb 3 v ≡ false
+fits-byte v o = le-ltb 3 v (⊎-elim (λ (e : v ≡ 1). omega arith) (λ (e : v ≡ 2). omega arith) o)
 
-pub demand-3 : (n m T : ℕ) (ls : List Law) (vs : List ℕ) → Each (λ l. lawFits n m l ≡ true) ls → length vs ≡ atomCount n m T → Each OneValue vs
-    → Demand3 n m T ls vs
-demand-3 n m T ls vs fits size one = record {
-  answer-set = answer-set-iff-path n m T ls vs fits size one;
-  causal-reading = causal-iff n m T ls vs;
-}
+not-zero : (v : ℕ) → OneValue v → eqb 0 v ≡ false
+not-zero v o = ne-eqb 0 v (λ (z : 0 ≡ v). ⊎-elim (λ (e : v ≡ 1). omega arith) (λ (e : v ≡ 2). omega arith) o)
+
+one-value : (v : ℕ) → OneValue v → causal.notOneValue v ≡ false
+one-value v o = ⊎-elim (λ (e : v ≡ 1). rw e refl) (λ (e : v ≡ 2). rw e refl) o
+
+module _ (d : Description) (ls : List Law) (lent : ℕ) (vs : List ℕ) (taken : badRecord d ls lent ≡ none) (horizon : badHorizon (d .horizon) ≡ none)
+    (size : length vs ≡ atomCount (d .fluents) (d .actions) (d .horizon)) (one : Each OneValue vs) where
+  -- with room for exactly the words needed
+  exact : outcome d ls lent (length (tableFor d ls)) ≡ written (atomCount (d .fluents) (d .actions) (d .horizon)) (length (rulesFor d ls)) (length (tableFor d ls))
+  exact = accepted-written d ls lent (length (tableFor d ls)) taken horizon (omega arith)
+
+  bytes : first (ltb 3) 0 vs ≡ none
+  bytes = none-iff (ltb 3) 0 vs .1 (each-map fits-byte vs one)
+
+  accepted : Accepted vs (tableFor d ls)
+  accepted =
+      let few = few-atoms d ls lent (length (tableFor d ls)) exact in
+      (ap (λ (b : Bool). cond b (some (length vs)) none) (le-ltb 1024 (length vs) (omega arith)), bytes, rw size (table-accepted d ls lent (length (tableFor d ls)) exact))
+
+  -- the words that were written decode to the published rules
+  decoded : rulesOf (tableFor d ls) ≡ rulesFor d ls
+  decoded =
+      rules-words (rulesFor d ls)
+      (codes-coded (2 * atomCount (d .fluents) (d .actions) (d .horizon)) (rulesFor d ls)
+      (codes-below (d .fluents) (d .actions) (d .horizon) (lawsOf d ls) (accepted-law d ls lent taken))
+      (omega (arith, few-atoms d ls lent (length (tableFor d ls)) exact)))
+
+  by-answer-set : AnswerSet (rulesFor d ls) (setOf vs) ↔ PathOf d ls vs
+  by-answer-set = answer-set-iff-path (d .fluents) (d .actions) (d .horizon) (lawsOf d ls) vs (accepted-law d ls lent taken) size one
+
+  by-engine : engine.answer vs (tableFor d ls) ≡ engine.judged passes ↔ PathOf d ls vs
+  by-engine = Iff·trans (rw decoded at (passes-exactly vs (tableFor d ls) accepted)) by-answer-set
+
+  -- the history check adds nothing to the engine's verdict where every value is 1 or 2
+  checked-engine : (room : ℕ) → length (tableFor d ls) ≤ room → history.checked d ls lent vs room ≡ history.ofEngine (engine.answer vs (tableFor d ls))
+  unfolding history.checked
+  checked-engine room enough =
+      rw (accepted-written d ls lent room taken horizon enough, eq-eqb (length vs) _ size, bytes, none-iff (eqb 0) 0 vs .1 (each-map not-zero vs one))
+
+  by-history : (room : ℕ) → length (tableFor d ls) ≤ room → history.checked d ls lent vs room ≡ history.judged passes ↔ PathOf d ls vs
+  by-history room enough = Iff·trans (rw (checked-engine room enough) (same (engine.answer vs (tableFor d ls)))) by-engine
+    where
+      same : (r : engine.Reply) → history.ofEngine r ≡ history.judged passes ↔ r ≡ engine.judged passes
+      same (engine.refused k p) = (λ e. cc, λ e. cc)
+      same (engine.judged v) = (λ e. cc, λ e. cc)
+
+  read-verdict : causal.reading d ls lent vs ≡ causal.judged (causalVerdict (d .fluents) (d .actions) (d .horizon) (lawsOf d ls) vs)
+  unfolding causal.reading
+  read-verdict = rw (taken, horizon, eq-eqb (length vs) _ size, none-iff causal.notOneValue 0 vs .1 (each-map one-value vs one))
+
+  by-causal : causal.reading d ls lent vs ≡ causal.judged path ↔ PathOf d ls vs
+  by-causal = Iff·trans (λ e. let v = read-verdict in cc, λ e. let v = read-verdict in cc) (causal-iff (d .fluents) (d .actions) (d .horizon) (lawsOf d ls) vs)
+
+  pub demand-3 : Demand3 d ls lent vs
+  unfolding history.checked
+  demand-3 = record {
+    answer-set = by-answer-set;
+    engine-passes = by-engine;
+    history-passes = by-history;
+    history-refused = λ room short. rw (accepted-short d ls lent room taken horizon short) refl;
+    causal-path = by-causal;
+  }

@@ -40,7 +40,8 @@ use Rattle.causal.specs.Verdicts.{appliesAtStart, literalIn, headIs, someCause}
 use Rattle.causal.proofs.CausedHeads.{cause-heads, heads-cause}
 use Rattle.correctness.proofs.Explained.{satisfied-literal, literal-holds, literal-below}
 use Rattle.correctness.proofs.Reading.{Obeyed, Supplied, inStep, path-iff}
-use Rattle.correctness.proofs.Values.{OneValue, fluent-in, complement-in, if-holds, after-holds}
+use Rattle.correctness.specs.Demand3.{OneValue}
+use Rattle.correctness.proofs.Values.{fluent-in, complement-in, if-holds, after-holds}
 
 -- Codes and times
 

@@ -18,14 +18,12 @@ use Rattle.answer_sets.specs.Literals.{complement, holdsTrue, holdsFalse, setOf
 use Rattle.answer_sets.proofs.Complements.{complement-even, complement-odd}
 use Rattle.description.specs.Atoms.{atomCount}
 use Rattle.description.specs.Meaning.{Interpretation, satisfies, holds, together, stateAt, actionAt}
+use Rattle.correctness.specs.Demand3.{OneValue}
 use Rattle.description.proofs.Literals.{by-parity, satisfies-even, satisfies-odd}
 use Rattle.description.proofs.Fits.{CodesBelow}
 use Rattle.translation.specs.Rules.{atTime, complementsAt, literalsAt}
 
 -- true or false
-abbrev pub OneValue : ℕ → Type 0
-OneValue v = (v ≡ 1) ⊎ (v ≡ 2)
-
 -- the atoms with value true
 abbrev pub truth : List ℕ → Interpretation
 truth vs a = eqb (getD vs a 0) 1

@@ -3,11 +3,12 @@
 use mathlib.Core.Path.{_≡_, refl}
 use mathlib.Core.Logic.{_↔_, ⊎-elim}
 use mathlib.Core.Bool.{Bool, true, false}
-use mathlib.Core.List.{List, [], _∷_, map, List·Memᴰ, List·Memᴰ·head, List·Memᴰ·tail, List·Memᴰ·not-nil, List·Memᴰ·cases-cons}
+use mathlib.Core.List.{List, [], _∷_, map, List·Memᴰ, List·Memᴰ·head, List·Memᴰ·tail, List·Memᴰ·not-nil, List·Memᴰ·cases-cons, _++_, Memᴰ·append-left, Memᴰ·append-right, Memᴰ·map}
 use mathlib.Core.Option.{none}
 use Prim.Native.Nat.{ℕ, zero, suc, _+_, _<_}
 use native.Mathlib.Omega.{arith}
-use Rattle.search.specs.Search.{all, Each, first, range}
+use lib.ListN.{length}
+use Rattle.search.specs.Search.{all, Each, first, range, chosen, inFront, tuples}
 use Rattle.search.proofs.Tests.{not-both, each-map, each-map₂}
 
 pub each-iff : {A : Type 0} {P Q : A → Type 0} → ((x : A) → P x ↔ Q x) → (xs : List A) → Each P xs ↔ Each Q xs
@@ -74,3 +75,38 @@ none-iff {A} p k (x ∷ xs) = go (p x) refl (none-iff p (suc k) xs)
         → first p k (x ∷ xs) ≡ none ↔ Each (λ y. p y ≡ false) (x ∷ xs)
     go true t rest = (λ e. let z : _≡_ {A = ℕ} 0 1 = cc in absurd (omega arith), λ h. absurd (not-both t (h .0)))
     go false f rest = (λ e. (f, rest .0 (cc)), λ h. rw f (rest .1 (h .1)))
+
+-- enumerations
+
+pub chosen-iff : {A : Type 0} (p : A → Bool) (xs : List A) (y : A) → List·Memᴰ y (chosen p xs) ↔ (List·Memᴰ y xs × (p y ≡ true))
+chosen-iff p [] y = (λ m. absurd (List·Memᴰ·not-nil m), λ h. h .0)
+chosen-iff {A} p (x ∷ xs) y = go (p x) refl (chosen-iff p xs y)
+  where
+    go : (b : Bool) → p x ≡ b → List·Memᴰ y (chosen p xs) ↔ (List·Memᴰ y xs × (p y ≡ true))
+        → List·Memᴰ y (chosen p (x ∷ xs)) ↔ (List·Memᴰ y (x ∷ xs) × (p y ≡ true))
+    go true t rest =
+        rw t (
+          λ m. ⊎-elim (λ (e : y ≡ x). (List·Memᴰ·head e, rw e t)) (λ l. let h = rest .0 l in (List·Memᴰ·tail (h .0), h .1)) (List·Memᴰ·cases-cons m),
+          λ h. ⊎-elim (λ (e : y ≡ x). List·Memᴰ·head e) (λ l. List·Memᴰ·tail (rest .1 (l, h .1))) (List·Memᴰ·cases-cons (h .0)),
+        )
+    go false f rest =
+        rw f (
+          λ m. let h = rest .0 m in (List·Memᴰ·tail (h .0), h .1),
+          λ h. ⊎-elim (λ (e : y ≡ x). absurd (not-both (h .1) (rw e f))) (λ l. rest .1 (l, h .1)) (List·Memᴰ·cases-cons (h .0)),
+        )
+
+in-front : {A : Type 0} (elements : List A) (rest : List (List A)) {x : A} {xs : List A} → List·Memᴰ x elements → List·Memᴰ xs rest
+    → List·Memᴰ (x ∷ xs) (inFront elements rest)
+in-front [] rest m n = absurd (List·Memᴰ·not-nil m)
+in-front {A} (a ∷ more) rest {x} {xs} m n =
+    ⊎-elim (λ (e : x ≡ a). rw e (Memᴰ·append-left (inFront more rest) (Memᴰ·map (λ (ys : List A). a ∷ ys) n)))
+    (λ l. Memᴰ·append-right (map (λ (ys : List A). a ∷ ys) rest) (in-front more rest l n))
+    (List·Memᴰ·cases-cons m)
+
+-- every list of n of the elements is among the tuples
+pub tuples-all : {A : Type 0} (elements : List A) (n : ℕ) (xs : List A) → length xs ≡ n → Each (λ x. List·Memᴰ x elements) xs
+    → List·Memᴰ xs (tuples elements n)
+tuples-all elements zero [] e h = List·Memᴰ·head refl
+tuples-all elements zero (x ∷ xs) e h = absurd (omega arith)
+tuples-all elements (suc n) [] e h = absurd (omega arith)
+tuples-all elements (suc n) (x ∷ xs) e h = in-front elements (tuples elements n) (h .0) (tuples-all elements n xs (omega arith) (h .1))

@@ -1,7 +1,7 @@
 -- Searching lists and ranges, and facts of every element: words that the definitions of the crates above share.
 -- Assumes nothing.
 use mathlib.Core.Bool.{Bool, true, false, cond, _&&_}
-use mathlib.Core.List.{List, [], _∷_}
+use mathlib.Core.List.{List, [], _∷_, _++_, map}
 use mathlib.Core.Option.{Option, none, some}
 use Prim.Native.Nat.{ℕ, zero, suc, _<_}
 use Rattle.search.specs.declared.Found.{Found}
@@ -26,6 +26,20 @@ first p k (x ∷ xs) = cond (p x) (some k) (first p (suc k) xs)
 abbrev pub range : ℕ → ℕ → List ℕ
 range k zero = []
 range k (suc n) = k ∷ range (suc k) n
+
+-- the elements that pass the test, in their order
+abbrev pub chosen : {A : Type 0} → (A → Bool) → List A → List A
+chosen p [] = []
+chosen p (x ∷ xs) = cond (p x) (x ∷ chosen p xs) (chosen p xs)
+
+-- every list of n of the given elements
+abbrev pub inFront : {A : Type 0} → List A → List (List A) → List (List A)
+inFront [] rest = []
+inFront (a ∷ as′) rest = map (λ xs. a ∷ xs) rest ++ inFront as′ rest
+
+abbrev pub tuples : {A : Type 0} → List A → ℕ → List (List A)
+tuples as′ zero = [] ∷ []
+tuples as′ (suc n) = inFront as′ (tuples as′ n)
 
 -- k is the lowest number below n with a property
 abbrev pub Lowest : (ℕ → Type 0) → ℕ → ℕ → Type 0

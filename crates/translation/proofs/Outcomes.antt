@@ -4,9 +4,9 @@ use mathlib.Core.Path.{_≡_, refl, sym, _∙_, ap}
 use mathlib.Core.Bool.{Bool, true, false, cond}
 use mathlib.Core.List.{List}
 use mathlib.Core.Option.{Option, none, some}
-use Prim.Native.Nat.{ℕ, _≤_}
+use Prim.Native.Nat.{ℕ, _≤_, _<_}
 use native.Mathlib.Omega.{arith}
-use borrow.Author.Tests.{ltb-false}
+use borrow.Author.Tests.{ltb-false, le-ltb, lt-ltb}
 use lib.Dec.{ltb}
 use lib.ListN.{length}
 use Rattle.description.specs.declared.Law.{Law}
@@ -82,3 +82,15 @@ written-limits d ls lent room e =
     let a = written-accepted d ls lent room e in
     let counts = accepted-counts d ls lent (a .taken) in
     (counts .1, counts .2, counts .3, accepted-horizon (d .horizon) (a .horizon) .1)
+
+-- and the other way: an accepted description with room enough is written
+pub accepted-written : (d : Description) (ls : List Law) (lent room : ℕ) → badRecord d ls lent ≡ none → badHorizon (d .horizon) ≡ none
+    → length (tableFor d ls) ≤ room
+    → outcome d ls lent room ≡ written (atomCount (d .fluents) (d .actions) (d .horizon)) (length (rulesFor d ls)) (length (tableFor d ls))
+unfolding outcome
+accepted-written d ls lent room taken horizon enough = rw (taken, horizon, le-ltb room (length (tableFor d ls)) enough)
+
+pub accepted-short : (d : Description) (ls : List Law) (lent room : ℕ) → badRecord d ls lent ≡ none → badHorizon (d .horizon) ≡ none
+    → room < length (tableFor d ls) → outcome d ls lent room ≡ refused 9 (length (tableFor d ls))
+unfolding outcome
+accepted-short d ls lent room taken horizon short = rw (taken, horizon, lt-ltb room (length (tableFor d ls)) short)

@@ -1,0 +1,103 @@
+-- Every worked example holds of the definitions.
+-- Assumes nothing.
+use mathlib.Core.Path.{_≡_, refl}
+use Rattle.search.specs.Search.{Each}
+use Rattle.answer_sets.specs.Literals.{complement, setOf, holdsTrue, holdsFalse}
+use Rattle.answer_sets.specs.Verdicts.{verdict}
+use Rattle.answer_sets.specs.Words.{rulesOf, badRule}
+use Rattle.answer_sets.specs.Answers as engine
+use Rattle.description.specs.Acceptance.{badRecord, badHorizon}
+use Rattle.translation.specs.Rules.{translation}
+use Rattle.translation.specs.Translated as translated
+use Rattle.history.specs.Checks as history
+use Rattle.causal.specs.Verdicts.{causalVerdict}
+use Rattle.causal.specs.Readings as causal
+use Rattle.text.specs.Bytes.{cut}
+use Rattle.text.specs.Lines.{keyNumber, firstLine}
+use Rattle.text.specs.Names.{isName, literal}
+use Rattle.text.specs.Lists.{items, listOf}
+use Rattle.text.specs.Descriptions.{horizonOf, headOf, lineStep, described}
+use Rattle.text.specs.Histories as histories
+use Rattle.correctness.specs.Worked.{Holds, worked}
+
+pub worked-examples : Each Holds worked
+unfolding engine.answer verdict rulesOf badRule setOf holdsTrue holdsFalse complement badRecord badHorizon translation translated.outcome history.checked causalVerdict causal.reading cut keyNumber firstLine isName literal items listOf horizonOf headOf lineStep described histories.history
+worked-examples = (
+  refl,
+  (
+    refl,
+    (
+      (refl, refl),
+      (
+        (refl, refl),
+        (
+          refl,
+          (
+            refl,
+            (
+              refl,
+              (
+                refl,
+                (
+                  refl,
+                  (
+                    refl,
+                    (
+                      refl,
+                      (
+                        refl,
+                        (
+                          refl,
+                          (
+                            refl,
+                            (
+                              refl,
+                              (
+                                refl,
+                                (
+                                  refl,
+                                  (
+                                    refl,
+                                    (
+                                      refl,
+                                      (
+                                        refl,
+                                        (
+                                          refl,
+                                          (
+                                            refl,
+                                            (
+                                              refl,
+                                              (
+                                                refl,
+                                                (
+                                                  refl,
+                                                  (
+                                                    refl,
+                                                    (refl, (refl, (refl, (refl, (refl, (refl, (refl, (refl, tt)))))))),
+                                                  ),
+                                                ),
+                                              ),
+                                            ),
+                                          ),
+                                        ),
+                                      ),
+                                    ),
+                                  ),
+                                ),
+                              ),
+                            ),
+                          ),
+                        ),
+                      ),
+                    ),
+                  ),
+                ),
+              ),
+            ),
+          ),
+        ),
+      ),
+    ),
+  ),
+)

@@ -1,0 +1,38 @@
+-- Demand 3: one claim about a whole history, its horizon left open. The published translation, the engine on the words
+-- written, the history check and the causal reading each pass a set exactly where it is a path of causally explained
+-- transitions.
+-- Assumes nothing.
+use mathlib.Core.Path.{_≡_}
+use mathlib.Core.Logic.{_↔_, _⊎_}
+use mathlib.Core.List.{List}
+use Prim.Native.Nat.{ℕ, _≤_, _<_}
+use lib.ListN.{length}
+use Rattle.answer_sets.specs.Literals.{setOf}
+use Rattle.answer_sets.specs.AnswerSets.{AnswerSet}
+use Rattle.answer_sets.specs.Verdicts.{passes}
+use Rattle.answer_sets.specs.Answers as engine
+use Rattle.description.specs.declared.Law.{Law}
+use Rattle.description.specs.declared.Description.{Description}
+use Rattle.description.specs.Laws.{lawsOf}
+use Rattle.description.specs.Meaning.{Path}
+use Rattle.translation.specs.Translated.{rulesFor, tableFor}
+use Rattle.history.specs.Checks as history
+use Rattle.causal.specs.Verdicts.{path}
+use Rattle.causal.specs.Readings as causal
+
+-- one value: a byte is 1 or 2
+abbrev pub OneValue : ℕ → Type 0
+OneValue v = (v ≡ 1) ⊎ (v ≡ 2)
+
+-- the set is a path of the description's causally explained transitions, all T steps
+abbrev pub PathOf : Description → List Law → List ℕ → Type 0
+PathOf d ls vs = Path (d .fluents) (d .actions) (d .horizon) (lawsOf d ls) vs
+
+pub record Demand3 (d : Description) (ls : List Law) (lent : ℕ) (vs : List ℕ) : Type 0 where
+  -- 000, Proposition 1
+  pub answer-set : AnswerSet (rulesFor d ls) (setOf vs) ↔ PathOf d ls vs
+  pub engine-passes : engine.answer vs (tableFor d ls) ≡ engine.judged passes ↔ PathOf d ls vs
+  -- for every table that is long enough; else the refusal is 9
+  pub history-passes : (room : ℕ) → length (tableFor d ls) ≤ room → history.checked d ls lent vs room ≡ history.judged passes ↔ PathOf d ls vs
+  pub history-refused : (room : ℕ) → room < length (tableFor d ls) → history.checked d ls lent vs room ≡ history.refused 9 (length (tableFor d ls))
+  pub causal-path : causal.reading d ls lent vs ≡ causal.judged path ↔ PathOf d ls vs

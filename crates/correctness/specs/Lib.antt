@@ -1,0 +1,3 @@
+-- What the theorems that join the layers say.
+pub mod Demand3
+pub mod Worked
