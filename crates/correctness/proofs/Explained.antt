@@ -19,7 +19,8 @@ use Rattle.description.specs.declared.Kind.the-variants.{Static, Dynamic}
 use Rattle.description.specs.declared.Law.{Law}
 use Rattle.description.specs.Laws.{ifList}
 use Rattle.description.specs.Meaning.{Interpretation, satisfies, holds, satisfiesHead, causing, caused, SatisfiesAll, Explained}
-use Rattle.description.proofs.Literals.{even-or-odd, satisfies-even, satisfies-odd}
+use Rattle.search.proofs.Parity.{even-or-odd}
+use Rattle.description.proofs.Literals.{satisfies-even, satisfies-odd}
 use Rattle.causal.specs.Verdicts.{appliesInStep, literalIn, headIs, someCause}
 use Rattle.causal.proofs.CausedHeads.{Heads, cause-heads, heads-cause}
 

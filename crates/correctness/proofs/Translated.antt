@@ -32,7 +32,7 @@ use Rattle.description.specs.Laws.{ifList, afterList}
 use Rattle.description.specs.Atoms.{actionAtom, atomCount}
 use Rattle.description.specs.Acceptance.{lawFits}
 use Rattle.description.specs.Meaning.{Interpretation, satisfies, holds, satisfiesHead, stateAt, Path}
-use Rattle.description.proofs.Literals.{even-or-odd}
+use Rattle.search.proofs.Parity.{even-or-odd}
 use Rattle.description.proofs.Fits.{CodesBelow, HeadBelow, AfterBelow, Fits, law-fits}
 use Rattle.translation.specs.Rules.{atTime, headAt, literalsAt, staticRule, translation}
 use Rattle.translation.proofs.RuleByRule.{stepRule, AtStart, AtChoice, EachRule, each-rule}

@@ -19,7 +19,8 @@ use Rattle.answer_sets.proofs.Complements.{complement-even, complement-odd}
 use Rattle.description.specs.Atoms.{atomCount}
 use Rattle.description.specs.Meaning.{Interpretation, satisfies, holds, together, stateAt, actionAt}
 use Rattle.correctness.specs.Demand3.{OneValue}
-use Rattle.description.proofs.Literals.{by-parity, satisfies-even, satisfies-odd}
+use Rattle.search.proofs.Parity.{by-parity}
+use Rattle.description.proofs.Literals.{satisfies-even, satisfies-odd}
 use Rattle.description.proofs.Fits.{CodesBelow}
 use Rattle.translation.specs.Rules.{atTime, complementsAt, literalsAt}
 

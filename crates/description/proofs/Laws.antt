@@ -97,40 +97,12 @@ pub accepted-law : (d : Description) (ls : List Law) (lent : ℕ) → badRecord 
 unfolding badRecord
 accepted-law d ls lent h = all-fit (d .fluents) (d .actions) 0 (lawsOf d ls) (passed (countsFit d lent) _ 64 h .1)
 
--- the law at an index
-pub fit-at : (n m : ℕ) (ls : List Law) (i : ℕ) (past : Law) → AllFit n m ls → i < length ls → lawFits n m (getD ls i past) ≡ true
-fit-at n m [] i past h b = absurd (omega arith)
-fit-at n m (l ∷ ls) zero past h b = h .0
-fit-at n m (l ∷ ls) (suc i) past h b = fit-at n m ls i past (h .1) (omega arith)
-
-pub accepted-law-at : (d : Description) (ls : List Law) (lent i : ℕ) (past : Law) → badRecord d ls lent ≡ none → i < length (lawsOf d ls)
-    → lawFits (d .fluents) (d .actions) (getD (lawsOf d ls) i past) ≡ true
-accepted-law-at d ls lent i past h b = fit-at (d .fluents) (d .actions) (lawsOf d ls) i past (accepted-law d ls lent h) b
-
 -- One law within the limits
-
--- a literal head is below the limit
-abbrev pub HeadCodeBelow : ℕ → Head → Type 0
-HeadCodeBelow k (Lit c) = c < k
-HeadCodeBelow k False = Unit
-
-head-below : (n : ℕ) (h : Head) → headFits n h ≡ true → HeadCodeBelow (2 * n) h
-head-below n (Lit c) e = ltb-true c (2 * n) e
-head-below n False e = tt
-
--- each code is below the limit
-pub code-at : (k : ℕ) (cs : List ℕ) (i : ℕ) (past : ℕ) → codesBelow k cs ≡ true → i < length cs → getD cs i past < k
-code-at k [] i past h b = absurd (omega arith)
-code-at k (c ∷ cs) zero past h b = ltb-true c k (last (ltb c k) h .0)
-code-at k (c ∷ cs) (suc i) past h b = code-at k cs i past (last (ltb c k) h .1) (omega arith)
 
 module _ (n m : ℕ) (l : Law) (fits : lawFits n m l ≡ true) where
   -- the tests of the head and the if-list
   before : ((headFits n (l .head) && leb (l .«if_count») 6) ≡ true) × (codesBelow (2 * n) (ifList l) ≡ true)
   before = last _ (last _ fits .0)
-
-  pub fits-head : HeadCodeBelow (2 * n) (l .head)
-  fits-head = head-below n (l .head) (last _ (before .0) .0)
 
   pub fits-if : (l .«if_count» ≤ 6) × (codesBelow (2 * n) (ifList l) ≡ true)
   fits-if = (leb-true _ _ (last (headFits n (l .head)) (before .0) .1), before .1)

@@ -1,4 +1,5 @@
 -- Laws of the searches, as facts and as loops make them.
 pub mod Tests
+pub mod Parity
 pub mod Lists
 pub mod Loops

@@ -1,7 +1,7 @@
 -- Laws of the translation for an open horizon, what its writers cite, and its worked examples.
 pub mod Counts
-pub mod Bounds
 pub mod RuleByRule
+pub mod Bounds
 pub mod Sums
 pub mod Writing
 pub mod Outcomes
