@@ -1,0 +1,78 @@
+// Literals and lists of literals in a state: the old state with the actions done there, or the new one.
+use crate::values;
+ghost use mathlib.Core.Path.{_≡_};
+ghost use mathlib.Core.Bool.{not, cond};
+ghost use Prim.Native.Nat.{_+_, _*_, _%_};
+ghost use lib.Dec.{eqb};
+ghost use lib.ListN.{take};
+ghost use Rattle.description.specs.Meaning.{satisfies, holds, together};
+ghost use Rattle.causal.specs.Parts.{read};
+
+// Whether the literal of a code holds where its fluent or action has this value.
+pub(crate) fn literal_holds(code: usize, value: bool) -> bool
+    ensures { λ r. ⌜ r ≡ cond (eqb (code % 2) 0) value (not value) ⌝ }
+{
+    if code % 2 == 0 {
+        return value;
+    }
+    !value
+}
+
+// Whether the literal of a code holds in a state.
+pub(crate) fn satisfies(state: &[u8], code: u8) -> bool
+    ensures { λ r. ⌜ r ≡ satisfies (read (now (state .entry))) code ⌝ }
+{
+    let code = values::wide(code);
+    literal_holds(code, values::is_true(state, code / 2))
+}
+
+// The same for a state and the actions done in it: codes below 2n speak of the state, the others of the actions.
+pub(crate) fn satisfies_before(n: usize, old: &[u8], done: &[u8], code: u8) -> bool
+    ensures { λ r. ⌜ r ≡ satisfies (together n (read (now (old .entry))) (read (now (done .entry)))) code ⌝ }
+{
+    let code = values::wide(code);
+    let i = code / 2;
+    if i < n {
+        return literal_holds(code, values::is_true(old, i));
+    }
+    literal_holds(code, values::is_true(done, i - n))
+}
+
+// All literals of a list hold in a state; those of an empty list always do.
+pub(crate) fn holds(state: &[u8], codes: [u8; 6], count: usize) -> bool
+    ensures { λ r. ⌜ r ≡ holds (read (now (state .entry))) (take count codes) ⌝ }
+{
+    let end = values::least(count, 6);
+    let mut i = 0;
+    while i < end {
+        if !satisfies(state, codes[i]) {
+            return false;
+        }
+        i += 1;
+    }
+    true
+}
+
+// The same for an after-list: it is read in the old state and the actions done there, never in the new state.
+pub(crate) fn holds_before(n: usize, old: &[u8], done: &[u8], codes: [u8; 6], count: usize) -> bool
+    ensures { λ r. ⌜ r ≡ holds (together n (read (now (old .entry))) (read (now (done .entry)))) (take count codes) ⌝ }
+{
+    let end = values::least(count, 6);
+    let mut i = 0;
+    while i < end {
+        if !satisfies_before(n, old, done, codes[i]) {
+            return false;
+        }
+        i += 1;
+    }
+    true
+}
+
+pub(crate) fn code_is(code: usize, f: usize, value: bool) -> bool
+    ensures { λ r. ⌜ r ≡ eqb code (cond value (2 * f) (2 * f + 1)) ⌝ }
+{
+    if code / 2 != f {
+        return false;
+    }
+    literal_holds(code, value)
+}
