@@ -11,7 +11,7 @@ use Rattle.search.specs.Search.{Each, chosen, tuples}
 use Rattle.answer_sets.specs.Verdicts.{clash, broken, unfounded, passes}
 use Rattle.answer_sets.specs.Answers as engine
 use Rattle.answer_sets.specs.Examples as engine-examples
-use Rattle.description.specs.declared.Head.the-variants.{Lit, False}
+use Rattle.description.specs.declared.Head.the-variants.{Lit}
 use Rattle.description.specs.declared.Kind.the-variants.{Static, Dynamic}
 use Rattle.description.specs.declared.Law.{Law}
 use Rattle.description.specs.declared.Description.{Description}
@@ -23,35 +23,11 @@ use Rattle.causal.specs.Verdicts.{Causal, contradicted, uncaused, path, causalV
 use Rattle.causal.specs.Readings as causal
 use Rattle.text.specs.Descriptions.{lawOf, Draft, described, turned, read}
 use Rattle.text.specs.Histories as histories
-use Rattle.text.specs.Examples.{recipeText, historyText}
+use Rattle.text.specs.Examples.{recipeText, historyText, recipeLaws, recipeDraft}
 
--- 01's full recipe: fluents locked (codes 0, 1) and flowed (2, 3), action reflow (4, 5)
-abbrev pub recipeLaws : List Law
-recipeLaws =
-    lawOf Dynamic (Lit 2) [] (4 ∷ [])
-    ∷ lawOf Dynamic False [] (4 ∷ 0 ∷ [])
-    ∷ lawOf Dynamic (Lit 0) (0 ∷ []) (0 ∷ [])
-    ∷ lawOf Dynamic (Lit 1) (1 ∷ []) (1 ∷ [])
-    ∷ lawOf Dynamic (Lit 2) (2 ∷ []) (2 ∷ [])
-    ∷ lawOf Dynamic (Lit 3) (3 ∷ []) (3 ∷ [])
-    ∷ []
-
+-- 01's full recipe
 abbrev pub recipe : Description
 recipe = record { fluents = 2; actions = 1; laws = 6; horizon = 1 }
-
-abbrev pub recipeDraft : Draft
-recipeDraft =
-    record {
-      horizon = 1;
-      fluents = 2;
-      names =
-          (108 ∷ 111 ∷ 99 ∷ 107 ∷ 101 ∷ 100 ∷ [])
-          ∷ (102 ∷ 108 ∷ 111 ∷ 119 ∷ 101 ∷ 100 ∷ [])
-          ∷ (114 ∷ 101 ∷ 102 ∷ 108 ∷ 111 ∷ 119 ∷ [])
-          ∷ [];
-      laws = recipeLaws;
-      law = lawOf Dynamic (Lit 3) (3 ∷ []) (3 ∷ []);
-    }
 
 -- 000's (3): Closed is fluent 0, OpenDoor action 0
 abbrev pub door : List Law

@@ -11,12 +11,12 @@ use lib.Dec.{ltb}
 use lib.ListN.{length, getD, drop, length-append, List·getD-append, List·getD-eq-default}
 use lib.Seq.{getD-append-add}
 use Rattle.description.specs.declared.Law.{Law}
+use Rattle.text.specs.Writable.{Writable, linesWritten, draftWritten}
 use Rattle.text.specs.Names.{isName}
 use Rattle.text.specs.Descriptions.{turned, read, described}
 use Rattle.text.specs.Answers.{behind, replied, recordOf, lawsLeft}
 use Rattle.text.specs.Shown.{fluentName, actionName, shownBy, shownFluent, shownAction}
 use Rattle.text.specs.Writing.{descriptionText}
-use Rattle.text.proofs.Written.{Writable, linesWritten, draftWritten}
 use Rattle.text.proofs.RoundTrip.{read-written}
 
 -- the laws lent count only for the law records

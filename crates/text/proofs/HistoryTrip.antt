@@ -10,20 +10,19 @@ use lib.Seq.{take-all}
 use Rattle.search.proofs.Tests.{each-map, each-append}
 use Rattle.description.specs.Atoms.{atomCount}
 use Rattle.description.specs.declared.Law.{Law}
+use Rattle.text.specs.Writable.{Writable, draftWritten, AreNames, Distinct}
 use Rattle.text.specs.Lines.{keys, stateKey, actKey, endKey, firstLine}
 use Rattle.text.specs.Lists.{Listed}
 use Rattle.text.specs.Descriptions.{Draft}
 use Rattle.text.specs.Histories.{Recorded, values, marked, most, listed, listLine, stateLine, actLine, endLine, statesFrom, afterDescription, history}
 use Rattle.text.specs.Writing.{line, listText, descriptionText}
 use Rattle.text.specs.HistoryWriting.{codesFrom, stepsText, valuesText}
-use Rattle.text.proofs.Cuts.{first-line}
-use Rattle.text.proofs.Naming.{AreNames, Distinct}
+use Rattle.text.proofs.WrittenLines.{first-line}
 use Rattle.text.proofs.WrittenLists.{list-size, list-lacks-newline, list-read}
-use Rattle.text.proofs.Written.{Writable, draftWritten}
-use Rattle.text.proofs.Sizes.{line-size}
+use Rattle.text.proofs.WrittenSizes.{line-size}
 use Rattle.text.proofs.RoundTrip.{read-written}
 use Rattle.text.proofs.Accepted.{any-lent}
-use Rattle.text.proofs.Marks.{Values, mark-values, codes-from-in}
+use Rattle.text.proofs.WrittenValues.{Values, mark-values, codes-from-in}
 
 values-split : (n : ℕ) (vs : List ℕ) → Values vs → Values (take n vs) × Values (drop n vs)
 values-split n vs h =

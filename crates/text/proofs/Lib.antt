@@ -1,13 +1,12 @@
 -- The round trip of writing and reading, and the full recipe as an example.
 pub mod Examples
-pub mod Cuts
-pub mod Naming
+pub mod WrittenLines
+pub mod WrittenNames
 pub mod WrittenLists
-pub mod Steps
+pub mod WrittenSteps
 pub mod Written
-pub mod Sizes
+pub mod WrittenSizes
 pub mod RoundTrip
 pub mod Accepted
-pub mod Marks
+pub mod WrittenValues
 pub mod HistoryTrip
-pub mod WrittenExamples

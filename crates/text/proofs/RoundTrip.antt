@@ -17,18 +17,19 @@ use Rattle.description.specs.declared.Kind.the-variants.{Static, Dynamic}
 use Rattle.description.specs.declared.Law.{Law}
 use Rattle.description.specs.Laws.{ifList, afterList}
 use Rattle.description.proofs.Fits.{CodesBelow, HeadBelow}
+use Rattle.text.specs.Writable.{aftersOf, Tidy, Writable, lawLines, lawsLines, linesWritten, lastLaw, draftWritten, AreNames, Distinct, draft}
 use Rattle.text.specs.Bytes.{newline}
 use Rattle.text.specs.Lines.{horizonKey, fluentKey, actionKey, staticKey, dynamicKey, ifKey, afterKey, endKey}
 use Rattle.text.specs.Names.{isName, declaredAt}
 use Rattle.text.specs.Lists.{codes}
 use Rattle.text.specs.Descriptions.{Due, horizonDue, firstFluentDue, fluentDue, actionDue, lawDue, ifDue, afterDue, Draft, allowed, next, noLaw, blank, lawOf, ifLine, lineStep, read, linesFrom, described}
 use Rattle.text.specs.Writing.{line, decimal, listText, headText, lawText, lawsText, namesText, descriptionText}
-use Rattle.text.proofs.Cuts.{Lacks}
-use Rattle.text.proofs.Naming.{AreNames, Distinct, distinct-front, name-lacks, undeclared, literal-lacks, head-read}
+use Rattle.text.proofs.WrittenLines.{Lacks}
+use Rattle.text.proofs.WrittenNames.{distinct-front, name-lacks, undeclared, literal-lacks, head-read}
 use Rattle.text.proofs.WrittenLists.{codes-in, list-lacks-newline, list-read}
-use Rattle.text.proofs.Steps.{draft, decimal-clean, horizon-step, fluent-step, action-step, static-step, dynamic-step, if-step, after-step, Passes, nothing-passes, line-passes, then, ends}
-use Rattle.text.proofs.Written.{aftersOf, Tidy, Writable, lawLines, lawsLines, linesWritten, lastLaw, draftWritten, Bounded, written-laws}
-use Rattle.text.proofs.Sizes.{description-size}
+use Rattle.text.proofs.WrittenSteps.{decimal-clean, horizon-step, fluent-step, action-step, static-step, dynamic-step, if-step, after-step, Passes, nothing-passes, line-passes, then, ends}
+use Rattle.text.proofs.Written.{Bounded, written-laws}
+use Rattle.text.proofs.WrittenSizes.{description-size}
 
 -- what is due behind lines that each leave `later` due
 abbrev dueBehind : {A : Type 0} → Due → Due → List A → Due

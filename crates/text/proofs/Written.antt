@@ -1,4 +1,4 @@
--- Which descriptions can be written and read back, and what the reader is left with.
+-- What a description that can be written keeps to.
 -- Assumes nothing.
 use mathlib.Core.Path.{_≡_, refl}
 use mathlib.Core.Bool.{true}
@@ -18,17 +18,7 @@ use Rattle.description.specs.Acceptance.{lawFits}
 use Rattle.description.proofs.Laws.{fits-if, fits-after}
 use Rattle.description.proofs.Fits.{CodesBelow, HeadBelow, AfterBelow, law-fits}
 use Rattle.text.specs.Descriptions.{Draft, noLaw, lawOf}
-use Rattle.text.proofs.Naming.{AreNames, Distinct}
-use Rattle.text.proofs.Steps.{draft}
-
--- a static law's after-list is empty
-abbrev pub aftersOf : Kind → Law → List ℕ
-aftersOf Static l = []
-aftersOf Dynamic l = afterList l
-
--- a law record as the reader leaves it: each list's codes, then 0
-abbrev pub Tidy : Law → Type 0
-Tidy l = l ≡ lawOf (l .kind) (l .head) (ifList l) (aftersOf (l .kind) l)
+use Rattle.text.specs.Writable.{aftersOf, Tidy, Writable}
 
 -- the records that the reader makes are tidy
 pub tidy-static : (h : Head) (ifs : List ℕ) → Tidy (lawOf Static h ifs [])
@@ -36,39 +26,6 @@ tidy-static h ifs = rw (take-append-seam ifs _)
 
 pub tidy-dynamic : (h : Head) (ifs afters : List ℕ) → Tidy (lawOf Dynamic h ifs afters)
 tidy-dynamic h ifs afters = rw (take-append-seam ifs _, take-append-seam afters _)
-
-pub record Writable (lent T : ℕ) (fluents actions : List (List ℕ)) (ls : List Law) : Type 0 where
-  pub horizon-from : 1 ≤ T
-  pub horizon-to : T ≤ 30
-  pub some-fluent : 1 ≤ length fluents
-  pub few-fluents : length fluents ≤ 24
-  pub few-actions : length actions ≤ 8
-  pub are-names : AreNames (fluents ++ actions)
-  pub distinct : Distinct (fluents ++ actions)
-  pub few-laws : length ls ≤ 64
-  pub held-laws : length ls ≤ lent
-  pub laws-fit : Each (λ l. lawFits (length fluents) (length actions) l ≡ true) ls
-  pub laws-tidy : Each Tidy ls
-
--- how many lines are written
-abbrev pub lawLines : Kind → ℕ
-lawLines Static = 2
-lawLines Dynamic = 3
-
-abbrev pub lawsLines : List Law → ℕ
-lawsLines [] = 0
-lawsLines (l ∷ ls) = lawLines (l .kind) + lawsLines ls
-
-abbrev pub linesWritten : List (List ℕ) → List (List ℕ) → List Law → ℕ
-linesWritten fluents actions ls = 1 + length fluents + length actions + lawsLines ls + 1
-
--- the law that was read last
-abbrev pub lastLaw : Law → List Law → Law
-lastLaw l [] = l
-lastLaw l (x ∷ xs) = lastLaw x xs
-
-abbrev pub draftWritten : ℕ → List (List ℕ) → List (List ℕ) → List Law → Draft
-draftWritten T fluents actions ls = draft T (length fluents) (fluents ++ actions) ls (lastLaw noLaw ls)
 
 -- a law within the limits, n fluents among all names
 pub record Bounded (n names : ℕ) (l : Law) : Type 0 where

@@ -9,11 +9,12 @@ use lib.ListN.{length, length-append}
 use Rattle.search.specs.Search.{Each}
 use Rattle.search.proofs.Tests.{each-map, each-append}
 use Rattle.description.proofs.Fits.{CodesBelow}
+use Rattle.text.specs.Writable.{AreNames, Distinct}
 use Rattle.text.specs.Bytes.{newline, comma, cut}
 use Rattle.text.specs.Lists.{codes, itemsCut, itemsIn, items, added, listFrom, listOf}
 use Rattle.text.specs.Writing.{literalText, listText}
-use Rattle.text.proofs.Cuts.{Lacks, cut-there, cut-nowhere}
-use Rattle.text.proofs.Naming.{AreNames, Distinct, literal-lacks, literal-size, literal-read}
+use Rattle.text.proofs.WrittenLines.{Lacks, cut-there, cut-nowhere}
+use Rattle.text.proofs.WrittenNames.{literal-lacks, literal-size, literal-read}
 
 -- a run that is not empty
 items-of : (bs : List ℕ) → 1 ≤ length bs → items bs ≡ itemsIn (suc (length bs)) bs

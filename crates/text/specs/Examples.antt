@@ -2,6 +2,10 @@
 -- Assumes nothing.
 use mathlib.Core.List.{List, [], _∷_, _++_}
 use Prim.Native.Nat.{ℕ}
+use Rattle.description.specs.declared.Head.the-variants.{Lit, False}
+use Rattle.description.specs.declared.Kind.the-variants.{Dynamic}
+use Rattle.description.specs.declared.Law.{Law}
+use Rattle.text.specs.Descriptions.{Draft, lawOf}
 
 abbrev pub recipeText : List ℕ
 recipeText =
@@ -62,3 +66,33 @@ historyText =
     ++ (115 ∷ 116 ∷ 97 ∷ 116 ∷ 101 ∷ 61 ∷ 45 ∷ 108 ∷ 111 ∷ 99 ∷ 107 ∷ 101 ∷ 100 ∷ 44 ∷ 102 ∷ 108 ∷ 111 ∷ 119 ∷ 101 ∷ 100 ∷ 10 ∷ [])
     -- end=
     ++ (101 ∷ 110 ∷ 100 ∷ 61 ∷ 10 ∷ [])
+
+-- locked, flowed
+abbrev pub recipeFluents : List (List ℕ)
+recipeFluents = (108 ∷ 111 ∷ 99 ∷ 107 ∷ 101 ∷ 100 ∷ []) ∷ (102 ∷ 108 ∷ 111 ∷ 119 ∷ 101 ∷ 100 ∷ []) ∷ []
+
+-- reflow
+abbrev pub recipeActions : List (List ℕ)
+recipeActions = (114 ∷ 101 ∷ 102 ∷ 108 ∷ 111 ∷ 119 ∷ []) ∷ []
+
+-- locked has codes 0 and 1, flowed 2 and 3, reflow 4 and 5
+abbrev pub recipeLaws : List Law
+recipeLaws =
+    lawOf Dynamic (Lit 2) [] (4 ∷ [])
+    ∷ lawOf Dynamic False [] (4 ∷ 0 ∷ [])
+    ∷ lawOf Dynamic (Lit 0) (0 ∷ []) (0 ∷ [])
+    ∷ lawOf Dynamic (Lit 1) (1 ∷ []) (1 ∷ [])
+    ∷ lawOf Dynamic (Lit 2) (2 ∷ []) (2 ∷ [])
+    ∷ lawOf Dynamic (Lit 3) (3 ∷ []) (3 ∷ [])
+    ∷ []
+
+-- what the reader is left with
+abbrev pub recipeDraft : Draft
+recipeDraft =
+    record {
+      horizon = 1;
+      fluents = 2;
+      names = recipeFluents ++ recipeActions;
+      laws = recipeLaws;
+      law = lawOf Dynamic (Lit 3) (3 ∷ []) (3 ∷ []);
+    }

@@ -8,5 +8,6 @@ pub mod Answers
 pub mod Histories
 pub mod Shown
 pub mod Writing
+pub mod Writable
 pub mod HistoryWriting
 pub mod Examples

@@ -17,10 +17,11 @@ use Rattle.description.specs.declared.Head.{Head}
 use Rattle.description.specs.declared.Head.the-variants.{Lit, False}
 use Rattle.description.proofs.Fits.{HeadBelow}
 use Rattle.text.specs.Bytes.{hyphen, isNameByte, same}
+use Rattle.text.specs.Writable.{AreNames, Distinct}
 use Rattle.text.specs.Names.{falseBytes, startsWithLetter, isName, declaredAt, inSort, literal}
 use Rattle.text.specs.Descriptions.{litHead, headOf}
 use Rattle.text.specs.Writing.{literalText, headText}
-use Rattle.text.proofs.Cuts.{Lacks}
+use Rattle.text.proofs.WrittenLines.{Lacks}
 
 -- one name
 
@@ -57,14 +58,6 @@ name-lacks b apart bs e =
 pub same-refl : (xs : List ℕ) → same xs xs ≡ true
 same-refl [] = refl
 same-refl (x ∷ xs) = rw (eq-eqb x x refl) (same-refl xs)
-
-abbrev pub AreNames : List (List ℕ) → Type 0
-AreNames xs = Each (λ x. isName x ≡ true) xs
-
--- no name equals an earlier one
-abbrev pub Distinct : List (List ℕ) → Type 0
-Distinct [] = Unit
-Distinct (x ∷ xs) = Each (λ y. same y x ≡ false) xs × Distinct xs
 
 pub distinct-front : (xs ys : List (List ℕ)) → Distinct (xs ++ ys) → Distinct xs
 distinct-front [] ys d = tt

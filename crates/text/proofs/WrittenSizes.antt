@@ -16,13 +16,14 @@ use Rattle.description.specs.declared.Kind.the-variants.{Static, Dynamic}
 use Rattle.description.specs.declared.Law.{Law}
 use Rattle.description.specs.Laws.{ifList, afterList}
 use Rattle.description.proofs.Fits.{HeadBelow}
+use Rattle.text.specs.Writable.{aftersOf, lawLines, lawsLines, linesWritten, Writable, AreNames}
 use Rattle.text.specs.Bytes.{newline, equalsSign}
 use Rattle.text.specs.Lines.{keys, horizonKey, fluentKey, actionKey, staticKey, dynamicKey, ifKey, afterKey, endKey}
 use Rattle.text.specs.Names.{isName}
 use Rattle.text.specs.Writing.{line, decimal, listText, headText, lawText, lawsText, namesText, descriptionText}
-use Rattle.text.proofs.Naming.{AreNames, named, literal-size}
+use Rattle.text.proofs.WrittenNames.{named, literal-size}
 use Rattle.text.proofs.WrittenLists.{list-size}
-use Rattle.text.proofs.Written.{Bounded, written-laws, aftersOf, lawLines, lawsLines, linesWritten, Writable}
+use Rattle.text.proofs.Written.{Bounded, written-laws}
 
 pub line-size : (k : ℕ) (value : List ℕ) → length (line k value) ≡ length (getD keys k []) + length value + 2
 line-size k value =

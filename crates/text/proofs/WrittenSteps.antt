@@ -17,12 +17,10 @@ use Rattle.text.specs.Bytes.{newline}
 use Rattle.text.specs.Lines.{horizonKey, fluentKey, actionKey, staticKey, dynamicKey, ifKey, afterKey, endKey}
 use Rattle.text.specs.Names.{isName, declaredAt}
 use Rattle.text.specs.Lists.{codes, listOf}
+use Rattle.text.specs.Writable.{draft}
 use Rattle.text.specs.Descriptions.{Due, firstFluentDue, fluentDue, actionDue, ifDue, afterDue, Draft, allowed, next, finish, horizonOf, horizonLine, headOf, begun, ifLine, afterLine, lawOf, lineStep, read, afterStep, afterFirst, linesFrom}
 use Rattle.text.specs.Writing.{line, decimal}
-use Rattle.text.proofs.Cuts.{Lacks, answers, answers-some, passed-by, first-line}
-
-abbrev pub draft : ℕ → ℕ → List (List ℕ) → List Law → Law → Draft
-draft T fluents names laws law = record { horizon = T; fluents = fluents; names = names; laws = laws; law = law }
+use Rattle.text.proofs.WrittenLines.{Lacks, answers, answers-some, passed-by, first-line}
 
 -- the horizon, number by number
 
