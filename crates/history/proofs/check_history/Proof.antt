@@ -57,17 +57,23 @@ translate-requires c κs = search needs
 
 slice-reshare-prefix-judge : tie.Need-slice-reshare-prefix-judge
 slice-reshare-prefix-judge c =
-    let e = (sym (c .before .before .before .before .before .before .before .before .before .before .before .measure .ensures) ∙ ap outcomeOf (c .before .before .before .before .before .before .before .before .before .measured2 .given .1)) in
+    let c2 = c .before .before in
+    let c9 = c2 .before .before .before .before .before .before .before in
+    let c11 = c9 .before .before in
+    let e = (sym (c11 .measure .ensures) ∙ ap outcomeOf (c9 .measured2 .given .1)) in
     let a = written-accepted _ _ _ _ e in
-    omega (arith, a .words, a .room-enough, c .before .before .translate .kept .1 .1 .1 .0)
+    omega (arith, a .words, a .room-enough, c2 .translate .kept .1 .1 .1 .0)
 
 slice-aggregate-judge : tie.Need-slice-aggregate-judge
 slice-aggregate-judge c =
-    let e = (sym (c .before .before .before .before .before .before .before .before .before .before .before .before .measure .ensures) ∙ ap outcomeOf (c .before .before .before .before .before .before .before .before .before .before .measured2 .given .1)) in
+    let c3 = c .before .before .before in
+    let c10 = c3 .before .before .before .before .before .before .before in
+    let c12 = c10 .before .before in
+    let e = (sym (c12 .measure .ensures) ∙ ap outcomeOf (c10 .measured2 .given .1)) in
     let a = written-accepted _ _ _ _ e in
-    let last = c .before .before .before .translate .last .1 .1 .1 .0 in
+    let last = c3 .translate .last .1 .1 .1 .0 in
     omega
-    (arith, a .words, a .room-enough, c .before .before .before .translate .kept .1 .1 .1 .0, length-take (c .before .before .before .before .before .before .before .before .before .before .measured2 .given .0 .1 .1 .0) last)
+    (arith, a .words, a .room-enough, c3 .translate .kept .1 .1 .1 .0, length-take (c10 .measured2 .given .0 .1 .1 .0) last)
 
 judge-requires : tie.Need-judge-requires
 judge-requires c κs = search needs
@@ -83,13 +89,20 @@ same-length c = search needs
 
 returns-4 : tie.Need-returns-4
 returns-4 c =
-    let table = c .before .before .before .before .before .before .before .before .before .before .before .before .before .before .before .before .args .table .now in
-    let vs = c .before .before .before .before .before .before .before .before .before .before .before .before .before .before .before .before .args .values .now in
-    let e = (sym (c .before .before .before .before .before .before .before .before .before .before .before .before .before .measure .ensures) ∙ ap outcomeOf (c .before .before .before .before .before .before .before .before .before .before .before .measured2 .given .1)) in
-    let size = c .before .before .before .before .before .before .before .before .before .if1 .left in
-    let small = no-place (c .before .before .before .before .before .before .before .before .bad-value .ensures) (c .before .before .before .before .before .before .enum-told .given .1) in
-    let left = c .before .before .before .before .translate .ensures .1 ∙ sym (written-left _ _ _ table e) in
-    let front = ap (take (c .before .before .before .before .before .before .before .before .before .before .before .measured2 .given .0 .1 .1 .0)) left ∙ words-front _ table _ (written-accepted _ _ _ _ e .words) in (
+    let c4 = c .before .before .before .before in
+    let c6 = c4 .before .before in
+    let c8 = c6 .before .before in
+    let c9 = c8 .before in
+    let c11 = c9 .before .before in
+    let c13 = c11 .before .before in
+    let c16 = c13 .before .before .before in
+    let table = c16 .args .table .now in
+    let vs = c16 .args .values .now in
+    let e = (sym (c13 .measure .ensures) ∙ ap outcomeOf (c11 .measured2 .given .1)) in
+    let size = c9 .if1 .left in
+    let small = no-place (c8 .bad-value .ensures) (c6 .enum-told .given .1) in
+    let left = c4 .translate .ensures .1 ∙ sym (written-left _ _ _ table e) in
+    let front = ap (take (c11 .measured2 .given .0 .1 .1 .0)) left ∙ words-front _ table _ (written-accepted _ _ _ _ e .words) in (
       says-verdict _ _ _ vs table e size small _
           (c .judge .ensures ∙ ap (λ (ws : List ℕ). orMissing (first (eqb 0) 0 vs) (ofEngine (answer vs ws))) front),
       left ∙ leaves-table _ _ _ vs table e size small,

@@ -16,7 +16,9 @@ use Rattle.answer_sets.proofs.derivation.round.Statement.{statement}
 use Rattle.answer_sets.proofs.derivation.round.Tie as tie
 
 abbrev Inv-loop : tie.InvT-loop
-Inv-loop table x old new₀ rest₀ new rest = (length rest ≤ length table) × Sound rest × (length new ≡ 2048) × ((k : ℕ) → (marked new k || round (rulesOf rest) (marked x) (marked old) k) ≡ round (rulesOf table) (marked x) (marked old) k)
+Inv-loop table x old new₀ rest₀ new rest =
+    (length rest ≤ length table) × Sound rest × (length new ≡ 2048) ×
+    ((k : ℕ) → (marked new k || round (rulesOf rest) (marked x) (marked old) k) ≡ round (rulesOf table) (marked x) (marked old) k)
 
 abbrev μ-loop : tie.MeasureT-loop
 μ-loop table x old new₀ rest₀ new rest = length rest
@@ -81,17 +83,27 @@ part-rest-end c = omega arith
 
 loop-less : tie.Need-loop-less Inv-loop μ-loop
 loop-less c =
-    let ws = c .before .before .before .before .before .before .before .before .loop .rest .now in
-    let h = c .before .before .before .before .before .before .before .loop-test .taken in
+    let c7 = c .before .before .before .before .before .before .before in
+    let c8 = c7 .before in
+    let ws = c8 .loop .rest .now in
+    let h = c7 .loop-test .taken in
     rw (left-behind ws _ (c .before .rule-size .ensures)) (shorter ws h)
 
 loop-again : tie.Need-loop-again Inv-loop μ-loop
 loop-again c =
-    let ws = c .before .before .before .before .before .before .before .before .loop .rest .now in
-    let h = c .before .before .before .before .before .before .before .loop-test .taken in
-    let turn = round-turn (marked (c .before .before .before .before .before .before .before .before .before .before .before .args .t2)) (marked (c .before .before .before .before .before .before .before .before .before .before .before .args .t3)) ws h (c .before .before .before .before .before .before .before .before .loop .inv .1) (c .before .before .before .before .before .before .before .before .loop .new) (c .before .before .if1 .new) _ (c .before .before .before .rule-derives .ensures) (⊎-elim (λ w. inl (w .0 .taken, w .1)) (λ w. inr (w .0 .left, w .1)) (c .before .before .if1 .came)) (c .before .before .before .before .before .before .before .before .loop .inv .2) (c .before .before .before .before .before .before .before .before .loop .inv .3) in
+    let c2 = c .before .before in
+    let c3 = c2 .before in
+    let c7 = c3 .before .before .before .before in
+    let c8 = c7 .before in
+    let c11 = c8 .before .before .before in
+    let ws = c8 .loop .rest .now in
+    let h = c7 .loop-test .taken in
+    let turn =
+    round-turn (marked (c11 .args .t2)) (marked (c11 .args .t3)) ws h (c8 .loop .inv .1) (c8 .loop .new) (c2 .if1 .new) _
+    (c3 .rule-derives .ensures) (⊎-elim (λ w. inl (w .0 .taken, w .1)) (λ w. inr (w .0 .left, w .1)) (c2 .if1 .came)) (c8 .loop .inv .2)
+    (c8 .loop .inv .3) in
     rw (left-behind ws _ (c .before .rule-size .ensures))
-    (omega (arith, shorter ws h), sound-rest ws h (c .before .before .before .before .before .before .before .before .loop .inv .1), turn .0, turn .1)
+    (omega (arith, shorter ws h), sound-rest ws h (c8 .loop .inv .1), turn .0, turn .1)
 
 returns : tie.Need-returns Inv-loop μ-loop
 returns c = fun-ext (λ k. sym (or-false _) ∙ (rw (rules-end (c .before .loop .rest .now) (c .loop-test .left)) at (c .before .loop .inv .3 k)))

@@ -13,7 +13,9 @@ use Rattle.answer_sets.proofs.faults.first_broken.Statement.{statement}
 use Rattle.answer_sets.proofs.faults.first_broken.Tie as tie
 
 abbrev Inv-loop : tie.InvT-loop
-Inv-loop table x rest₀ rule₀ rest rule = (length rest ≤ length table) × Sound rest × (first (isBroken (marked x)) rule (rulesOf rest) ≡ first (isBroken (marked x)) 0 (rulesOf table)) × (rule + length rest ≤ length table)
+Inv-loop table x rest₀ rule₀ rest rule =
+    (length rest ≤ length table) × Sound rest × (first (isBroken (marked x)) rule (rulesOf rest) ≡ first (isBroken (marked x)) 0 (rulesOf table)) ×
+    (rule + length rest ≤ length table)
 
 abbrev μ-loop : tie.MeasureT-loop
 μ-loop table x rest₀ rule₀ rest rule = length rest
@@ -50,16 +52,26 @@ add-rule c = omega arith
 
 loop-less : tie.Need-loop-less Inv-loop μ-loop
 loop-less c =
-    let ws = c .before .before .before .before .before .loop .rest .now in
-    let h = c .before .before .before .before .loop-test .taken in
+    let c4 = c .before .before .before .before in
+    let c5 = c4 .before in
+    let ws = c5 .loop .rest .now in
+    let h = c4 .loop-test .taken in
     rw (left-behind ws _ (c .before .rule-size .ensures)) (shorter ws h)
 
 loop-again : tie.Need-loop-again Inv-loop μ-loop
 loop-again c =
-    let ws = c .before .before .before .before .before .loop .rest .now in
-    let h = c .before .before .before .before .loop-test .taken in
-    rw (left-behind ws _ (c .before .rule-size .ensures))
-    (omega (arith, shorter ws h), sound-rest ws h (c .before .before .before .before .before .loop .inv .1), rule-go _ _ ws h (c .before .before .before .before .before .loop .inv .2) (sym (c .before .before .before .is-broken .ensures) ∙ c .before .before .if1 .left), omega (arith, shorter ws h))
+    let c2 = c .before .before in
+    let c3 = c2 .before in
+    let c4 = c3 .before in
+    let c5 = c4 .before in
+    let ws = c5 .loop .rest .now in
+    let h = c4 .loop-test .taken in
+    rw (left-behind ws _ (c .before .rule-size .ensures)) (
+      omega (arith, shorter ws h),
+      sound-rest ws h (c5 .loop .inv .1),
+      rule-go _ _ ws h (c5 .loop .inv .2) (sym (c3 .is-broken .ensures) ∙ c2 .if1 .left),
+      omega (arith, shorter ws h),
+    )
 
 returns-2 : tie.Need-returns-2 Inv-loop μ-loop
 returns-2 c = rule-end _ _ (c .before .loop .rest .now) (c .loop-test .left) (c .before .loop .inv .2)

@@ -51,7 +51,8 @@ returns-2 c =
     let c7 = c5 .before .before in
     let c9 = c7 .before .before in
     ap judged
-    (says-broken _ _ _ (marked (c9 .marks-of .result)) (c9 .marks-of .ensures) (no-place (c7 .first-clash .ensures) (c5 .enum-told .given .1)) (at-place (c3 .first-broken .ensures) (c .before .rule .given .1)))
+    (says-broken _ _ _ (marked (c9 .marks-of .result)) (c9 .marks-of .ensures) (no-place (c7 .first-clash .ensures) (c5 .enum-told .given .1))
+    (at-place (c3 .first-broken .ensures) (c .before .rule .given .1)))
 
 enum-told-2 : tie.Need-enum-told-2
 enum-told-2 c = search needs
@@ -88,7 +89,9 @@ returns-3 c =
     let c13 = c11 .before .before in
     let c15 = c13 .before .before in
     ap judged
-    (says-unfounded _ _ _ (marked (c15 .marks-of .result)) (c15 .marks-of .ensures) (no-place (c13 .first-clash .ensures) (c11 .enum-told .given .1)) (no-place (c9 .first-broken .ensures) (c7 .enum-told2 .given .1)) (marked (c6 .derive .result)) (c6 .derive .ensures) (at-place (c3 .first-unfounded .ensures) (c .before .code .given .1)))
+    (says-unfounded _ _ _ (marked (c15 .marks-of .result)) (c15 .marks-of .ensures) (no-place (c13 .first-clash .ensures) (c11 .enum-told .given .1))
+    (no-place (c9 .first-broken .ensures) (c7 .enum-told2 .given .1)) (marked (c6 .derive .result)) (c6 .derive .ensures)
+    (at-place (c3 .first-unfounded .ensures) (c .before .code .given .1)))
 
 enum-told-3 : tie.Need-enum-told-3
 enum-told-3 c = search needs
@@ -103,7 +106,9 @@ returns-4 c =
     let c12 = c10 .before .before in
     let c14 = c12 .before .before in
     ap judged
-    (says-passes _ _ _ (marked (c14 .marks-of .result)) (c14 .marks-of .ensures) (no-place (c12 .first-clash .ensures) (c10 .enum-told .given .1)) (no-place (c8 .first-broken .ensures) (c6 .enum-told2 .given .1)) (marked (c5 .derive .result)) (c5 .derive .ensures) (no-place (c2 .first-unfounded .ensures) (c .enum-told3 .given .1)))
+    (says-passes _ _ _ (marked (c14 .marks-of .result)) (c14 .marks-of .ensures) (no-place (c12 .first-clash .ensures) (c10 .enum-told .given .1))
+    (no-place (c8 .first-broken .ensures) (c6 .enum-told2 .given .1)) (marked (c5 .derive .result)) (c5 .derive .ensures)
+    (no-place (c2 .first-unfounded .ensures) (c .enum-told3 .given .1)))
 
 pub judge-spec : {M : Type 1} → statement M
 judge-spec =

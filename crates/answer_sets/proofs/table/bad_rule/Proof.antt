@@ -70,16 +70,26 @@ add-rules c = omega arith
 
 loop-less : tie.Need-loop-less Inv-loop μ-loop
 loop-less c =
-    let ws = c .before .before .before .before .before .before .loop .rest .now in
-    let h = c .before .before .before .before .before .loop-test .taken in
+    let c5 = c .before .before .before .before .before in
+    let c6 = c5 .before in
+    let ws = c6 .loop .rest .now in
+    let h = c5 .loop-test .taken in
     rw (left-behind ws _ (c .before .rule-size .ensures)) (shorter ws h)
 
 loop-again : tie.Need-loop-again Inv-loop μ-loop
 loop-again c =
-    let ws = c .before .before .before .before .before .before .loop .rest .now in
-    let h = c .before .before .before .before .before .loop-test .taken in
-    rw (left-behind ws _ (c .before .rule-size .ensures))
-    (omega (arith, length-drop (ruleSize ws) ws, c .before .rule-size .ensures, fits-size _ ws _ (c .before .before .before .rule-fits .ensures) (c .before .before .if2 .left)), omega (arith, c .before .rule-size .ensures), bad-go _ _ _ ws _ _ (c .before .rule-size .ensures) h (c .before .before .before .before .before .before .loop .inv .2) (c .before .before .before .before .if1 .left) (c .before .before .before .rule-fits .ensures) (c .before .before .if2 .left))
+    let c2 = c .before .before in
+    let c3 = c2 .before in
+    let c4 = c3 .before in
+    let c5 = c4 .before in
+    let c6 = c5 .before in
+    let ws = c6 .loop .rest .now in
+    let h = c5 .loop-test .taken in
+    rw (left-behind ws _ (c .before .rule-size .ensures)) (
+      omega (arith, length-drop (ruleSize ws) ws, c .before .rule-size .ensures, fits-size _ ws _ (c3 .rule-fits .ensures) (c2 .if2 .left)),
+      omega (arith, c .before .rule-size .ensures),
+      bad-go _ _ _ ws _ _ (c .before .rule-size .ensures) h (c6 .loop .inv .2) (c4 .if1 .left) (c3 .rule-fits .ensures) (c2 .if2 .left),
+    )
 
 returns-3 : tie.Need-returns-3 Inv-loop μ-loop
 returns-3 c = bad-end _ _ _ (c .before .loop .rest .now) (c .loop-test .left) (c .before .loop .inv .2)

@@ -68,7 +68,11 @@ loop-again c =
       omega arith,
       h .loop .inv .1,
       omega (arith, most c),
-      sum-turn (lawWordsOf (d .horizon)) (h .before .before .before .args .t2) past (d .laws) (h .loop .i) (h .loop .total) (omega arith) (omega arith) (law-words (d .horizon) (getD (h .before .before .before .args .t2) (h .loop .i) past) (c .before .rules-of .ensures .0) (c .rule-size .ensures .0)) (h .loop .inv .3),
+      sum-turn (lawWordsOf (d .horizon)) (h .before .before .before .args .t2) past (d .laws) (h .loop .i) (h .loop .total) (omega arith)
+          (omega arith)
+          (law-words (d .horizon) (getD (h .before .before .before .args .t2) (h .loop .i) past) (c .before .rules-of .ensures .0)
+          (c .rule-size .ensures .0))
+          (h .loop .inv .3),
     )
 
 returns : tie.Need-returns Inv-loop μ-loop
