@@ -10,3 +10,15 @@ pub mod RoundTrip
 pub mod Accepted
 pub mod WrittenValues
 pub mod HistoryTrip
+pub mod Runs
+pub mod KeyTable
+pub mod Cutting
+pub mod Spelling
+pub mod Gathering
+pub mod Deciding
+pub mod Stepping
+pub mod Items
+pub mod Walking
+pub mod Answering
+pub mod Marking
+pub mod Recording

@@ -11,3 +11,5 @@ pub mod Writing
 pub mod Writable
 pub mod HistoryWriting
 pub mod Examples
+pub mod Parts
+pub mod HistoryParts

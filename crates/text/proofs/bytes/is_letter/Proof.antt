@@ -1,0 +1,14 @@
+-- `bytes::is_letter` meets its contract.
+-- Assumes nothing.
+use borrow.Author.Tests.{le-leb, lt-leb}
+use Rattle.text.proofs.bytes.is_letter.Statement.{statement}
+use Rattle.text.proofs.bytes.is_letter.Tie as tie
+
+returns : tie.Need-returns
+returns c = rw (le-leb 97 _ (c .if1 .taken))
+
+returns-2 : tie.Need-returns-2
+returns-2 c = rw (lt-leb _ _ (c .if1 .left))
+
+pub is-letter-spec : {M : Type 1} → statement M
+is-letter-spec = tie.close (tie.spec returns returns-2)

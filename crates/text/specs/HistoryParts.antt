@@ -1,0 +1,87 @@
+-- What the history reader's own functions promise each other.
+-- Assumes nothing.
+use mathlib.Core.Bool.{Bool, cond}
+use mathlib.Core.List.{List}
+use Prim.Native.Nat.{ℕ, zero, suc, _+_, _-_, _*_, _/_, _%_, _≤_, _<_}
+use lib.Dec.{eqb, ltb}
+use lib.ListN.{length, take, drop}
+use Rattle.text.specs.declared.histories.EndAt.{EndAt}
+use Rattle.description.specs.Atoms.{atomCount}
+use Rattle.text.specs.declared.HistoryAnswer.{HistoryAnswer}
+use Rattle.text.specs.declared.HistoryAnswer.the-variants.{Refused, Complete}
+use Rattle.text.specs.declared.histories.Record.{Record}
+use Rattle.text.specs.declared.histories.Lines.{Lines}
+use Rattle.text.specs.declared.histories.Wanted.{Wanted}
+use Rattle.text.specs.declared.states.Reading.{Reading}
+use Rattle.text.specs.Lines.{firstLine, stateKey, actKey}
+use Rattle.text.specs.Descriptions.{Draft}
+use Rattle.text.specs.Histories.{Recorded, rejected, values, endLine, listLine}
+
+unfoldable pub endingOf : EndAt → List ℕ → Recorded
+endingOf e vs = cond (eqb (e .refused) 0) (values vs) (rejected (e .refused) (e .line))
+
+-- odd lines are states, even ones acts; two lines a time
+abbrev pub isState : ℕ → Bool
+isState line = eqb (line % 2) 1
+
+abbrev pub keyAt : ℕ → ℕ
+keyAt line = cond (isState line) stateKey actKey
+
+abbrev pub lowAt : ℕ → ℕ → ℕ
+lowAt fluents line = cond (isState line) 0 fluents
+
+abbrev pub highAt : ℕ → ℕ → ℕ → ℕ
+highAt fluents count line = cond (isState line) fluents count
+
+abbrev pub baseAt : ℕ → ℕ → ℕ
+baseAt count line = (line - 1) / 2 * count
+
+-- n more lines of literals, then the end line
+abbrev pub recordFrom : ℕ → Draft → ℕ → List ℕ → List ℕ → Recorded
+recordFrom zero d line vs text = endLine (firstLine text) line vs
+recordFrom (suc n) d line vs text =
+    listLine d (keyAt line) (lowAt (d .fluents) line) (highAt (d .fluents) (length (d .names)) line) (firstLine text) line (baseAt (length (d .names)) line) vs
+    (λ vs′ rest. recordFrom n d (suc line) vs′ rest)
+
+abbrev pub wantedAt : ℕ → ℕ → ℕ → Wanted
+wantedAt fluents count line =
+    record { key = keyAt line; low = lowAt fluents line; high = highAt fluents count line; base = baseAt count line }
+
+abbrev pub placeFrom : ℕ → ℕ
+placeFrom size = cond (ltb 0 size) 0 (size + 1)
+
+-- the limits of a description that was read
+pub record Limits (r : Reading) : Type 0 where
+  pub time : r .horizon ≤ 30
+  pub few : r .fluents ≤ 24
+  pub declared : r .fluents ≤ r .names .count
+  pub actions : r .names .count ≤ r .fluents + 8
+
+-- what the lines of literals left: the end line, or a refusal
+unfoldable pub leftOf : List ℕ → ℕ → Lines → Recorded
+leftOf text n r =
+    cond (eqb (r .refused) 0) (endLine (firstLine (drop (r .at) text)) (r .line) (take n (r .values))) (rejected (r .refused) (r .line))
+
+pub record LinesFit (text : List ℕ) (r : Lines) : Type 0 where
+  pub within : r .at ≤ length text
+  pub few : r .line < 100
+
+unfoldable pub recordOf : ℕ → Record → Recorded
+recordOf n r = cond (eqb (r .refused) 0) (values (take n (r .values))) (rejected (r .refused) (r .line))
+
+abbrev pub atomsOf : Reading → ℕ
+atomsOf r = atomCount (r .fluents) (r .names .count - r .fluents) (r .horizon)
+
+-- what the history reader answers
+pub data HistoryReply : Type 0 where
+  turnedDown : ℕ → ℕ → HistoryReply
+  complete : HistoryReply
+
+-- the number and the place that each case of the code's answer stands for
+abbrev pub historyReplyOf : HistoryAnswer → HistoryReply
+historyReplyOf (Refused number place) = turnedDown number place
+historyReplyOf Complete = complete
+
+abbrev pub historyReplied : Recorded → HistoryReply
+historyReplied (rejected k place) = turnedDown k place
+historyReplied (values vs) = complete

@@ -1,0 +1,197 @@
+-- What the crate's own functions promise each other.
+-- Assumes nothing.
+use mathlib.Core.Path.{_≡_}
+use mathlib.Core.Bool.{Bool, false, cond, not, _&&_, _||_}
+use mathlib.Core.List.{List, [], map}
+use mathlib.Core.Option.{Option, none, some}
+use Prim.Native.Nat.{ℕ, suc, _+_, _-_, _*_, _≤_, _<_}
+use lib.Dec.{eqb, ltb, leb}
+use lib.ListN.{length, getD, take, drop, replicate}
+use Rattle.search.specs.Search.{first, range}
+use Rattle.description.specs.declared.Law.{Law}
+use Rattle.text.specs.declared.Run.{Run}
+use Rattle.text.specs.declared.states.Reading.{Reading}
+use Rattle.text.specs.declared.states.State.{State}
+use Rattle.text.specs.declared.descriptions.Ending.{Ending}
+use Rattle.text.specs.declared.states.Due as code
+use Rattle.text.specs.declared.states.Due.the-variants as code-due
+use Rattle.text.specs.declared.lines.LineAt.{LineAt}
+use Rattle.text.specs.declared.lists.Codes.{Codes}
+use Rattle.text.specs.declared.names.Names.{Names}
+use Rattle.text.specs.Bytes.{comma, isDigit}
+use Rattle.text.specs.Lines.{Line, keyed, ifKey, afterKey}
+use Rattle.text.specs.Lists.{itemsIn, Listed, refused, codes, added}
+use Rattle.text.specs.Descriptions.{Due, horizonDue, firstFluentDue, fluentDue, actionDue, lawDue, ifDue, afterDue, Draft, allowed}
+use Rattle.text.specs.Descriptions.{Step, refuse, next, finish, inHorizon, padded, noLaw, ifLine, afterLine, byKey, Outcome, turned, read}
+
+-- a key's number, 10 for none
+abbrev pub keyIn : ℕ → Option ℕ
+keyIn k = cond (ltb k 10) (some k) none
+
+-- the line that stands at some places of a text
+unfoldable pub lineOf : List ℕ → LineAt → Option Line
+lineOf text l = keyed (keyIn (l .key)) (take (l .to - l .from) (drop (l .from) text)) (drop (l .next) text)
+
+-- the places are within the text, and a line with a key takes at least a byte
+pub record LineFits (text : List ℕ) (at : ℕ) (l : LineAt) : Type 0 where
+  pub ordered : l .from ≤ l .to
+  pub inside : l .to ≤ length text
+  pub within : l .next ≤ length text
+  pub later : l .key < 10 → at < l .next
+
+-- the names that stand at some places of a text
+abbrev pub nameAt : List ℕ → Names → ℕ → List ℕ
+nameAt text names i = take (getD (names .lengths) i 0) (drop (getD (names .starts) i 0) text)
+
+unfoldable pub spelled : List ℕ → Names → List (List ℕ)
+spelled text names = map (λ i. nameAt text names i) (range 0 (names .count))
+
+-- the item of a list at a place, where the next begins, and the items from a place on
+abbrev pub itemUpTo : List ℕ → Option ℕ → List ℕ
+itemUpTo rest none = rest
+itemUpTo rest (some size) = take size rest
+
+unfoldable pub itemAt : List ℕ → ℕ → List ℕ
+itemAt list from = itemUpTo (drop from list) (first (eqb comma) 0 (drop from list))
+
+abbrev pub nextFrom : ℕ → ℕ → Option ℕ → ℕ
+nextFrom size from none = size + 1
+nextFrom size from (some i) = from + i + 1
+
+unfoldable pub nextAt : List ℕ → ℕ → ℕ
+nextAt list from = nextFrom (length list) from (first (eqb comma) 0 (drop from list))
+
+unfoldable pub itemsAt : List ℕ → ℕ → List (List ℕ)
+itemsAt list from = cond (leb from (length list)) (itemsIn (suc (length (drop from list))) (drop from list)) []
+
+-- a list's codes so far, or its refusal
+abbrev pub noCodes : Codes
+noCodes = record { codes = replicate 6 0; count = 0; refused = 0 }
+
+pub record Padded (l : Codes) : Type 0 where
+  pub few : l .count ≤ 6
+  pub padding : l .codes ≡ padded (take (l .count) (l .codes))
+
+abbrev pub CodeFits : Option ℕ → Type 0
+CodeFits none = Unit
+CodeFits (some c) = c < 256
+
+unfoldable pub listedOf : Codes → Listed
+listedOf l = cond (eqb (l .refused) 0) (codes (take (l .count) (l .codes))) (refused (l .refused))
+
+-- one more item behind those of a list: refusal 5 of a seventh, then 6
+unfoldable pub oneMore : List ℕ → Option ℕ → Listed
+oneMore done code = cond (ltb (length done) 6) (added done code codes) (refused 5)
+
+-- Descriptions
+
+abbrev pub twoDigits : ℕ → ℕ → Option ℕ
+twoDigits a b = cond (isDigit a && isDigit b && not (eqb a 48)) (inHorizon (10 * (a - 48) + (b - 48))) none
+
+abbrev pub dueOf : code.Due → Due
+dueOf code-due.Horizon = horizonDue
+dueOf code-due.FirstFluent = firstFluentDue
+dueOf code-due.Fluent = fluentDue
+dueOf code-due.Action = actionDue
+dueOf code-due.NewLaw = lawDue
+dueOf code-due.If = ifDue
+dueOf code-due.After = afterDue
+
+-- the draft that the code's record stands for, and the step that its state does
+abbrev pub draftOf : List ℕ → Reading → Draft
+draftOf text r =
+    record {
+      horizon = r .horizon;
+      fluents = r .fluents;
+      names = spelled text (r .names);
+      laws = take (r .run .count) (r .run .laws);
+      law = r .law;
+    }
+
+unfoldable pub stepOf : List ℕ → State → Step
+stepOf text s =
+    cond (eqb (s .refused) 0)
+    (cond (s .ended) (finish (draftOf text (s .reading))) (next (dueOf (s .due)) (draftOf text (s .reading))))
+    (refuse (s .refused))
+
+-- a law that is being read has a place in the run
+abbrev pub HasRoom : Due → ℕ → Type 0
+HasRoom horizonDue n = n ≤ 64
+HasRoom firstFluentDue n = n ≤ 64
+HasRoom fluentDue n = n ≤ 64
+HasRoom actionDue n = n ≤ 64
+HasRoom lawDue n = n ≤ 64
+HasRoom ifDue n = n < 64
+HasRoom afterDue n = n < 64
+
+-- the counts that a reading keeps to
+pub record Sound (due : Due) (r : Reading) : Type 0 where
+  pub time : r .horizon ≤ 30
+  pub few : r .fluents ≤ 24
+  pub declared : r .fluents ≤ r .names .count
+  pub actions : r .names .count ≤ r .fluents + 8
+  pub room : HasRoom due (r .run .count)
+  pub held : length (r .run .laws) ≡ 64
+
+-- the laws behind those read are the old ones
+abbrev pub Follows : List Law → Run → Type 0
+Follows old run = drop (run .count) (run .laws) ≡ drop (run .count) old
+
+-- what every line's step keeps
+pub record Goes (s r : State) : Type 0 where
+  pub sound : Sound (dueOf (r .due)) (r .reading)
+  pub follows : (old : List Law) → Follows old (s .reading .run) → Follows old (r .reading .run)
+
+-- a line's step where its list, if it is an if- or after-list, is read already
+unfoldable pub stepWith : ℕ → Due → Draft → ℕ → List ℕ → Listed → Step
+stepWith lent due d key value list =
+    cond (allowed due key)
+    (cond (eqb key ifKey) (ifLine d list) (cond (eqb key afterKey) (afterLine d list) (byKey lent d key value)))
+    (refuse 2)
+
+-- a reading with one more law
+pub record Pushed (s r : Reading) : Type 0 where
+  pub horizon : r .horizon ≡ s .horizon
+  pub fluents : r .fluents ≡ s .fluents
+  pub names : r .names ≡ s .names
+  pub count : r .run .count ≡ s .run .count + 1
+  pub held : length (r .run .laws) ≡ 64
+  pub follows : (old : List Law) → Follows old (s .run) → Follows old (r .run)
+
+-- The reader's loops
+
+abbrev pub blankState : List Law → State
+blankState laws =
+    record {
+      refused = 0;
+      ended = false;
+      due = code-due.Horizon;
+      reading =
+          record {
+            horizon = 0;
+            fluents = 0;
+            names = record { starts = replicate 32 0; lengths = replicate 32 0; count = 0 };
+            run = record { laws = laws; count = 0 };
+            law = noLaw;
+          };
+    }
+
+abbrev pub isListKey : ℕ → Bool
+isListKey key = eqb key ifKey || eqb key afterKey
+
+-- where a line's items begin: behind the end where there are none to read
+unfoldable pub itemsFrom : Due → ℕ → ℕ → ℕ
+itemsFrom due key size = cond (ltb 0 size && (allowed due key && isListKey key)) 0 (size + 1)
+
+unfoldable pub highFor : ℕ → Reading → ℕ
+highFor key r = cond (eqb key afterKey) (r .names .count) (r .fluents)
+
+-- what the reader's ending stands for
+unfoldable pub outcomeOf : List ℕ → Ending → Outcome
+outcomeOf text e =
+    cond (eqb (e .state .refused) 0) (read (draftOf text (e .state .reading)) (drop (e .at) text) (e .line)) (turned (e .state .refused) (e .line))
+
+pub record Ended (old : List Law) (text : List ℕ) (e : Ending) : Type 0 where
+  pub sound : Sound (dueOf (e .state .due)) (e .state .reading)
+  pub follows : Follows old (e .state .reading .run)
+  pub within : e .at ≤ length text

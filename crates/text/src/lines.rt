@@ -1,0 +1,182 @@
+// Lines: key=value, with the key's number and the places of the value and of the next line.
+use crate::bytes;
+use search::Found;
+ghost use mathlib.Core.Path.{_≡_};
+ghost use mathlib.Core.List.{[]};
+ghost use Prim.Native.Nat.{_≤_, _<_};
+ghost use lib.ListN.{length, getD, drop};
+ghost use Rattle.text.specs.Bytes.{same};
+ghost use Rattle.text.specs.Lines.{keys, keyNumber, firstLine};
+ghost use Rattle.text.specs.Parts.{keyIn, lineOf, LineFits};
+
+// The ten keys in the order of their numbers, 8 bytes each: the key's length, then its bytes.
+const KEYS: [u8; 80] = [
+    7,
+    b'h',
+    b'o',
+    b'r',
+    b'i',
+    b'z',
+    b'o',
+    b'n',
+    6,
+    b'f',
+    b'l',
+    b'u',
+    b'e',
+    b'n',
+    b't',
+    0,
+    6,
+    b'a',
+    b'c',
+    b't',
+    b'i',
+    b'o',
+    b'n',
+    0,
+    6,
+    b's',
+    b't',
+    b'a',
+    b't',
+    b'i',
+    b'c',
+    0,
+    7,
+    b'd',
+    b'y',
+    b'n',
+    b'a',
+    b'm',
+    b'i',
+    b'c',
+    2,
+    b'i',
+    b'f',
+    0,
+    0,
+    0,
+    0,
+    0,
+    5,
+    b'a',
+    b'f',
+    b't',
+    b'e',
+    b'r',
+    0,
+    0,
+    5,
+    b's',
+    b't',
+    b'a',
+    b't',
+    b'e',
+    0,
+    0,
+    3,
+    b'a',
+    b'c',
+    b't',
+    0,
+    0,
+    0,
+    0,
+    3,
+    b'e',
+    b'n',
+    b'd',
+    0,
+    0,
+    0,
+    0,
+];
+
+// A key's number is its place in the table; NO_KEY stands for no key.
+pub(crate) const HORIZON: usize = 0;
+
+pub(crate) const FLUENT: usize = 1;
+
+pub(crate) const ACTION: usize = 2;
+
+pub(crate) const STATIC: usize = 3;
+
+pub(crate) const DYNAMIC: usize = 4;
+
+pub(crate) const IF: usize = 5;
+
+pub(crate) const AFTER: usize = 6;
+
+pub(crate) const STATE: usize = 7;
+
+pub(crate) const ACT: usize = 8;
+
+pub(crate) const END: usize = 9;
+
+pub(crate) const NO_KEY: usize = 10;
+
+// A line: its key's number (NO_KEY where the line or the key is lacking), where its value begins and ends, and where the next line begins.
+pub(crate) struct LineAt {
+    pub key: usize,
+    pub from: usize,
+    pub to: usize,
+    pub next: usize,
+}
+
+// Whether some bytes are the key of a number.
+fn is_key(front: &[u8], k: usize) -> bool
+    requires { ⌜ k < 10 ⌝ }
+    ensures { λ r. ⌜ r ≡ same (now (front .entry)) (getD keys k []) ⌝ }
+{
+    let table = KEYS;
+    let start = 8 * k + 1;
+    let end = start + (table[8 * k] as usize);
+    bytes::same(front, &table[start..end])
+}
+
+// The number of the key that some bytes are, or NO_KEY.
+fn key_number(front: &[u8]) -> usize
+    ensures { λ r. ⌜ keyIn r ≡ keyNumber (now (front .entry)) ⌝ }
+{
+    let mut k = 0;
+    while k < 10 {
+        if is_key(front, k) {
+            return k;
+        }
+        k += 1;
+    }
+    NO_KEY
+}
+
+// The line that begins at a place.
+pub(crate) fn line_at(text: &[u8], at: usize) -> LineAt
+    requires { ⌜ at ≤ length (now text) ⌝ }
+    ensures { λ r. ⌜ lineOf (now (text .entry)) r ≡ firstLine (drop at (now (text .entry))) ⌝ }
+    ensures { λ r. ⌜ LineFits (now (text .entry)) at r ⌝ }
+{
+    let rest = &text[at..];
+    let Found::At(size) = bytes::find(rest, 10) else {
+        return LineAt {
+            key: NO_KEY,
+            from: at,
+            to: at,
+            next: at,
+        };
+    };
+    let line = &rest[..size];
+    let Found::At(equals) = bytes::find(line, 61) else {
+        return LineAt {
+            key: NO_KEY,
+            from: at,
+            to: at,
+            next: at,
+        };
+    };
+    LineAt {
+        key: key_number(&line[..equals]),
+        from: at + equals + 1,
+        to: at + size,
+        next: at + size + 1,
+    }
+}
