@@ -7,6 +7,8 @@ use Prim.Native.Nat.{ℕ, zero, suc, _+_, _-_, _*_, _/_, _%_}
 use lib.Dec.{eqb, ltb, leb}
 use lib.ListN.{length, getD, set, replicate}
 use Rattle.description.specs.Atoms.{atomCount}
+use Rattle.text.specs.declared.HistoryAnswer.{HistoryAnswer}
+use Rattle.text.specs.declared.HistoryAnswer.the-variants.{Refused, Complete}
 use Rattle.text.specs.Lines.{stateKey, actKey, endKey, Line, firstLine}
 use Rattle.text.specs.Lists.{Listed, refused, codes, listOf}
 use Rattle.text.specs.Descriptions.{Draft, Outcome, turned, read, described}
@@ -98,3 +100,17 @@ history description text room = afterDescription (described 64 description) text
 abbrev pub leftIn : Recorded → List ℕ → List ℕ
 leftIn (rejected k place) old = old
 leftIn (values vs) old = vs
+
+-- what the history reader answers
+pub data HistoryReply : Type 0 where
+  turnedDown : ℕ → ℕ → HistoryReply
+  complete : HistoryReply
+
+-- the number and the place that each case of the code's answer stands for
+abbrev pub historyReplyOf : HistoryAnswer → HistoryReply
+historyReplyOf (Refused number place) = turnedDown number place
+historyReplyOf Complete = complete
+
+abbrev pub historyReplied : Recorded → HistoryReply
+historyReplied (rejected k place) = turnedDown k place
+historyReplied (values vs) = complete

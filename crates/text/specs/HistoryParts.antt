@@ -7,8 +7,6 @@ use lib.Dec.{eqb, ltb}
 use lib.ListN.{length, take, drop}
 use Rattle.text.specs.declared.histories.EndAt.{EndAt}
 use Rattle.description.specs.Atoms.{atomCount}
-use Rattle.text.specs.declared.HistoryAnswer.{HistoryAnswer}
-use Rattle.text.specs.declared.HistoryAnswer.the-variants.{Refused, Complete}
 use Rattle.text.specs.declared.histories.Record.{Record}
 use Rattle.text.specs.declared.histories.Lines.{Lines}
 use Rattle.text.specs.declared.histories.Wanted.{Wanted}
@@ -71,17 +69,3 @@ recordOf n r = cond (eqb (r .refused) 0) (values (take n (r .values))) (rejected
 
 abbrev pub atomsOf : Reading → ℕ
 atomsOf r = atomCount (r .fluents) (r .names .count - r .fluents) (r .horizon)
-
--- what the history reader answers
-pub data HistoryReply : Type 0 where
-  turnedDown : ℕ → ℕ → HistoryReply
-  complete : HistoryReply
-
--- the number and the place that each case of the code's answer stands for
-abbrev pub historyReplyOf : HistoryAnswer → HistoryReply
-historyReplyOf (Refused number place) = turnedDown number place
-historyReplyOf Complete = complete
-
-abbrev pub historyReplied : Recorded → HistoryReply
-historyReplied (rejected k place) = turnedDown k place
-historyReplied (values vs) = complete

@@ -15,7 +15,7 @@ ghost use mathlib.Core.Path.{_≡_};
 ghost use Rattle.text.specs.Descriptions.{described};
 ghost use lib.ListN.{length};
 ghost use Rattle.text.specs.Histories.{history, leftIn};
-ghost use Rattle.text.specs.HistoryParts.{historyReplyOf, historyReplied};
+ghost use Rattle.text.specs.Histories.{historyReplyOf, historyReplied};
 ghost use Rattle.text.specs.Shown.{shownFluent, shownAction};
 ghost use Rattle.text.specs.Answers.{replyOf, replied, recordOf, lawsLeft};
 

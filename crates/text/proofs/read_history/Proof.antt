@@ -5,7 +5,7 @@ use mathlib.Core.Path.{sym, _∙_, ap}
 use Prim.Native.Nat.{_≤_}
 use lib.ListN.{length, drop}
 use Rattle.text.specs.Histories.{leftIn, afterDescription, history}
-use Rattle.text.specs.HistoryParts.{historyReplied}
+use Rattle.text.specs.Histories.{historyReplied}
 use Rattle.text.proofs.Answering.{ends-refused, ends-read}
 use Rattle.text.proofs.Recording.{history-room, history-long, history-lines, record-turned, record-values}
 use borrow.Author.Needs.{needs}
