@@ -1,0 +1,58 @@
+-- The definitions read only the laws that a description counts, and none where the counts are refused: so on the gathered run
+-- they say what they say on the run. And demand 3, of an answer that one of them gives.
+-- Assumes nothing.
+use mathlib.Core.Path.{_≡_, refl}
+use mathlib.Core.Logic.{⊎-elim}
+use mathlib.Core.Bool.{true, false}
+use mathlib.Core.List.{List}
+use Prim.Native.Nat.{ℕ}
+use lib.ListN.{length, take}
+use Rattle.search.proofs.Tests.{true-or-false}
+use Rattle.description.specs.declared.Law.{Law}
+use Rattle.description.specs.declared.Description.{Description}
+use Rattle.description.specs.Acceptance.{countsFit, badRecord}
+use Rattle.description.proofs.Laws.{counts-limits}
+use Rattle.translation.specs.Translated as translated
+use Rattle.history.specs.declared.Checked.{Checked}
+use Rattle.history.specs.Checks as history
+use Rattle.causal.specs.declared.Reading.{Reading}
+use Rattle.causal.specs.Readings as causal
+use Rattle.correctness.proofs.Demand3.{demand-3}
+use Rattle.lent_laws.specs.Gathered.{gathered}
+use Rattle.lent_laws.specs.Promises.{PassesExactly, PathExactly}
+use Rattle.lent_laws.proofs.Gathered.{gathered-front}
+
+module _ (d : Description) (ls : List Law) where
+  -- the same answer, whether the counts fit or not
+  agreeing : {X : Type 0} {x y : X} → (take (d .laws) (gathered ls) ≡ take (d .laws) ls → x ≡ y) → (countsFit d (length ls) ≡ false → x ≡ y) → x ≡ y
+  agreeing fit unfit =
+      ⊎-elim (λ (e : countsFit d (length ls) ≡ true).
+      let limits = counts-limits d (length ls) e in fit (gathered-front (d .laws) ls (limits .3) (limits .4))) unfit (true-or-false (countsFit d (length ls)))
+
+  pub same-outcome : (room : ℕ) → translated.outcome d (gathered ls) (length ls) room ≡ translated.outcome d ls (length ls) room
+  unfolding translated.outcome badRecord
+  same-outcome room = agreeing (λ e. rw e refl) (λ e. rw e refl)
+
+  pub same-table : (table : List ℕ) → translated.tableAfter d (gathered ls) (length ls) table ≡ translated.tableAfter d ls (length ls) table
+  unfolding translated.tableAfter translated.outcome badRecord
+  same-table table = agreeing (λ e. rw e refl) (λ e. rw e refl)
+
+  pub same-checked : (vs : List ℕ) (room : ℕ) → history.checked d (gathered ls) (length ls) vs room ≡ history.checked d ls (length ls) vs room
+  unfolding history.checked translated.outcome badRecord
+  same-checked vs room = agreeing (λ e. rw e refl) (λ e. rw e refl)
+
+  pub same-checked-table : (vs table : List ℕ) → history.tableAfter d (gathered ls) (length ls) vs table ≡ history.tableAfter d ls (length ls) vs table
+  unfolding history.tableAfter history.checked translated.outcome badRecord
+  same-checked-table vs table = agreeing (λ e. rw e refl) (λ e. rw e refl)
+
+  pub same-reading : (vs : List ℕ) → causal.reading d (gathered ls) (length ls) vs ≡ causal.reading d ls (length ls) vs
+  unfolding causal.reading badRecord
+  same-reading vs = agreeing (λ e. rw e refl) (λ e. rw e refl)
+
+  pub passes-exactly : (vs : List ℕ) (room : ℕ) (r : Checked) → history.replyOf r ≡ history.checked d ls (length ls) vs room → PassesExactly d ls vs room r
+  unfolding PassesExactly
+  passes-exactly vs room r e c enough = rw e (demand-3 d ls (length ls) vs (c .records) (c .horizon) (c .size) (c .one-value) .history-passes room enough)
+
+  pub path-exactly : (vs : List ℕ) (r : Reading) → causal.replyOf r ≡ causal.reading d ls (length ls) vs → PathExactly d ls vs r
+  unfolding PathExactly
+  path-exactly vs r e c = rw e (demand-3 d ls (length ls) vs (c .records) (c .horizon) (c .size) (c .one-value) .causal-path)

@@ -1,0 +1,6 @@
+pub mod Examples
+pub mod Stores
+pub mod Decimals
+pub mod Drafts
+pub mod Composing
+pub mod Reported

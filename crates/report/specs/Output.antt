@@ -1,0 +1,86 @@
+-- The output for an input, composed from what the readers, the translation, the history check and the causal reading say.
+-- Assumes nothing.
+use mathlib.Core.Bool.{Bool, true, false, cond, _||_}
+use mathlib.Core.List.{List, [], _++_}
+use Prim.Native.Nat.{ℕ, _+_}
+use lib.Dec.{eqb}
+use Rattle.answer_sets.specs.Verdicts.{Verdict, clash, broken, unfounded, passes}
+use Rattle.description.specs.declared.Law.{Law}
+use Rattle.description.specs.declared.Description.{Description}
+use Rattle.translation.specs.Translated as translated
+use Rattle.history.specs.Checks as history
+use Rattle.causal.specs.Verdicts.{Causal, contradicted, uncaused, path}
+use Rattle.causal.specs.Readings as causal
+use Rattle.text.specs.Descriptions.{Draft, Outcome, turned, read, described, descriptionOf}
+use Rattle.text.specs.Histories as histories
+use Rattle.text.specs.Shown.{shownFluent}
+use Rattle.report.specs.Writing.{line, decimal, horizonWord, atomsWord, rulesWord, wordsWord, answerWord, atWord, causalWord, timeWord, itemWord, refusedWord, placeWord}
+use Rattle.report.specs.Writing.{passesWord, missingWord, clashWord, brokenWord, unfoundedWord, noneWord, pathWord, contradictedWord, uncausedWord}
+
+-- a refusal prints its number and place only
+abbrev pub refusal : ℕ → ℕ → List ℕ
+refusal number place = line refusedWord (decimal number) ++ line placeWord (decimal place)
+
+-- lines count over the whole input: a line of the history is moved up by the description's lines; place 0 and lengths are not
+abbrev pub movedUp : ℕ → ℕ → ℕ → ℕ
+movedUp lines number place = cond (eqb number 1 || eqb number 10) place (lines + place)
+
+-- the verdict and its number, which is empty for passes
+abbrev pub verdictLines : Verdict → List ℕ
+verdictLines passes = line answerWord passesWord ++ line atWord []
+verdictLines (clash a) = line answerWord clashWord ++ line atWord (decimal a)
+verdictLines (broken r) = line answerWord brokenWord ++ line atWord (decimal r)
+verdictLines (unfounded c) = line answerWord unfoundedWord ++ line atWord (decimal c)
+
+-- the causal verdict, its time and its item: a law's number or a fluent's name as declared
+abbrev pub causalLines : List ℕ → Causal → List ℕ
+causalLines input path = line causalWord pathWord ++ line timeWord [] ++ line itemWord []
+causalLines input (contradicted t l) = line causalWord contradictedWord ++ line timeWord (decimal t) ++ line itemWord (decimal l)
+causalLines input (uncaused t f) = line causalWord uncausedWord ++ line timeWord (decimal t) ++ line itemWord (shownFluent input f)
+
+-- no causal verdict after missing or clash
+abbrev pub noCausal : List ℕ
+noCausal = line causalWord noneWord ++ line timeWord [] ++ line itemWord []
+
+-- the reading of an accepted history that has one value for each atom is never a refusal
+abbrev pub readingLines : List ℕ → causal.Reply → List ℕ
+readingLines input (causal.refused number place) = noCausal
+readingLines input (causal.judged v) = causalLines input v
+
+abbrev pub causalAfter : List ℕ → Verdict → causal.Reply → List ℕ
+causalAfter input (clash a) reply = noCausal
+causalAfter input (broken r) reply = readingLines input reply
+causalAfter input (unfounded c) reply = readingLines input reply
+causalAfter input passes reply = readingLines input reply
+
+abbrev pub countLines : ℕ → ℕ → ℕ → ℕ → List ℕ
+countLines T atoms rules words =
+    line horizonWord (decimal T) ++ line atomsWord (decimal atoms) ++ line rulesWord (decimal rules) ++ line wordsWord (decimal words)
+
+-- the nine lines, or a refusal
+abbrev pub checkedLines : List ℕ → List ℕ → history.Reply → causal.Reply → List ℕ
+checkedLines input counts (history.refused number place) reply = refusal number place
+checkedLines input counts (history.missing a) reply = counts ++ line answerWord missingWord ++ line atWord (decimal a) ++ noCausal
+checkedLines input counts (history.judged v) reply = counts ++ verdictLines v ++ causalAfter input v reply
+
+-- room for the largest table
+abbrev pub room : ℕ
+room = 30912
+
+abbrev pub afterOutcome : List ℕ → Description → List Law → List ℕ → translated.Outcome → List ℕ
+afterOutcome input d ls vs (translated.refused number place) = refusal number place
+afterOutcome input d ls vs (translated.written atoms rules words) =
+    checkedLines input (countLines (d .horizon) atoms rules words) (history.checked d ls 64 vs room) (causal.reading d ls 64 vs)
+
+abbrev pub afterHistory : List ℕ → Draft → ℕ → histories.Recorded → List ℕ
+afterHistory input d lines (histories.rejected number place) = refusal number (movedUp lines number place)
+afterHistory input d lines (histories.values vs) =
+    afterOutcome input (descriptionOf d) (d .laws) vs (translated.outcome (descriptionOf d) (d .laws) 64 room)
+
+-- the history is what stands behind the description's end line; there is a value for each atom
+abbrev pub afterDescription : List ℕ → Outcome → List ℕ
+afterDescription input (turned number place) = refusal number place
+afterDescription input (read d rest lines) = afterHistory input d lines (histories.history input rest (histories.atoms d))
+
+unfoldable pub output : List ℕ → List ℕ
+output input = afterDescription input (described 64 input)
