@@ -20,6 +20,7 @@ use Rattle.text.specs.Descriptions.{horizonOf, headOf, lineStep, described}
 use Rattle.text.specs.Histories as histories
 use Rattle.text.specs.Shown.{shownFluent}
 use Rattle.text.specs.Examples.{recipeText, historyText}
+use Rattle.inputs.specs.Inputs.{recordedIn}
 use Rattle.report.specs.Writing.{decimal}
 use Rattle.report.specs.Output.{output}
 use Rattle.report.specs.Examples.{passedOutput, m1Text, m1Output, m2Text, m2Output, m4Text, m4Output, refusedOutput}
@@ -29,5 +30,5 @@ pub outputs : (output (recipeText ++ historyText) ≡ passedOutput)
     × (output (recipeText ++ m2Text) ≡ m2Output)
     × (output (recipeText ++ m4Text) ≡ m4Output)
     × (output (recipeText ++ historyText ++ (10 ∷ [])) ≡ refusedOutput)
-unfolding output decimal shownFluent engine.answer verdict rulesOf badRule setOf holdsTrue holdsFalse complement badRecord badHorizon translation translated.outcome history.checked causalVerdict causal.reading cut keyNumber firstLine isName literal items listOf horizonOf headOf lineStep described histories.history
+unfolding output decimal shownFluent engine.answer verdict rulesOf badRule setOf holdsTrue holdsFalse complement badRecord badHorizon translation translated.outcome history.checked causalVerdict causal.reading cut keyNumber firstLine isName literal items listOf horizonOf headOf lineStep described histories.history recordedIn
 outputs = (refl, refl, refl, refl, refl)

@@ -1,6 +1,5 @@
 pub mod Examples
 pub mod Stores
 pub mod Decimals
-pub mod Drafts
 pub mod Composing
 pub mod Reported

@@ -1,9 +1,7 @@
 -- The output for an input, composed from what the readers, the translation, the history check and the causal reading say.
 -- Assumes nothing.
-use mathlib.Core.Bool.{Bool, true, false, cond, _||_}
 use mathlib.Core.List.{List, [], _++_}
-use Prim.Native.Nat.{ℕ, _+_}
-use lib.Dec.{eqb}
+use Prim.Native.Nat.{ℕ}
 use Rattle.answer_sets.specs.Verdicts.{Verdict, clash, broken, unfounded, passes}
 use Rattle.description.specs.declared.Law.{Law}
 use Rattle.description.specs.declared.Description.{Description}
@@ -11,8 +9,10 @@ use Rattle.translation.specs.Translated as translated
 use Rattle.history.specs.Checks as history
 use Rattle.causal.specs.Verdicts.{Causal, contradicted, uncaused, path}
 use Rattle.causal.specs.Readings as causal
-use Rattle.text.specs.Descriptions.{Draft, Outcome, turned, read, described, descriptionOf}
-use Rattle.text.specs.Histories as histories
+use Rattle.text.specs.Descriptions.{Outcome, turned, read, described}
+use Rattle.text.specs.Answers.{recordOf}
+use Rattle.text.specs.Histories.{Recorded, rejected, values}
+use Rattle.inputs.specs.Inputs.{recordedIn}
 use Rattle.text.specs.Shown.{shownFluent}
 use Rattle.report.specs.Writing.{line, decimal, horizonWord, atomsWord, rulesWord, wordsWord, answerWord, atWord, causalWord, timeWord, itemWord, refusedWord, placeWord}
 use Rattle.report.specs.Writing.{passesWord, missingWord, clashWord, brokenWord, unfoundedWord, noneWord, pathWord, contradictedWord, uncausedWord}
@@ -20,10 +20,6 @@ use Rattle.report.specs.Writing.{passesWord, missingWord, clashWord, bro
 -- a refusal prints its number and place only
 abbrev pub refusal : ℕ → ℕ → List ℕ
 refusal number place = line refusedWord (decimal number) ++ line placeWord (decimal place)
-
--- lines count over the whole input: a line of the history is moved up by the description's lines; place 0 and lengths are not
-abbrev pub movedUp : ℕ → ℕ → ℕ → ℕ
-movedUp lines number place = cond (eqb number 1 || eqb number 10) place (lines + place)
 
 -- the verdict and its number, which is empty for passes
 abbrev pub verdictLines : Verdict → List ℕ
@@ -72,15 +68,15 @@ afterOutcome input d ls vs (translated.refused number place) = refusal number pl
 afterOutcome input d ls vs (translated.written atoms rules words) =
     checkedLines input (countLines (d .horizon) atoms rules words) (history.checked d ls 64 vs room) (causal.reading d ls 64 vs)
 
-abbrev pub afterHistory : List ℕ → Draft → ℕ → histories.Recorded → List ℕ
-afterHistory input d lines (histories.rejected number place) = refusal number (movedUp lines number place)
-afterHistory input d lines (histories.values vs) =
-    afterOutcome input (descriptionOf d) (d .laws) vs (translated.outcome (descriptionOf d) (d .laws) 64 room)
+-- the laws read
+abbrev pub lawsRead : Outcome → List Law
+lawsRead (turned number place) = []
+lawsRead (read d rest lines) = d .laws
 
--- the history is what stands behind the description's end line; there is a value for each atom
-abbrev pub afterDescription : List ℕ → Outcome → List ℕ
-afterDescription input (turned number place) = refusal number place
-afterDescription input (read d rest lines) = afterHistory input d lines (histories.history input rest (histories.atoms d))
+abbrev pub afterInput : List ℕ → Outcome → Recorded → List ℕ
+afterInput input o (rejected number place) = refusal number place
+afterInput input o (values vs) =
+    afterOutcome input (recordOf o) (lawsRead o) vs (translated.outcome (recordOf o) (lawsRead o) 64 room)
 
 unfoldable pub output : List ℕ → List ℕ
-output input = afterDescription input (described 64 input)
+output input = afterInput input (described 64 input) (recordedIn input)

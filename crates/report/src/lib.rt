@@ -4,67 +4,21 @@ mod writing;
 
 use answers::Counts;
 use description::Description;
-use description::Head;
-use description::Kind;
 use description::Law;
-use text::Answer;
 use text::HistoryAnswer;
 use translation::Translated;
 ghost use mathlib.Core.Path.{_≡_};
-ghost use Prim.Native.Nat.{_+_, _*_, _≤_, _<_, _^_};
+ghost use Prim.Native.Nat.{_+_};
 ghost use lib.ListN.{length};
 ghost use lib.Seq.{sets};
-ghost use Rattle.description.specs.Atoms.{atomCount};
 ghost use Rattle.translation.specs.Translated.{outcome};
-ghost use Rattle.report.specs.Output.{movedUp, room, afterOutcome, output};
+ghost use Rattle.report.specs.Output.{room, afterOutcome, output};
 
 // Room for the largest table.
 fn no_table() -> [u16; 30912]
     ensures { λ r. ⌜ 30912 ≡ length r ⌝ }
 {
     [0; 30912]
-}
-
-// Room for the laws; each is read before it is looked at.
-fn no_laws() -> [Law; 64] {
-    let law = Law {
-        kind: Kind::Static,
-        head: Head::False,
-        if_count: 0,
-        if_codes: [0; 6],
-        after_count: 0,
-        after_codes: [0; 6],
-    };
-    [law; 64]
-}
-
-// Room for the values of the most atoms.
-fn no_values() -> [u8; 1024]
-    ensures { λ r. ⌜ 1024 ≡ length r ⌝ }
-{
-    [0; 1024]
-}
-
-// How many atoms there are.
-fn atom_count(d: Description) -> usize
-    requires { ⌜ (d .fluents ≤ 24) × (d .actions ≤ 8) × (d .horizon ≤ 30) ⌝ }
-    ensures { λ r. ⌜ (r ≡ atomCount (d .fluents) (d .actions) (d .horizon)) × (r ≤ 1024) ⌝ }
-{
-    d.horizon * (d.fluents + d.actions) + d.fluents
-}
-
-// The place of a history's refusal in the whole input: a line is moved up by the description's lines.
-fn moved_up(lines: usize, number: u8, place: usize) -> usize
-    requires { ⌜ lines + place < 2 ^ 64 ⌝ }
-    ensures { λ r. ⌜ r ≡ movedUp lines number place ⌝ }
-{
-    if number == 1 {
-        return place;
-    }
-    if number == 10 {
-        return place;
-    }
-    lines + place
 }
 
 // Checks the values of a history, reads them causally, and writes what both say.
@@ -101,23 +55,16 @@ fn put_outcome(
 pub fn report(input: &[u8], out: &mut [u8]) -> usize
     ensures { λ r. ⌜ (r ≡ length (output (now (input .entry)))) × (now (out .exit) ≡ sets (now (out .entry)) 0 (output (now (input .entry)))) ⌝ }
 {
-    let described = text::read_description(input, no_laws(), 64);
-    let answer = described.answer;
+    let whole = inputs::read_input(input);
+    let answer = whole.answer;
     match answer {
-        Answer::Refused(number, place) => answers::put_refusal(out, 0, number, place),
-        Answer::Read(bytes, lines) => {
-            let d = described.description;
-            let run = described.run;
-            let laws = run.laws;
-            let atoms = atom_count(d);
-            let mut values = no_values();
-            let said = text::read_history(input, &input[bytes..], &mut values[..atoms]);
-            match said {
-                HistoryAnswer::Refused(number, place) => {
-                    answers::put_refusal(out, 0, number, moved_up(lines, number, place))
-                }
-                HistoryAnswer::Complete => put_outcome(out, input, d, laws, &values[..atoms]),
-            }
+        HistoryAnswer::Refused(number, place) => answers::put_refusal(out, 0, number, place),
+        HistoryAnswer::Complete => {
+            let d = whole.description;
+            let laws = whole.laws;
+            let values = whole.values;
+            let atoms = whole.atoms;
+            put_outcome(out, input, d, laws, &values[..atoms])
         }
     }
 }

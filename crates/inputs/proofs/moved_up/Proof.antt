@@ -2,8 +2,8 @@
 -- Assumes nothing.
 use borrow.Author.Tests.{eq-eqb, ne-eqb}
 use borrow.Author.Needs.{needs}
-use Rattle.report.proofs.moved_up.Statement.{statement}
-use Rattle.report.proofs.moved_up.Tie as tie
+use Rattle.inputs.proofs.moved_up.Statement.{statement}
+use Rattle.inputs.proofs.moved_up.Tie as tie
 
 returns : tie.Need-returns
 returns c = rw (eq-eqb (c .before .args .number) 1 (c .if1 .taken))

@@ -2,10 +2,10 @@
 -- Assumes nothing.
 use mathlib.Core.Path.{refl}
 use native.Mathlib.Omega.{arith}
-use Rattle.report.proofs.Reported.{few-atoms}
+use Rattle.inputs.proofs.Known.{few-atoms}
 use borrow.Author.Needs.{needs}
-use Rattle.report.proofs.atom_count.Statement.{statement}
-use Rattle.report.proofs.atom_count.Tie as tie
+use Rattle.inputs.proofs.atom_count.Statement.{statement}
+use Rattle.inputs.proofs.atom_count.Tie as tie
 
 add-result : tie.Need-add-result
 add-result c = search needs

@@ -1,0 +1,216 @@
+-- `read_input` meets its contract. What the description reader and the history reader said settles what the whole input
+-- holds.
+-- Assumes nothing.
+use mathlib.Core.Path.{_≡_, refl, sym, ap, _∙_}
+use mathlib.Core.List.{_++_}
+use native.Mathlib.Omega.{arith}
+use lib.ListN.{length, take, drop, length-take, length-drop, length-append}
+use Rattle.description.specs.declared.Description.{Description}
+use Rattle.description.specs.Atoms.{atomCount}
+use Rattle.text.specs.Descriptions.{described}
+use Rattle.text.specs.Answers.{replyOf, recordOf, lawsLeft}
+use Rattle.text.specs.Histories.{historyReplyOf, historyReplied}
+use Rattle.inputs.proofs.Known.{known, limits, low-place, turned-down, recorded-turned, says-rejected, says-complete, values-read}
+use borrow.Author.Needs.{needs}
+use Rattle.inputs.proofs.read_input.Statement.{statement}
+use Rattle.inputs.proofs.read_input.Tie as tie
+
+no-laws-requires : tie.Need-no-laws-requires
+no-laws-requires c κs = search needs
+
+read-description-requires : tie.Need-read-description-requires
+read-description-requires c κs = search needs
+
+no-values-requires : tie.Need-no-values-requires
+no-values-requires c κs = search needs
+
+enum-known-answer : tie.Need-enum-known-answer
+enum-known-answer c = search needs
+
+enum-known-answer-2 : tie.Need-enum-known-answer-2
+enum-known-answer-2 c = search needs
+
+atom-count-requires : tie.Need-atom-count-requires
+atom-count-requires c κs =
+    let n = c .before in
+    let rd = n .before .before .before .before .before .before in
+    let a = rd .before .before .before .args in
+    let input = a .input .now in
+    let k = known input (sym (rd .read-description .ensures .0) ∙ ap replyOf (n .answer2 .given .1)) in
+    rw (rd .read-description .ensures .1 .0, k .is) (limits input k)
+
+sub-read-history : tie.Need-sub-read-history
+sub-read-history c =
+    let n = c .before .before in
+    let rd = n .before .before .before .before .before .before in
+    let a = rd .before .before .before .args in
+    let input = a .input .now in
+    let k = known input (sym (rd .read-description .ensures .0) ∙ ap replyOf (n .answer2 .given .1)) in
+    k .start
+
+part-read-history-start : tie.Need-part-read-history-start
+part-read-history-start c =
+    let n = c .before .before in
+    let rd = n .before .before .before .before .before .before in
+    let a = rd .before .before .before .args in
+    let input = a .input .now in
+    let k = known input (sym (rd .read-description .ensures .0) ∙ ap replyOf (n .answer2 .given .1)) in
+    k .start
+
+part-read-history-end : tie.Need-part-read-history-end
+part-read-history-end c = search needs
+
+array-borrow-prefix-values : tie.Need-array-borrow-prefix-values
+array-borrow-prefix-values c = search needs
+
+slice-aggregate-read-history : tie.Need-slice-aggregate-read-history
+slice-aggregate-read-history c =
+    let count = c .before .before in
+    let v = count .before .before .before .before in
+    let m = count .atom-count .result in
+    omega (arith, length-take m (v .no-values .result), count .atom-count .ensures .1, ap length (v .no-values .ensures))
+
+read-history-requires : tie.Need-read-history-requires
+read-history-requires c κs = search needs
+
+enum-known-said : tie.Need-enum-known-said
+enum-known-said c = search needs
+
+moved-up-requires : tie.Need-moved-up-requires
+moved-up-requires c κs =
+    let said = c .before in
+    let rh = said .before .before .before in
+    let count = rh .before .before .before in
+    let n = count .before .before in
+    let rd = n .before .before .before .before .before .before in
+    let a = rd .before .before .before .args in
+    let input = a .input .now in
+    let k = known input (sym (rd .read-description .ensures .0) ∙ ap replyOf (n .answer2 .given .1)) in
+    let v = n .before .before in
+    let m = count .atom-count .result in
+    let zs = v .no-values .result in
+    let dis = rd .read-description .ensures .1 .0 ∙ ap recordOf (k .is) in
+    let few = count .atom-count .ensures .1 in
+    let size : length (take m zs) ≡ m = omega (arith, length-take m zs, few, ap length (v .no-values .ensures)) in
+    let enough = size ∙ count .atom-count .ensures .0 ∙ ap (λ (x : Description). atomCount (x .fluents) (x .actions) (x .horizon)) dis in
+    omega (arith, k .counted, low-place input k (k .part) enough (sym (ap historyReplyOf (said .said .given .1)) ∙ rh .read-history .ensures .0))
+
+enum-told : tie.Need-enum-told
+enum-told c = search needs
+
+returns : tie.Need-returns
+returns c =
+    let n = c .before in
+    let v = n .before .before in
+    let rd = v .before .before .before .before in
+    let input = rd .before .before .before .args .input .now in
+    let is = turned-down input (sym (rd .read-description .ensures .0) ∙ ap replyOf (n .answer .given .1)) in (
+      sym (ap historyReplied (recorded-turned input is)),
+      (
+        rd .read-description .ensures .1 .0,
+        (
+          rd .read-description .ensures .1 .1 .0 ∙ ap (lawsLeft (described 64 input)) (rd .before .no-laws .ensures),
+          (
+            rw is refl,
+            (
+              rw (recorded-turned input is) refl,
+              (
+                v .no-values .ensures,
+                (omega arith, ap length (v .no-values .ensures)),
+              ),
+            ),
+          ),
+        ),
+      ),
+    )
+
+returns-2 : tie.Need-returns-2
+returns-2 c =
+    let said = c .before .before in
+    let rh = said .before .before .before in
+    let count = rh .before .before .before in
+    let n = count .before .before in
+    let rd = n .before .before .before .before .before .before in
+    let a = rd .before .before .before .args in
+    let input = a .input .now in
+    let k = known input (sym (rd .read-description .ensures .0) ∙ ap replyOf (n .answer2 .given .1)) in
+    let v = n .before .before in
+    let m = count .atom-count .result in
+    let zs = v .no-values .result in
+    let dis = rd .read-description .ensures .1 .0 ∙ ap recordOf (k .is) in
+    let few = count .atom-count .ensures .1 in
+    let size : length (take m zs) ≡ m = omega (arith, length-take m zs, few, ap length (v .no-values .ensures)) in
+    let enough = size ∙ count .atom-count .ensures .0 ∙ ap (λ (x : Description). atomCount (x .fluents) (x .actions) (x .horizon)) dis in
+    let last = rh .read-history .last .1 .1 .0 in
+    let whole : length last ≡ m = omega (arith, rh .read-history .kept .1 .1 .0, size) in
+    let filled : length (last ++ drop m zs) ≡ 1024 = omega (arith, length-append last (drop m zs), length-drop m zs, whole, few, ap length (v .no-values .ensures)) in
+    let vs = values-read input k (k .part) enough m zs last few (v .no-values .ensures) whole (rh .read-history .ensures .1) in
+    let is = says-rejected input k (k .part) enough (sym (ap historyReplyOf (said .said .given .1)) ∙ rh .read-history .ensures .0) in (
+      rw (c .moved-up .ensures) is,
+      (
+        rd .read-description .ensures .1 .0,
+        (
+          rd .read-description .ensures .1 .1 .0 ∙ ap (lawsLeft (described 64 input)) (rd .before .no-laws .ensures),
+          (
+            count .atom-count .ensures .0 ∙ ap (λ (x : Description). atomCount (x .fluents) (x .actions) (x .horizon)) (rd .read-description .ensures .1 .0),
+            (vs .0, (vs .1, (few, filled))),
+          ),
+        ),
+      ),
+    )
+
+returns-3 : tie.Need-returns-3
+returns-3 c =
+    let rh = c .before .before .before in
+    let count = rh .before .before .before in
+    let n = count .before .before in
+    let rd = n .before .before .before .before .before .before in
+    let a = rd .before .before .before .args in
+    let input = a .input .now in
+    let k = known input (sym (rd .read-description .ensures .0) ∙ ap replyOf (n .answer2 .given .1)) in
+    let v = n .before .before in
+    let m = count .atom-count .result in
+    let zs = v .no-values .result in
+    let dis = rd .read-description .ensures .1 .0 ∙ ap recordOf (k .is) in
+    let few = count .atom-count .ensures .1 in
+    let size : length (take m zs) ≡ m = omega (arith, length-take m zs, few, ap length (v .no-values .ensures)) in
+    let enough = size ∙ count .atom-count .ensures .0 ∙ ap (λ (x : Description). atomCount (x .fluents) (x .actions) (x .horizon)) dis in
+    let last = rh .read-history .last .1 .1 .0 in
+    let whole : length last ≡ m = omega (arith, rh .read-history .kept .1 .1 .0, size) in
+    let filled : length (last ++ drop m zs) ≡ 1024 = omega (arith, length-append last (drop m zs), length-drop m zs, whole, few, ap length (v .no-values .ensures)) in
+    let vs = values-read input k (k .part) enough m zs last few (v .no-values .ensures) whole (rh .read-history .ensures .1) in (
+      says-complete input k (k .part) enough (sym (ap historyReplyOf (c .enum-told .given .1)) ∙ rh .read-history .ensures .0),
+      (
+        rd .read-description .ensures .1 .0,
+        (
+          rd .read-description .ensures .1 .1 .0 ∙ ap (lawsLeft (described 64 input)) (rd .before .no-laws .ensures),
+          (
+            count .atom-count .ensures .0 ∙ ap (λ (x : Description). atomCount (x .fluents) (x .actions) (x .horizon)) (rd .read-description .ensures .1 .0),
+            (vs .0, (vs .1, (few, filled))),
+          ),
+        ),
+      ),
+    )
+
+pub read-input-spec : {M : Type 1} → statement M
+read-input-spec =
+    tie.close
+    (tie.spec
+    no-laws-requires
+    read-description-requires
+    no-values-requires
+    enum-known-answer
+    enum-known-answer-2
+    atom-count-requires
+    sub-read-history
+    part-read-history-start
+    part-read-history-end
+    array-borrow-prefix-values
+    slice-aggregate-read-history
+    read-history-requires
+    enum-known-said
+    moved-up-requires
+    enum-told
+    returns
+    returns-2
+    returns-3)

@@ -1,0 +1,2 @@
+-- What a whole input holds: a description and a history of it.
+pub mod Inputs

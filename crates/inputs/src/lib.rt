@@ -1,0 +1,113 @@
+// The reader of a whole input: a description, and behind its end line the history of it. Lines count over the whole input.
+use description::Description;
+use description::Head;
+use description::Kind;
+use description::Law;
+use text::Answer;
+use text::HistoryAnswer;
+ghost use mathlib.Core.Path.{_≡_};
+ghost use Prim.Native.Nat.{_+_, _-_, _≤_, _<_, _^_};
+ghost use lib.ListN.{length, take, drop, replicate};
+ghost use Rattle.description.specs.Atoms.{atomCount};
+ghost use Rattle.text.specs.Descriptions.{described};
+ghost use Rattle.text.specs.Answers.{recordOf, lawsLeft};
+ghost use Rattle.text.specs.Histories.{historyReplyOf, historyReplied, leftIn};
+ghost use Rattle.inputs.specs.Inputs.{noLaws, movedUp, recordedIn};
+
+// A run of laws to read into.
+fn no_laws() -> [Law; 64]
+    ensures { λ r. ⌜ r ≡ noLaws ⌝ }
+{
+    let law = Law {
+        kind: Kind::Static,
+        head: Head::Lit(0),
+        if_count: 0,
+        if_codes: [0; 6],
+        after_count: 0,
+        after_codes: [0; 6],
+    };
+    [law; 64]
+}
+
+// Room for the values of the most atoms.
+fn no_values() -> [u8; 1024]
+    ensures { λ r. ⌜ r ≡ replicate 1024 0 ⌝ }
+{
+    [0; 1024]
+}
+
+// How many atoms there are.
+fn atom_count(d: Description) -> usize
+    requires { ⌜ (d .fluents ≤ 24) × (d .actions ≤ 8) × (d .horizon ≤ 30) ⌝ }
+    ensures { λ r. ⌜ (r ≡ atomCount (d .fluents) (d .actions) (d .horizon)) × (r ≤ 1024) ⌝ }
+{
+    d.horizon * (d.fluents + d.actions) + d.fluents
+}
+
+// The place of a history's refusal in the whole input: a line is moved up by the description's lines.
+fn moved_up(lines: usize, number: u8, place: usize) -> usize
+    requires { ⌜ lines + place < 2 ^ 64 ⌝ }
+    ensures { λ r. ⌜ r ≡ movedUp lines number place ⌝ }
+{
+    if number == 1 {
+        return place;
+    }
+    if number == 10 {
+        return place;
+    }
+    lines + place
+}
+
+// What the readers give: a refusal or that all was read, the description with its laws, and the values of the history, one
+// for each atom. On a refusal by the description every count is 0 and nothing stands in the laws; on any refusal the values are 0.
+pub struct Input {
+    pub answer: HistoryAnswer,
+    pub description: Description,
+    pub laws: [Law; 64],
+    pub values: [u8; 1024],
+    pub atoms: usize,
+}
+
+// Reads a whole input.
+pub fn read_input(input: &[u8]) -> Input
+    ensures { λ r. ⌜ historyReplyOf (r .answer) ≡ historyReplied (recordedIn (now (input .entry))) ⌝ }
+    ensures { λ r. ⌜ r .description ≡ recordOf (described 64 (now (input .entry))) ⌝ }
+    ensures { λ r. ⌜ r .laws ≡ lawsLeft (described 64 (now (input .entry))) noLaws ⌝ }
+    ensures { λ r. ⌜ (let d = recordOf (described 64 (now (input .entry))) in r .atoms ≡ atomCount (d .fluents) (d .actions) (d .horizon)) ⌝ }
+    ensures { λ r. ⌜ take (r .atoms) (r .values) ≡ leftIn (recordedIn (now (input .entry))) (replicate (r .atoms) 0) ⌝ }
+    ensures { λ r. ⌜ drop (r .atoms) (r .values) ≡ replicate (1024 - r .atoms) 0 ⌝ }
+    ensures { λ r. ⌜ (r .atoms ≤ 1024) × (length (r .values) ≡ 1024) ⌝ }
+{
+    let read = text::read_description(input, no_laws(), 64);
+    let answer = read.answer;
+    let description = read.description;
+    let run = read.run;
+    let laws = run.laws;
+    let mut values = no_values();
+    match answer {
+        Answer::Refused(number, place) => Input {
+            answer: HistoryAnswer::Refused(number, place),
+            description,
+            laws,
+            values,
+            atoms: 0,
+        },
+        Answer::Read(bytes, lines) => {
+            let atoms = atom_count(description);
+            let said = text::read_history(input, &input[bytes..], &mut values[..atoms]);
+            let answer = match said {
+                HistoryAnswer::Refused(number, place) => {
+                    HistoryAnswer::Refused(number, moved_up(lines, number, place))
+                }
+                HistoryAnswer::Complete => HistoryAnswer::Complete,
+            };
+            Input {
+                answer,
+                description,
+                laws,
+                values,
+                atoms,
+            }
+        }
+    }
+}

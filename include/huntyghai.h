@@ -1,0 +1,66 @@
+/* Huntyghai for C: the proved checker for recipes as a static library.
+ *
+ * Build it with `rt staticlib huntyghai` and link target/staticlib/libhuntyghai.a. Each function is proved to meet the
+ * promise of its Rattle source (crates/huntyghai), for every input; nothing checks this header against that source.
+ * A slice is a pointer and a length in elements. A length of 0 may come with any pointer; the parts of memory lent to one
+ * call must not overlap where one of them is written to. Nothing is kept after a call and nothing is allocated; a call
+ * needs some 400 KiB of stack.
+ *
+ * An answer is one number: its code is the answer modulo 256, and its value is the answer divided by 256.
+ *
+ *   code    meaning                                    value
+ *   1..12   a refusal by that number                   its place, modulo 2^56
+ *   16      passes                                     0
+ *   17      clash                                      the atom
+ *   18      broken                                     the rule
+ *   19      unfounded                                  the literal code
+ *   20      missing                                    the atom
+ *   32      path                                       0
+ *   33      contradicted                               65536 * time + law
+ *   34      uncaused                                   65536 * time + fluent
+ *   48      written                                    atoms + 65536 * rules + 65536 * 65536 * words
+ *   64      read                                       0
+ *
+ * After a refusal all lent memory is as it was.
+ */
+#ifndef HUNTYGHAI_H
+#define HUNTYGHAI_H
+
+#include <stddef.h>
+#include <stdint.h>
+
+#ifdef __cplusplus
+extern "C" {
+#endif
+
+/* What the program check prints for an input, written to out as far as out goes. The result is the length of the whole
+ * output. */
+size_t huntyghai_report(const uint8_t *input, size_t input_length, uint8_t *out, size_t out_length);
+
+/* The engine: is the set of literals that the values hold an answer set of the table's rules? One value an atom: 0 none,
+ * 1 true, 2 false, 3 both. Codes 10, 11, 12, 16, 17, 18, 19. */
+uint64_t huntyghai_check_set(const uint8_t *values, size_t values_length, const uint16_t *table, size_t table_length);
+
+/* Translates the description at the text's start; what stands behind its end line is not read. Codes 1 to 6, 9, 48. On
+ * success the table's first words are the rules. */
+uint64_t huntyghai_translate(const uint8_t *text, size_t text_length, uint16_t *table, size_t table_length);
+
+/* Reads a history's text, which begins behind the description's end line, into one value an atom. Codes 1 to 7, 10, 64;
+ * the description's own refusal comes first. Lines are counted within the text that is refused. */
+uint64_t huntyghai_read_history(const uint8_t *description, size_t description_length, const uint8_t *history,
+                                size_t history_length, uint8_t *values, size_t values_length);
+
+/* The history check on the description at the text's start. Codes 1 to 6, 9 to 11, 16 to 20. After every verdict the
+ * table's first words are the description's rules. */
+uint64_t huntyghai_check_history(const uint8_t *text, size_t text_length, const uint8_t *values, size_t values_length,
+                                 uint16_t *table, size_t table_length);
+
+/* The causal reading of a whole input, a description and its history. Codes 1 to 7, 11, 32, 33, 34; lines are counted
+ * over the whole input. A history that leaves an atom without exactly one value is refused by 11. */
+uint64_t huntyghai_causal_reading(const uint8_t *input, size_t input_length);
+
+#ifdef __cplusplus
+}
+#endif
+
+#endif
