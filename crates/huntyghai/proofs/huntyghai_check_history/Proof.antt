@@ -1,0 +1,73 @@
+-- `huntyghai_check_history` meets its contract. What the reader said of the text settles which part of the definition applies.
+-- Assumes nothing.
+use mathlib.Core.Path.{sym, ap, _∙_}
+use lib.ListN.{length}
+use Rattle.text.specs.Answers.{replyOf}
+use Rattle.huntyghai.specs.Codes.{checkedCode}
+use Rattle.huntyghai.proofs.Texts.{check-turned, check-table-turned, check-read, check-table-read}
+use borrow.Author.Needs.{needs}
+use Rattle.huntyghai.proofs.huntyghai_check_history.Statement.{statement}
+use Rattle.huntyghai.proofs.huntyghai_check_history.Tie as tie
+
+no-laws-requires : tie.Need-no-laws-requires
+no-laws-requires c κs = search needs
+
+read-description-requires : tie.Need-read-description-requires
+read-description-requires c κs = search needs
+
+enum-known-answer : tie.Need-enum-known-answer
+enum-known-answer c = search needs
+
+number-requires : tie.Need-number-requires
+number-requires c κs = search needs
+
+enum-known-answer-2 : tie.Need-enum-known-answer-2
+enum-known-answer-2 c = search needs
+
+check-history-requires : tie.Need-check-history-requires
+check-history-requires c κs = search needs
+
+of-checked-requires : tie.Need-of-checked-requires
+of-checked-requires c κs = search needs
+
+returns : tie.Need-returns
+returns c =
+    let told = c .before .before in
+    let rd = told .before .before in
+    let a = rd .before .before .before .before .before .args in
+    let text = a .text .now in
+    let e = sym (rd .read-description .ensures .0) ∙ ap replyOf (told .answer .given .1) in
+    (c .number .ensures ∙ check-turned text e (a .values .now) (length (a .table .now)), check-table-turned text e (a .values .now) (a .table .now))
+
+same-length : tie.Need-same-length
+same-length c = search needs
+
+returns-2 : tie.Need-returns-2
+returns-2 c =
+    let t = c .before .before .before in
+    let told = t .before .before .before .before .before .before in
+    let rd = told .before .before in
+    let a = rd .before .before .before .before .before .args in
+    let text = a .text .now in
+    let old = rd .before .no-laws .result in
+    let e = sym (rd .read-description .ensures .0) ∙ ap replyOf (told .answer2 .given .1) in
+    let dis = rd .read-description .ensures .1 .0 in
+    let lis = rd .read-description .ensures .1 .1 .0 in (
+      c .of-checked .ensures ∙ ap checkedCode (t .check-history .ensures .0) ∙ check-read text old e dis lis (a .values .now) (length (a .table .now)),
+      t .check-history .ensures .1 ∙ check-table-read text old e dis lis (a .values .now) (a .table .now),
+    )
+
+pub huntyghai-check-history-spec : {M : Type 1} → statement M
+huntyghai-check-history-spec =
+    tie.close
+    (tie.spec
+    no-laws-requires
+    read-description-requires
+    enum-known-answer
+    number-requires
+    enum-known-answer-2
+    check-history-requires
+    of-checked-requires
+    returns
+    same-length
+    returns-2)

@@ -1,0 +1,73 @@
+-- `huntyghai_translate` meets its contract. What the reader said of the text settles which part of the definition applies.
+-- Assumes nothing.
+use mathlib.Core.Path.{sym, ap, _∙_}
+use lib.ListN.{length}
+use Rattle.text.specs.Answers.{replyOf}
+use Rattle.huntyghai.specs.Codes.{outcomeCode}
+use Rattle.huntyghai.proofs.Texts.{translate-turned, table-turned, translate-read, table-read}
+use borrow.Author.Needs.{needs}
+use Rattle.huntyghai.proofs.huntyghai_translate.Statement.{statement}
+use Rattle.huntyghai.proofs.huntyghai_translate.Tie as tie
+
+no-laws-requires : tie.Need-no-laws-requires
+no-laws-requires c κs = search needs
+
+read-description-requires : tie.Need-read-description-requires
+read-description-requires c κs = search needs
+
+enum-known-answer : tie.Need-enum-known-answer
+enum-known-answer c = search needs
+
+number-requires : tie.Need-number-requires
+number-requires c κs = search needs
+
+enum-known-answer-2 : tie.Need-enum-known-answer-2
+enum-known-answer-2 c = search needs
+
+translate-requires : tie.Need-translate-requires
+translate-requires c κs = search needs
+
+of-translated-requires : tie.Need-of-translated-requires
+of-translated-requires c κs = search needs
+
+returns : tie.Need-returns
+returns c =
+    let told = c .before .before in
+    let rd = told .before .before in
+    let a = rd .before .before .before .before .args in
+    let text = a .text .now in
+    let e = sym (rd .read-description .ensures .0) ∙ ap replyOf (told .answer .given .1) in
+    (c .number .ensures ∙ translate-turned text e (length (a .table .now)), table-turned text e (a .table .now))
+
+same-length : tie.Need-same-length
+same-length c = search needs
+
+returns-2 : tie.Need-returns-2
+returns-2 c =
+    let t = c .before .before .before in
+    let told = t .before .before .before .before .before .before in
+    let rd = told .before .before in
+    let a = rd .before .before .before .before .args in
+    let text = a .text .now in
+    let old = rd .before .no-laws .result in
+    let e = sym (rd .read-description .ensures .0) ∙ ap replyOf (told .answer2 .given .1) in
+    let dis = rd .read-description .ensures .1 .0 in
+    let lis = rd .read-description .ensures .1 .1 .0 in (
+      c .of-translated .ensures ∙ ap outcomeCode (t .translate .ensures .0) ∙ translate-read text old e dis lis (length (a .table .now)),
+      t .translate .ensures .1 ∙ table-read text old e dis lis (a .table .now),
+    )
+
+pub huntyghai-translate-spec : {M : Type 1} → statement M
+huntyghai-translate-spec =
+    tie.close
+    (tie.spec
+    no-laws-requires
+    read-description-requires
+    enum-known-answer
+    number-requires
+    enum-known-answer-2
+    translate-requires
+    of-translated-requires
+    returns
+    same-length
+    returns-2)

@@ -1,0 +1,85 @@
+// Answers as numbers.
+use answer_sets::Answer;
+use causal::Reading;
+use history::Checked;
+use text::HistoryAnswer;
+use translation::Translated;
+ghost use mathlib.Core.Path.{_≡_};
+ghost use Prim.Native.Nat.{_<_};
+ghost use Rattle.answer_sets.specs.Answers;
+ghost use Rattle.translation.specs.Translated.{outcomeOf};
+ghost use Rattle.history.specs.Checks;
+ghost use Rattle.causal.specs.Readings;
+ghost use Rattle.text.specs.Histories.{historyReplyOf};
+ghost use Rattle.huntyghai.specs.Codes.{coded, pair, answerCode, outcomeCode, checkedCode, readingCode, historyCode};
+
+// A code, and 256 times a value of up to 56 bits.
+pub(crate) fn number(code: u8, value: usize) -> u64
+    ensures { λ r. ⌜ r ≡ coded code value ⌝ }
+{
+    code as u64 + value as u64 % 72057594037927936 * 256
+}
+
+// Two numbers of up to 16 bits in one.
+fn both(high: usize, low: usize) -> usize
+    ensures { λ r. ⌜ r ≡ pair high low ⌝ }
+    ensures { λ r. ⌜ r < 4294967296 ⌝ }
+{
+    high % 65536 * 65536 + low % 65536
+}
+
+pub(crate) fn of_answer(answer: Answer) -> u64
+    ensures { λ r. ⌜ r ≡ answerCode (Answers.replyOf answer) ⌝ }
+{
+    match answer {
+        Answer::Refused(k, place) => number(k, place),
+        Answer::Clash(atom) => number(17, atom),
+        Answer::Broken(rule) => number(18, rule),
+        Answer::Unfounded(code) => number(19, code),
+        Answer::Passes => number(16, 0),
+    }
+}
+
+pub(crate) fn of_checked(checked: Checked) -> u64
+    ensures { λ r. ⌜ r ≡ checkedCode (Checks.replyOf checked) ⌝ }
+{
+    match checked {
+        Checked::Refused(k, place) => number(k, place),
+        Checked::Missing(atom) => number(20, atom),
+        Checked::Clash(atom) => number(17, atom),
+        Checked::Broken(rule) => number(18, rule),
+        Checked::Unfounded(code) => number(19, code),
+        Checked::Passes => number(16, 0),
+    }
+}
+
+pub(crate) fn of_reading(reading: Reading) -> u64
+    ensures { λ r. ⌜ r ≡ readingCode (Readings.replyOf reading) ⌝ }
+{
+    match reading {
+        Reading::Refused(k, place) => number(k, place),
+        Reading::Contradicted(time, law) => number(33, both(time, law)),
+        Reading::Uncaused(time, fluent) => number(34, both(time, fluent)),
+        Reading::Path => number(32, 0),
+    }
+}
+
+pub(crate) fn of_translated(translated: Translated) -> u64
+    ensures { λ r. ⌜ r ≡ outcomeCode (outcomeOf translated) ⌝ }
+{
+    match translated {
+        Translated::Refused(k, place) => number(k, place),
+        Translated::Written(atoms, rules, words) => {
+            number(48, words % 65536 * 4294967296 + both(rules, atoms))
+        }
+    }
+}
+
+pub(crate) fn of_history(said: HistoryAnswer) -> u64
+    ensures { λ r. ⌜ r ≡ historyCode (historyReplyOf said) ⌝ }
+{
+    match said {
+        HistoryAnswer::Refused(k, place) => number(k, place),
+        HistoryAnswer::Complete => number(64, 0),
+    }
+}

@@ -1,0 +1,112 @@
+// The library for C and Rust (include/huntyghai.h): functions on numbers and slices of numbers. An answer is one number, its
+// code and 256 times its value.
+mod codes;
+
+use description::Head;
+use description::Kind;
+use description::Law;
+use text::Answer;
+use text::HistoryAnswer;
+ghost use mathlib.Core.Path.{_≡_};
+ghost use lib.ListN.{length};
+ghost use lib.Seq.{sets};
+ghost use Rattle.answer_sets.specs.Answers.{answer};
+ghost use Rattle.text.specs.Histories.{history, historyReplied, leftIn};
+ghost use Rattle.report.specs.Output.{output};
+ghost use Rattle.huntyghai.specs.Codes.{answerCode, historyCode};
+ghost use Rattle.huntyghai.specs.Texts.{translatedText, tableOfText, checkedText, tableOfCheck, readingOfInput};
+
+// A run of laws to read into.
+fn no_laws() -> [Law; 64] {
+    let law = Law {
+        kind: Kind::Static,
+        head: Head::Lit(0),
+        if_count: 0,
+        if_codes: [0; 6],
+        after_count: 0,
+        after_codes: [0; 6],
+    };
+    [law; 64]
+}
+
+// What the program check prints for an input, as far as the buffer goes; the result is the whole output's length.
+#[no_mangle]
+pub extern "C" fn huntyghai_report(input: &[u8], out: &mut [u8]) -> usize
+    ensures { λ r. ⌜ (r ≡ length (output (now (input .entry)))) × (now (out .exit) ≡ sets (now (out .entry)) 0 (output (now (input .entry)))) ⌝ }
+{
+    report::report(input, out)
+}
+
+// The engine's answer to values and a table.
+#[no_mangle]
+pub extern "C" fn huntyghai_check_set(values: &[u8], table: &[u16]) -> u64
+    ensures { λ r. ⌜ r ≡ answerCode (answer (now (values .entry)) (now (table .entry))) ⌝ }
+{
+    codes::of_answer(answer_sets::check_set(values, table))
+}
+
+// Translates the description at the text's start.
+#[no_mangle]
+pub extern "C" fn huntyghai_translate(text: &[u8], table: &mut [u16]) -> u64
+    ensures { λ r. ⌜ r ≡ translatedText (now (text .entry)) (length (now (table .entry))) ⌝ }
+    ensures { λ _. ⌜ now (table .exit) ≡ tableOfText (now (text .entry)) (now (table .entry)) ⌝ }
+{
+    let read = text::read_description(text, no_laws(), 64);
+    let answer = read.answer;
+    match answer {
+        Answer::Refused(number, place) => codes::number(number, place),
+        Answer::Read(_bytes, _lines) => {
+            let d = read.description;
+            let run = read.run;
+            let laws = run.laws;
+            codes::of_translated(translation::translate(d, laws, 64, table))
+        }
+    }
+}
+
+// Reads a history's text by the names of the description's.
+#[no_mangle]
+pub extern "C" fn huntyghai_read_history(description: &[u8], text: &[u8], values: &mut [u8]) -> u64
+    ensures { λ r. ⌜ r ≡ historyCode (historyReplied (history (now (description .entry)) (now (text .entry)) (length (now (values .entry))))) ⌝ }
+    ensures { λ _. ⌜ now (values .exit) ≡ leftIn (history (now (description .entry)) (now (text .entry)) (length (now (values .entry)))) (now (values .entry)) ⌝ }
+{
+    codes::of_history(text::read_history(description, text, values))
+}
+
+// Checks values against the description at the text's start.
+#[no_mangle]
+pub extern "C" fn huntyghai_check_history(text: &[u8], values: &[u8], table: &mut [u16]) -> u64
+    ensures { λ r. ⌜ r ≡ checkedText (now (text .entry)) (now (values .entry)) (length (now (table .entry))) ⌝ }
+    ensures { λ _. ⌜ now (table .exit) ≡ tableOfCheck (now (text .entry)) (now (values .entry)) (now (table .entry)) ⌝ }
+{
+    let read = text::read_description(text, no_laws(), 64);
+    let answer = read.answer;
+    match answer {
+        Answer::Refused(number, place) => codes::number(number, place),
+        Answer::Read(_bytes, _lines) => {
+            let d = read.description;
+            let run = read.run;
+            let laws = run.laws;
+            codes::of_checked(history::check_history(d, laws, 64, values, table))
+        }
+    }
+}
+
+// Reads the history of a whole input causally.
+#[no_mangle]
+pub extern "C" fn huntyghai_causal_reading(input: &[u8]) -> u64
+    ensures { λ r. ⌜ r ≡ readingOfInput (now (input .entry)) ⌝ }
+{
+    let whole = inputs::read_input(input);
+    let answer = whole.answer;
+    match answer {
+        HistoryAnswer::Refused(number, place) => codes::number(number, place),
+        HistoryAnswer::Complete => {
+            let d = whole.description;
+            let laws = whole.laws;
+            let values = whole.values;
+            let atoms = whole.atoms;
+            codes::of_reading(causal::causal_reading(d, laws, 64, &values[..atoms]))
+        }
+    }
+}
