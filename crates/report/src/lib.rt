@@ -8,8 +8,8 @@ use description::Law;
 use text::HistoryAnswer;
 use translation::Translated;
 ghost use mathlib.Core.Path.{_≡_};
-ghost use Prim.Native.Nat.{_+_};
-ghost use lib.ListN.{length};
+ghost use Prim.Native.Nat.{_+_, _≤_, min};
+ghost use lib.ListN.{length, take};
 ghost use lib.Seq.{sets};
 ghost use Rattle.translation.specs.Translated.{outcome};
 ghost use Rattle.report.specs.Output.{room, afterOutcome, output};
@@ -67,4 +67,12 @@ pub fn report(input: &[u8], out: &mut [u8]) -> usize
             put_outcome(out, input, d, laws, &values[..atoms])
         }
     }
+}
+
+// How many bytes of an output of some length a buffer holds.
+pub fn held(size: usize, out: &[u8]) -> usize
+    ensures { λ r. ⌜ (r ≤ length (now (out .entry))) × (r ≡ length (take r (now (out .entry)))) ⌝ }
+    ensures { λ r. ⌜ r ≡ min size (length (now (out .entry))) ⌝ }
+{
+    if size < out.len() { size } else { out.len() }
 }

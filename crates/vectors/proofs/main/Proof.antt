@@ -1,0 +1,52 @@
+-- `main` is safe and ends: one byte value a turn.
+-- Assumes nothing.
+use Prim.Native.Nat.{_-_}
+use native.Mathlib.Omega.{arith}
+use borrow.Author.Needs.{needs}
+use Rattle.vectors.proofs.main.Statement.{statement}
+use Rattle.vectors.proofs.main.Tie as tie
+
+abbrev Inv-loop : tie.InvT-loop
+Inv-loop value₀ value = Unit {0}
+
+abbrev μ-loop : tie.MeasureT-loop
+μ-loop value₀ value = 256 - value
+
+run-arguments-requires : tie.Need-run-arguments-requires Inv-loop μ-loop
+run-arguments-requires c κs = search needs
+
+loop-holds : tie.Need-loop-holds Inv-loop μ-loop
+loop-holds c = search needs
+
+cast-run-byte : tie.Need-cast-run-byte Inv-loop μ-loop
+cast-run-byte c = search needs
+
+run-byte-requires : tie.Need-run-byte-requires Inv-loop μ-loop
+run-byte-requires c κs = search needs
+
+add-value : tie.Need-add-value Inv-loop μ-loop
+add-value c = search needs
+
+loop-less : tie.Need-loop-less Inv-loop μ-loop
+loop-less c = search needs
+
+loop-again : tie.Need-loop-again Inv-loop μ-loop
+loop-again c = search needs
+
+returns : tie.Need-returns Inv-loop μ-loop
+returns c = search needs
+
+pub main-spec : {M : Type 1} → statement M
+main-spec =
+    tie.close
+    (tie.spec
+    Inv-loop
+    μ-loop
+    run-arguments-requires
+    loop-holds
+    cast-run-byte
+    run-byte-requires
+    add-value
+    loop-less
+    loop-again
+    returns)

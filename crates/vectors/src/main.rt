@@ -1,0 +1,70 @@
+// Runs stored inputs through the report: for each argument, the name of a file, it writes the name and what the report says
+// of the file's bytes; then the same for the file every_byte with each byte value in one place of a declared name.
+use libc::STDOUT_FILENO;
+ghost use Rattle.io.specs.Counts.{Counts};
+
+// One file, as far as the buffer goes.
+fn read_file(path: &[u8], buf: &mut [u8]) -> usize
+    ensures { λ r. ⌜ Counts r (now (buf .exit)) ⌝ }
+{
+    let fd = os::open_read(path);
+    if fd < 0 {
+        os::fail(path);
+        return 0;
+    }
+    let got = io::read_full(fd, buf);
+    libc::close(fd);
+    got
+}
+
+// What the report says of an input.
+fn write_report(input: &[u8]) {
+    let mut out = io::buffer();
+    let size = report::report(input, &mut out);
+    let count = report::held(size, &out);
+    io::write_all(STDOUT_FILENO, &out[..count]);
+}
+
+// One stored input. The buffer has one byte more than a text may have.
+fn run_file(path: &[u8]) {
+    let mut input = io::large_buffer();
+    let got = read_file(path, &mut input);
+    io::write_all(STDOUT_FILENO, path);
+    io::write_all(STDOUT_FILENO, b"\n");
+    write_report(&input[..got]);
+}
+
+fn run_argument(i: usize) {
+    let mut path = io::buffer();
+    let length = os::arg(i, &mut path);
+    run_file(&path[..length]);
+}
+
+// Every argument.
+fn run_arguments() {
+    let count = os::arg_count();
+    let mut i = 1;
+    while i < count {
+        run_argument(i);
+        i += 1;
+    }
+}
+
+// An input with one byte replaced: place 18 is the second byte of the first name that every_byte declares.
+fn run_byte(value: u8) {
+    let mut input = io::buffer();
+    let got = read_file(b"every_byte", &mut input);
+    input[18] = value;
+    io::write_all(STDOUT_FILENO, b"byte ");
+    io::print_decimal(STDOUT_FILENO, value as u64);
+    io::write_all(STDOUT_FILENO, b"\n");
+    let count = report::held(got, &input);
+    write_report(&input[..count]);
+}
+
+fn main() {
+    run_arguments();
+    for value in 0..256usize {
+        run_byte((value % 256) as u8);
+    }
+}

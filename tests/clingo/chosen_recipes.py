@@ -1,0 +1,230 @@
+"""Recipes picked by hand: the full recipe of the contract with M1 to M5, the
+two examples of the paper's section 2, and recipes for each known slip.
+
+A law is written `head if list` (static) or `head if list after list` (dynamic);
+either list may be left empty, and a law is dynamic if the word `after` is there.
+A history is written state; act; state; ..; state.
+"""
+
+import itertools
+import random
+
+import solver
+from cases import SOME_FAULT
+from language import (Description, History, Law, all_literals, complete_only, solver_program)
+from recipe_cases import listed_places, literal_places, recipe_cases, write_history
+
+
+def inertial(*names):
+    signed = [sign + name for name in names for sign in ("", "-")]
+    return ["%s if %s after %s" % (word, word, word) for word in signed]
+
+
+def free(*names):
+    signed = [sign + name for name in names for sign in ("", "-")]
+    return ["%s if %s after" % (word, word) for word in signed]
+
+
+def codes_of(names, words):
+    found = []
+    for word in words.split(","):
+        word = word.strip()
+        if word:
+            negative = word.startswith("-")
+            found.append(2 * names.index(word[negative:]) + negative)
+    return tuple(found)
+
+
+def law_of(names, text):
+    rest, dynamic, after = (text + " ").partition(" after ")
+    head, _, condition = (rest + " ").partition(" if ")
+    head = head.strip()
+    number = None if head == "false" else codes_of(names, head)[0]
+    return Law(bool(dynamic), number, codes_of(names, condition), codes_of(names, after))
+
+
+def description_of(horizon, fluents, actions, laws):
+    names = fluents.split() + actions.split()
+    laws = tuple(law_of(names, text) for text in laws)
+    return Description(tuple(fluents.split()), tuple(actions.split()), laws, horizon)
+
+
+def history_of(description, text):
+    names = list(description.fluents + description.actions)
+    lists = [codes_of(names, part) for part in text.split(";")]
+    if len(lists) != 2 * description.horizon + 1:
+        raise ValueError("history of a wrong length: " + text)
+    return History(tuple(lists[0::2]), tuple(lists[1::2]))
+
+
+LOCK = (1, "locked flowed", "reflow",
+        ["flowed after reflow", "false after reflow,locked"] + inertial("locked", "flowed"))
+
+LOCK_HISTORIES = [
+    ("-locked,-flowed; reflow; -locked,flowed", "passes"),
+    ("locked,-flowed; reflow; locked,flowed", "broken 1"),
+    ("-locked,-flowed; -reflow; -locked,flowed", "unfounded 8"),
+    ("locked,-flowed; -reflow; -locked,-flowed", "unfounded 7"),
+    ("-locked; reflow; -locked,flowed", "missing 1"),
+    ("-locked,locked,-flowed; reflow; -locked,flowed", "clash 0"),
+]
+
+DOOR = (1, "closed", "opendoor", ["closed if closed", "-closed after opendoor"])
+
+DOOR_TRANSITIONS = [
+    "closed; -opendoor; closed", "closed; opendoor; -closed",
+    "-closed; -opendoor; closed", "-closed; opendoor; -closed",
+]
+
+WATER_LAWS = ["inwater after putinwater", "wet if inwater"] + inertial("inwater", "wet")
+
+WATER = (1, "inwater wet", "putinwater", WATER_LAWS)
+
+WATER_TRANSITIONS = [
+    "-inwater,-wet; -putinwater; -inwater,-wet", "-inwater,-wet; putinwater; inwater,wet",
+    "-inwater,wet; -putinwater; -inwater,wet", "-inwater,wet; putinwater; inwater,wet",
+    "inwater,wet; -putinwater; inwater,wet", "inwater,wet; putinwater; inwater,wet",
+]
+
+
+def every_transition(example, explained):
+    """All complete histories of one step; those the paper lists pass."""
+    description = description_of(*example)
+    wanted = [history_of(description, text) for text in explained]
+    fluents, actions = len(description.fluents), len(description.actions)
+    states = itertools.product(*[(2 * f, 2 * f + 1) for f in range(fluents)])
+    acts = itertools.product(*[(2 * k, 2 * k + 1) for k in range(fluents, fluents + actions)])
+    states, acts = list(states), list(acts)
+    found = []
+    for first, act, second in itertools.product(states, acts, states):
+        history = History((first, second), (act,))
+        found.append((history, "passes" if history in wanted else SOME_FAULT))
+    return description, found
+
+
+TOGGLE = ["p after -p", "-p after p"]
+AFTER = free("p") + ["q after p", "-q after -p"]
+GUARDED = inertial("p", "q") + ["q after a,p", "-p after a"]
+RING = ["q if p", "r if q", "p if r"]
+TURNING = ["q if p", "r if q", "-p if r"] + inertial("p", "q", "r")
+
+# (horizon, fluents, actions, laws), then histories of it
+SLIPS = [
+    # after-lists are read in the old state
+    ((1, "p q", "", AFTER), ["p,-q;;-p,q", "p,-q;;-p,-q", "-p,q;;p,q", "-p,q;;p,-q"]),
+    ((2, "p q", "a", GUARDED),
+     ["p,-q;a;-p,q;-a;-p,q", "p,-q;a;-p,-q;-a;-p,-q", "-p,-q;a;-p,q;-a;-p,q",
+      "p,-q;-a;p,-q;a;-p,q"]),
+    # an empty after-list makes no static law of a dynamic one
+    ((1, "p", "", ["p after"]), ["-p;;p", "-p;;-p"]),
+    ((2, "p", "", ["false if p after", "-p if -p after"]), ["p;;-p;;-p", "p;;-p;;p"]),
+    ((1, "p", "", ["p if p", "false after"]), ["p;;p"]),
+    ((2, "p q", "", ["q if p after"] + free("p", "q")), ["p,-q;;p,q;;-p,-q", "p,q;;p,q;;p,-q"]),
+    # static laws hold at time 0 and at time T
+    ((1, "p", "", ["false if p"] + free("p")), ["p;;-p", "-p;;p", "-p;;-p"]),
+    ((2, "p", "", ["false if p"] + free("p")), ["-p;;-p;;p"]),
+    ((2, "p q", "", ["q if p"] + free("p")),
+     ["p,q;;p,q;;p,q", "p,-q;;p,q;;p,q", "p,q;;p,q;;p,-q", "p,q;;p,q;;-p,q"]),
+    # false may head a law
+    ((2, "p", "a", ["false after a,-p", "p after a"] + free("p")),
+     ["p;a;p;a;p", "-p;a;p;-a;p", "p;-a;-p;a;p"]),
+    ((1, "p", "", ["false if"] + free("p")), ["p;;p"]),
+    # a closed set need not be least; ring of static laws
+    ((1, "p", "", []), ["p;;p", "-p;;-p"]),
+    ((1, "p q r", "", RING), ["p,q,r;;p,q,r", "-p,-q,-r;;-p,-q,-r", "p,q,r;;p,q,-r"]),
+    ((1, "p q r", "", TURNING), ["p,q,r;;p,q,r", "-p,q,r;;-p,q,r", "-p,-q,-r;;-p,-q,r"]),
+    ((1, "p q", "", ["p if q", "q if p", "-p if -q", "-q if -p"]),
+     ["p,q;;-p,-q", "-p,-q;;p,q", "-p,q;;p,q", "p,q;;-p,q"]),
+    # laws count at every step, not only at the first
+    ((3, "p", "", inertial("p")), ["p;;p;;p;;p", "p;;p;;p;;-p", "p;;p;;-p;;-p"]),
+    # rules are counted statics first, then by law, then by time
+    ((1, "p q", "", ["false after p", "false if q"] + free("p", "q")), ["p,-q;;p,q", "p,-q;;p,-q"]),
+    ((2, "p q", "", ["false if p", "false if q"] + free("p", "q")), ["-p,q;;-p,-q;;p,-q"]),
+    ((2, "p q", "", ["false after p", "false after q"] + free("p", "q")), ["-p,q;;p,-q;;p,q"]),
+    # repeated and contradictory literals, repeated laws
+    ((1, "p q", "a", ["q if p,-p", "q after a,-a", "-q if -q,-q after a,a,a", "p if p,p",
+                      "p if p,p"]), ["p,q;a;p,-q", "p,q;a;p,q", "p,q,p;-a,-a;p,-q,p"]),
+    # missing before clash, whatever atom is lower; empty lists
+    ((1, "p", "", free("p")), ["p,-p;;", ";;", ";;p,-p", "p,-p;;p,-p"]),
+    ((1, "p", "a", free("p")), ["p;;p", "p;a,-a;p", "p;a,-a;"]),
+    # names that look like keys, and a name of 16 letters
+    ((1, "end state", "act", ["end if state after act", "-state after act", "end after end",
+                              "state if state after"]),
+     ["end,state;-act;end,state", "end,state;act;end,-state"]),
+    ((1, "abcdefghijklmnop false1", "x_9", ["false1 after x_9", "abcdefghijklmnop if false1"]),
+     ["-abcdefghijklmnop,-false1;x_9;abcdefghijklmnop,false1"]),
+]
+
+
+def steps(first, last, horizon):
+    """p and -p by turns, each state but the last as first, -first, .."""
+    other = first[1:] if first.startswith("-") else "-" + first
+    states = [first if time % 2 == 0 else other for time in range(horizon)]
+    return ";;".join(states + [last])
+
+
+def kept(state, changes, horizon):
+    """The same state all along, but for the times given in `changes`."""
+    return ";;".join(changes.get(time, state) for time in range(horizon + 1))
+
+
+def long_recipes():
+    """Horizons up to 30: faults at the very end, derivations of 30 rounds."""
+    toggle = (30, "p", "", TOGGLE)
+    lasting = (30, "p q", "", inertial("p") + ["q if p"])
+    static = (30, "p", "", ["false if -p", "p if p after p"])
+    water = (12, "inwater wet", "putinwater", WATER_LAWS)
+    dry, wet = "-inwater,-wet;-putinwater;", "inwater,wet;-putinwater;"
+    put = "-inwater,-wet;putinwater;"
+    return [
+        (toggle, [steps("p", "p", 30), steps("p", "-p", 30), steps("-p", "-p", 30)]),
+        (lasting, [kept("p,q", {}, 30), kept("p,q", {30: "p"}, 30), kept("p,q", {30: "p,q,-q"}, 30),
+                   kept("p,q", {30: "p,-q"}, 30), kept("p,q", {29: "-p,q"}, 30)]),
+        (static, [kept("p", {}, 30), kept("p", {30: "-p"}, 30)]),
+        (water, [6 * dry + put + 5 * wet + "inwater,wet", 11 * dry + put + "inwater,wet",
+                 6 * dry + put + 5 * wet + "inwater,-wet", 7 * dry + 5 * wet + "inwater,wet"]),
+        ((29, "p", "", TOGGLE), [steps("p", "-p", 29), steps("p", "p", 29)]),
+    ]
+
+
+def largest_description():
+    """24 fluents, 8 actions, 64 dynamic laws with six literals in each list."""
+    letters = "abcdefghijklmnopqrstuvwxyz0123456"
+    fluents = tuple(letters[:24])
+    actions = tuple(letters[24:26]) + tuple("z" + digit for digit in "012345")
+    laws = [Law(True, code, 6 * (code,), 6 * (code,)) for code in range(48)]
+    for action in range(8):
+        done = 2 * (24 + action)
+        held = tuple(2 * fluent for fluent in range(action, action + 5))
+        laws.append(Law(True, 2 * action + 1, (2 * action + 1,) * 6, (done,) + held))
+        laws.append(Law(True, 2 * action + 16, (2 * action + 16,) * 6, held[:4] + (done, done)))
+    return Description(fluents, actions, tuple(laws), 30)
+
+
+def largest_cases():
+    """A history of the largest description, as clingo finds it."""
+    description = largest_description()
+    program = solver_program(description) + complete_only(description)
+    found, _ = solver.answer_sets(program, 1, 7)
+    chosen = listed_places(literal_places(description), all_literals(description), found[0])
+    history = write_history(random.Random(7), description, chosen)
+    return recipe_cases(description, [history], ["picked by hand"], ["passes"])
+
+
+def chosen_recipes():
+    """Every hand-picked recipe as a case."""
+    picked = []
+    for example, texts in SLIPS + long_recipes():
+        description = description_of(*example)
+        picked.append((description, [(history_of(description, text), None) for text in texts]))
+    lock = description_of(*LOCK)
+    stated = [(history_of(lock, text), verdict) for text, verdict in LOCK_HISTORIES]
+    picked.insert(0, (lock, stated))
+    picked.append(every_transition(DOOR, DOOR_TRANSITIONS))
+    picked.append(every_transition(WATER, WATER_TRANSITIONS))
+    cases = []
+    for description, histories in picked:
+        cases += recipe_cases(description, [one for one, _ in histories],
+                              ["picked by hand"] * len(histories),
+                              [verdict for _, verdict in histories])
+    return cases + largest_cases()

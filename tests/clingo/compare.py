@@ -1,0 +1,298 @@
+#!/usr/bin/env python3
+"""Compares the checker with clingo, an answer-set solver from elsewhere.
+
+The cases are recipes (a description and a history, as text) and tables (ground
+rules and a set, as numbers), some picked by hand, most drawn from a seed. For
+each, clingo is asked twice: whether the set is an answer set of the program,
+which is written here from the description alone, and, by a second program that
+takes rules and set as facts, which verdict the contract gives. The two must
+agree on what passes, and the program `solver_cases` must give the same verdict.
+
+    compare.py                       3,000 recipes and 3,000 tables
+    compare.py --recipes N --tables M --seed S --program PATH
+    compare.py --store DIR           writes a smaller part with clingo's verdicts,
+                                     to be run later without clingo
+    compare.py --translate FILE      prints the recipe in FILE for clingo, which
+                                     finds it satisfiable exactly if it passes
+
+Needs Python 3.11 and, but for --translate, clingo (Debian's package gringo).
+The exit code is 0 if there are no differences, and also if clingo is not
+installed: the live comparison is then left out. Otherwise it is 1, and the
+first differing case is printed in full.
+"""
+
+import sys
+
+sys.dont_write_bytecode = True
+
+import argparse
+import collections
+import os
+import random
+import subprocess
+import tempfile
+
+import language
+import solver
+from cases import agrees_with_statement, should_pass
+from chosen_recipes import chosen_recipes
+from chosen_tables import chosen_tables
+from recipe_cases import random_recipes
+from table_cases import random_tables
+
+ROOT = os.path.dirname(os.path.dirname(os.path.dirname(os.path.abspath(__file__))))
+PROGRAM = os.path.join(ROOT, "target", "bin", "solver_cases")
+VERDICTS = ["passes", "broken", "unfounded", "missing", "clash"]
+
+BATCH_BYTES = 65000  # each file of one run of the program stays below this
+STORE_BYTES = 60000  # so does each stored file
+STORED_RECIPES, STORED_TABLES = 160, 320
+
+
+def make_cases(seed, recipes, tables):
+    """Hand-picked cases first, then random ones up to the numbers asked for."""
+    picked = chosen_recipes()[:recipes]
+    recipe_list = picked + random_recipes(random.Random("recipes %d" % seed), recipes - len(picked))
+    picked = chosen_tables()[:tables]
+    table_list = picked + random_tables(random.Random("tables %d" % seed), tables - len(picked))
+    return recipe_list, table_list
+
+
+def show_case(title, case, lines):
+    print(title)
+    print("  made: " + case.group)
+    for line in lines:
+        print("  " + line)
+    print("--- case")
+    print(case.text.rstrip("\n"))
+    print("--- the program for clingo")
+    print(case.plain.rstrip("\n"))
+    print("---")
+
+
+def judge(cases):
+    """Clingo's verdict lines; None if its two readings or a statement differ."""
+    lines = solver.verdicts([(case.program, case.codes) for case in cases])
+    for case, line in zip(cases, lines):
+        if (line == "passes") != should_pass(case):
+            reading = "is an answer set" if case.answer_set else "is no answer set"
+            show_case("the two readings by clingo differ", case,
+                      ["verdict program: " + line, "plain program: the set " + reading])
+            return None
+        if not agrees_with_statement(case.stated, line):
+            show_case("clingo's verdict is not the stated one", case,
+                      ["verdict program: " + line, "stated: " + case.stated])
+            return None
+    return lines
+
+
+# ---------------------------------------------------------------- the program
+
+
+def recipe_bytes(case):
+    """A recipe is followed by an empty line."""
+    return (case.text + "\n").encode("ascii")
+
+
+def table_bytes(case):
+    return (case.text + "\n").encode("ascii")
+
+
+def chunks(pieces):
+    """Runs of pieces, each run below the size one file may have."""
+    found, size = [[]], 0
+    for piece in pieces:
+        if found[-1] and size + len(piece) >= BATCH_BYTES:
+            found.append([])
+            size = 0
+        found[-1].append(piece)
+        size += len(piece)
+    return found
+
+
+def write_files(folder, recipes, tables):
+    for name, pieces in (("recipes", recipes), ("tables", tables)):
+        with open(os.path.join(folder, name), "wb") as file:
+            file.write(b"".join(pieces))
+
+
+def run_batch(program, recipes, tables):
+    """The lines for the recipes and the lines for the tables of one run."""
+    with tempfile.TemporaryDirectory() as folder:
+        write_files(folder, recipes, tables)
+        done = subprocess.run([program], cwd=folder, capture_output=True, timeout=600)
+    lines = done.stdout.decode("ascii", "replace").split("\n")
+    if lines[-1] == "":
+        lines.pop()
+    if done.returncode != 0 or len(lines) != len(recipes) + len(tables):
+        print("the program ended with %d and %d lines for %d recipes and %d tables"
+              % (done.returncode, len(lines), len(recipes), len(tables)))
+        print(done.stderr.decode("ascii", "replace").rstrip("\n"))
+    missing = len(recipes) + len(tables) - len(lines)
+    lines += ["(no line)"] * missing
+    sound = done.returncode == 0 and missing == 0
+    return lines[:len(recipes)], lines[len(recipes):len(recipes) + len(tables)], sound
+
+
+def run_program(program, recipes, tables):
+    """Runs the program in as many folders as the file sizes ask for."""
+    recipe_runs = chunks([recipe_bytes(case) for case in recipes])
+    table_runs = chunks([table_bytes(case) for case in tables])
+    count = max(len(recipe_runs), len(table_runs))
+    recipe_runs += [[]] * (count - len(recipe_runs))
+    table_runs += [[]] * (count - len(table_runs))
+    recipe_lines, table_lines, sound = [], [], True
+    for some_recipes, some_tables in zip(recipe_runs, table_runs):
+        first, second, good = run_batch(program, some_recipes, some_tables)
+        recipe_lines += first
+        table_lines += second
+        sound = sound and good
+    return recipe_lines, table_lines, sound
+
+
+def differences(kind, cases, expected, got):
+    """Counts the cases whose line differs and shows the first of them."""
+    wrong = [place for place in range(len(cases)) if expected[place] != got[place]]
+    if wrong:
+        place = wrong[0]
+        show_case("%s %d of %d differs" % (kind, place, len(cases)), cases[place],
+                  ["clingo:  " + expected[place], "program: " + got[place]])
+    return len(wrong)
+
+
+# ---------------------------------------------------------------- reports
+
+
+def tally(words, order):
+    """How often each word occurs, the words in the given order."""
+    counts = collections.Counter(words)
+    return ", ".join("%s %d" % (word, counts[word]) for word in order if counts[word]) or "none"
+
+
+def range_names(tops):
+    """Names of the ranges that end at the given numbers."""
+    lows = [0] + [top + 1 for top in tops]
+    return ["%d to %d" % pair if pair[0] < pair[1] else "%d" % pair[0] for pair in zip(lows, tops)]
+
+
+def tally_ranges(numbers, tops):
+    names = range_names(tops)
+    words = [next(name for name, top in zip(names, tops) if number <= top) for number in numbers]
+    return tally(words, names)
+
+
+def horizon(case):
+    return int(case.text.partition("\n")[0].partition("=")[2])
+
+
+def report(recipes, recipe_lines, tables, table_lines):
+    for kind, cases, lines in (("recipes", recipes, recipe_lines), ("tables", tables, table_lines)):
+        groups = [case.group for case in cases]
+        print("%s: %d" % (kind, len(cases)))
+        print("  verdicts: " + tally((line.split()[0] for line in lines), VERDICTS))
+        print("  made: " + tally(groups, sorted(set(groups))))
+        print("  different programs: %d" % len({id(case.program) for case in cases}))
+        print("  atoms: " + tally_ranges([case.program.atoms for case in cases],
+                                         [0, 4, 12, 64, 200, 1024]))
+        if kind == "recipes":
+            print("  horizons: " + tally_ranges(map(horizon, cases), [0, 1, 5, 15, 29, 30]))
+
+
+def compare(options):
+    if not os.path.isfile(options.program):
+        print("there is no program " + options.program)
+        return 1
+    print("seed %d" % options.seed)
+    recipes, tables = make_cases(options.seed, options.recipes, options.tables)
+    recipe_lines, table_lines = judge(recipes), judge(tables)
+    if recipe_lines is None or table_lines is None:
+        return 1
+    report(recipes, recipe_lines, tables, table_lines)
+    program = os.path.abspath(options.program)
+    got_recipes, got_tables, sound = run_program(program, recipes, tables)
+    wrong = differences("recipe", recipes, recipe_lines, got_recipes)
+    wrong += differences("table", tables, table_lines, got_tables)
+    if wrong == 0 and not sound:
+        print("the lines agree, but the program's exit code or number of lines is wrong")
+        return 1
+    print("clingo: %d recipes, %d tables, %d differences" % (len(recipes), len(tables), wrong))
+    return 0 if wrong == 0 else 1
+
+
+# ---------------------------------------------------------------- stored part
+
+
+def stored_part(cases, lines, wanted, longest):
+    """All cases picked by hand, then others by turns through the verdicts."""
+    chosen = [place for place, case in enumerate(cases) if case.group == "picked by hand"]
+    size = sum(len(cases[place].text) + 1 for place in chosen)
+    waiting = {verdict: [] for verdict in VERDICTS}
+    for place, case in enumerate(cases):
+        if case.group != "picked by hand" and len(case.text) <= longest:
+            waiting[lines[place].split()[0]].append(place)
+    while len(chosen) < wanted and any(waiting.values()):
+        for verdict in VERDICTS:
+            if waiting[verdict] and len(chosen) < wanted:
+                place = waiting[verdict].pop(0)
+                if size + len(cases[place].text) + 1 < STORE_BYTES:
+                    chosen.append(place)
+                    size += len(cases[place].text) + 1
+    if size >= STORE_BYTES:
+        raise RuntimeError("the cases picked by hand are too large to store")
+    return [cases[place] for place in chosen], [lines[place] for place in chosen]
+
+
+def store(options):
+    print("seed %d" % options.seed)
+    recipes, tables = make_cases(options.seed, 600, 1200)
+    recipe_lines, table_lines = judge(recipes), judge(tables)
+    if recipe_lines is None or table_lines is None:
+        return 1
+    recipes, recipe_lines = stored_part(recipes, recipe_lines, STORED_RECIPES, 1200)
+    tables, table_lines = stored_part(tables, table_lines, STORED_TABLES, 2500)
+    data = os.path.join(options.store, "data")
+    os.makedirs(data, exist_ok=True)
+    write_files(data, [recipe_bytes(case) for case in recipes],
+                [table_bytes(case) for case in tables])
+    with open(os.path.join(options.store, "stdout"), "w", encoding="ascii", newline="\n") as file:
+        file.write("".join(line + "\n" for line in recipe_lines + table_lines))
+    report(recipes, recipe_lines, tables, table_lines)
+    print("stored: %d recipes, %d tables" % (len(recipes), len(tables)))
+    return 0
+
+
+def translate(path):
+    with open(path, encoding="ascii") as file:
+        text = file.read()
+    try:
+        description, history = language.read_recipe(text)
+    except ValueError as fault:
+        print("not a recipe: %s" % fault, file=sys.stderr)
+        return 1
+    sys.stdout.write(language.solver_program(description) + language.complete_only(description)
+                     + language.history_constraints(description, history))
+    return 0
+
+
+def main():
+    parser = argparse.ArgumentParser(description="Compares the checker with clingo.")
+    parser.add_argument("--seed", type=int, default=1)
+    parser.add_argument("--recipes", type=int, default=3000)
+    parser.add_argument("--tables", type=int, default=3000)
+    parser.add_argument("--program", default=PROGRAM, help="path of solver_cases")
+    parser.add_argument("--store", metavar="DIR")
+    parser.add_argument("--translate", metavar="FILE")
+    options = parser.parse_args()
+    if options.translate:
+        return translate(options.translate)
+    if not solver.installed():
+        if options.store:
+            print("clingo is not installed: nothing is stored")
+            return 1
+        print("clingo is not installed: the live comparison is left out")
+        return 0
+    return store(options) if options.store else compare(options)
+
+
+if __name__ == "__main__":
+    sys.exit(main())

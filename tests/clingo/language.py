@@ -1,0 +1,269 @@
+"""Descriptions and histories in action language C, their text, and the two
+translations the comparison needs: the program in the solver's own language,
+and the same rules counted and coded as the contract counts and codes them.
+
+A literal of fluent f has code 2f or 2f+1 (negative), one of action k has code
+2(n+k) or 2(n+k)+1, where n is the number of fluents.
+"""
+
+from typing import NamedTuple, Optional, Tuple
+
+FALSE_HEAD = 65535
+
+
+class Law(NamedTuple):
+    dynamic: bool
+    head: Optional[int]  # None stands for false
+    if_list: Tuple[int, ...]
+    after_list: Tuple[int, ...] = ()
+
+
+class Description(NamedTuple):
+    fluents: Tuple[str, ...]
+    actions: Tuple[str, ...]
+    laws: Tuple[Law, ...]
+    horizon: int
+
+
+class History(NamedTuple):
+    states: Tuple[Tuple[int, ...], ...]  # as listed: any order, repeats kept
+    acts: Tuple[Tuple[int, ...], ...]
+
+
+# ---------------------------------------------------------------- text
+
+
+def literal_text(description, code):
+    names = description.fluents + description.actions
+    return ("-" if code % 2 else "") + names[code // 2]
+
+
+def list_text(description, codes):
+    return ",".join(literal_text(description, code) for code in codes)
+
+
+def law_lines(description, law):
+    head = "false" if law.head is None else literal_text(description, law.head)
+    lines = [("dynamic=" if law.dynamic else "static=") + head]
+    lines.append("if=" + list_text(description, law.if_list))
+    if law.dynamic:
+        lines.append("after=" + list_text(description, law.after_list))
+    return lines
+
+
+def recipe_text(description, history):
+    """The description and the history as the product's reader takes them."""
+    lines = ["horizon=%d" % description.horizon]
+    lines += ["fluent=" + name for name in description.fluents]
+    lines += ["action=" + name for name in description.actions]
+    for law in description.laws:
+        lines += law_lines(description, law)
+    lines.append("end=")
+    for time, state in enumerate(history.states):
+        lines.append("state=" + list_text(description, state))
+        if time < len(history.acts):
+            lines.append("act=" + list_text(description, history.acts[time]))
+    lines.append("end=")
+    return "\n".join(lines) + "\n"
+
+
+class RecipeLines:
+    """The lines of a well-formed recipe text, taken one after another."""
+
+    def __init__(self, text):
+        self.pairs = [line.split("=", 1) for line in text.splitlines() if line]
+        self.names = []
+
+    def next_key(self):
+        return self.pairs[0][0] if self.pairs else ""
+
+    def take(self, key):
+        if self.next_key() != key:
+            raise ValueError("expected %s=, found %s=" % (key, self.next_key()))
+        return self.pairs.pop(0)[1]
+
+    def take_names(self, key):
+        found = []
+        while self.next_key() == key:
+            found.append(self.take(key))
+        self.names += found
+        return tuple(found)
+
+    def literal(self, word):
+        negative = word.startswith("-")
+        return 2 * self.names.index(word[negative:]) + negative
+
+    def take_list(self, key):
+        value = self.take(key)
+        return tuple(self.literal(word) for word in value.split(",") if word)
+
+    def take_law(self):
+        dynamic = self.next_key() == "dynamic"
+        word = self.take("dynamic" if dynamic else "static")
+        head = None if word == "false" else self.literal(word)
+        if_list = self.take_list("if")
+        return Law(dynamic, head, if_list, self.take_list("after") if dynamic else ())
+
+
+def read_recipe(text):
+    """Reads a well-formed recipe; it judges no faulty text."""
+    lines = RecipeLines(text)
+    horizon = int(lines.take("horizon"))
+    fluents, actions = lines.take_names("fluent"), lines.take_names("action")
+    laws = []
+    while lines.next_key() != "end":
+        laws.append(lines.take_law())
+    lines.take("end")
+    states, acts = [lines.take_list("state")], []
+    for _ in range(horizon):
+        acts.append(lines.take_list("act"))
+        states.append(lines.take_list("state"))
+    lines.take("end")
+    description = Description(fluents, actions, tuple(laws), horizon)
+    return description, History(tuple(states), tuple(acts))
+
+
+# ---------------------------------------------------------------- the program
+
+
+def complement(code):
+    return code + 1 if code % 2 == 0 else code - 1
+
+
+def solver_literal(description, code, time):
+    """f(3,T) for fluent 3, -a(0,T) for the negative literal of action 0."""
+    sign = "-" if code % 2 else ""
+    place = code // 2
+    count = len(description.fluents)
+    if place < count:
+        return "%sf(%d,%s)" % (sign, place, time)
+    return "%sa(%d,%s)" % (sign, place - count, time)
+
+
+def law_rule(description, law):
+    """One rule with the time left to the solver as the variable T."""
+    now, last = ("T+1", description.horizon - 1) if law.dynamic else ("T", description.horizon)
+    body = ["T = 0..%d" % last]
+    for code in law.if_list:
+        body.append("not " + solver_literal(description, complement(code), now))
+    for code in law.after_list:
+        body.append(solver_literal(description, code, "T"))
+    head = "" if law.head is None else solver_literal(description, law.head, now) + " "
+    return head + ":- " + ", ".join(body) + "."
+
+
+def choice_rules(description):
+    """Time-0 fluents and all actions may have either value."""
+    lines = []
+    for fluent in range(len(description.fluents)):
+        lines.append("-f(%d,0) :- not f(%d,0)." % (fluent, fluent))
+        lines.append("f(%d,0) :- not -f(%d,0)." % (fluent, fluent))
+    for action in range(len(description.actions)):
+        times = "T = 0..%d" % (description.horizon - 1)
+        lines.append("-a(%d,T) :- %s, not a(%d,T)." % (action, times, action))
+        lines.append("a(%d,T) :- %s, not -a(%d,T)." % (action, times, action))
+    return lines
+
+
+def solver_program(description):
+    """The translation of section 4 in the solver's language."""
+    lines = [law_rule(description, law) for law in description.laws]
+    return "\n".join(lines + choice_rules(description)) + "\n"
+
+
+def complete_only(description):
+    """The constraints (6) of section 3: every atom has a value."""
+    lines = []
+    for fluent in range(len(description.fluents)):
+        rule = ":- T = 0..%d, not f(%d,T), not -f(%d,T)."
+        lines.append(rule % (description.horizon, fluent, fluent))
+    for action in range(len(description.actions)):
+        rule = ":- T = 0..%d, not a(%d,T), not -a(%d,T)."
+        lines.append(rule % (description.horizon - 1, action, action))
+    return "\n".join(lines) + "\n"
+
+
+def all_literals(description):
+    """Every literal of the program, in the solver's spelling."""
+    count = len(description.fluents)
+    found = []
+    for time in range(description.horizon + 1):
+        last = count + (len(description.actions) if time < description.horizon else 0)
+        found += [solver_literal(description, code, time) for code in range(2 * last)]
+    return found
+
+
+def history_literals(description, history):
+    """The set a history lists, in the solver's spelling."""
+    found = set()
+    for time, state in enumerate(history.states):
+        found.update(solver_literal(description, code, time) for code in state)
+    for time, act in enumerate(history.acts):
+        found.update(solver_literal(description, code, time) for code in act)
+    return frozenset(found)
+
+
+def history_constraints(description, history):
+    """Requires each literal of the history, forbids each other literal."""
+    listed = history_literals(description, history)
+    lines = []
+    for literal in all_literals(description):
+        lines.append(":- %s%s." % ("not " if literal in listed else "", literal))
+    return "\n".join(lines) + "\n"
+
+
+# ---------------------------------------------------------------- counted rules
+
+
+class Program(NamedTuple):
+    """Ground rules in their stated order, parts as literal codes over atoms.
+
+    `history` says that a missing value is a fault, as in the history check.
+    """
+
+    atoms: int
+    rules: Tuple[Tuple[int, Tuple[int, ...], Tuple[int, ...]], ...]
+    history: bool
+
+
+def coded_rules(description):
+    """The rules in the contract's order: (head, negated parts, plain parts)."""
+    width = 2 * (len(description.fluents) + len(description.actions))
+    horizon, rules = description.horizon, []
+    for dynamic in (False, True):
+        for law in (law for law in description.laws if law.dynamic == dynamic):
+            for time in range(horizon + (0 if dynamic else 1)):
+                now = width * (time + 1 if dynamic else time)
+                head = FALSE_HEAD if law.head is None else now + law.head
+                negated = tuple(now + complement(code) for code in law.if_list)
+                plain = tuple(width * time + code for code in law.after_list)
+                rules.append((head, negated, plain))
+    return tuple(rules) + coded_choices(description)
+
+
+def coded_choices(description):
+    count, width = len(description.fluents), len(description.fluents) + len(description.actions)
+    chosen = list(range(count))
+    for time in range(description.horizon):
+        chosen += range(width * time + count, width * (time + 1))
+    rules = []
+    for atom in chosen:
+        rules.append((2 * atom + 1, (2 * atom,), ()))
+        rules.append((2 * atom, (2 * atom + 1,), ()))
+    return tuple(rules)
+
+
+def coded_program(description):
+    width = len(description.fluents) + len(description.actions)
+    atoms = description.horizon * width + len(description.fluents)
+    return Program(atoms, coded_rules(description), True)
+
+
+def coded_history(description, history):
+    """The set of literal codes over atoms that a history lists."""
+    width = 2 * (len(description.fluents) + len(description.actions))
+    found = set()
+    for lists in (history.states, history.acts):
+        for time, codes in enumerate(lists):
+            found.update(width * time + code for code in codes)
+    return frozenset(found)

@@ -1,0 +1,153 @@
+"""Calls of clingo: answer sets of a plain program, whether given sets are
+answer sets, sets that are closed but perhaps not least, and the verdicts by a
+second program that is handed the rules and the sets as facts.
+"""
+
+import shutil
+import subprocess
+
+from language import FALSE_HEAD
+
+# Facts: rule(P,R,H,K): rule R of program P has head H (none: false) and K
+# plain parts; neg(P,R,L), pos(P,R,I,L): its parts; case(C,P): case C is a set
+# for program P; in(C,L): literal code L is in that set; history(C): every atom
+# below size(P,N) must have a value.
+VERDICT_PROGRAM = """
+dropped(C,R) :- case(C,P), in(C,L), neg(P,R,L).
+kept(C,R) :- case(C,P), rule(P,R,_,_), not dropped(C,R).
+
+fault(C,missing,A) :- history(C), case(C,P), size(P,N), A = 0..N-1,
+                      not in(C,2*A), not in(C,2*A+1).
+fault(C,clash,L/2) :- in(C,L), L\\2 = 0, in(C,L+1).
+
+outside(C,R) :- kept(C,R), case(C,P), pos(P,R,_,L), not in(C,L).
+fault(C,broken,R) :- kept(C,R), case(C,P), rule(P,R,H,_), not outside(C,R), not in(C,H).
+
+% the least closed set: the first I plain parts of rule R are in it
+derived(C,R,0) :- kept(C,R).
+derived(C,R,I+1) :- derived(C,R,I), case(C,P), pos(P,R,I,L), least(C,L).
+least(C,H) :- derived(C,R,K), case(C,P), rule(P,R,H,K), H != none.
+fault(C,unfounded,L) :- in(C,L), not least(C,L).
+
+order(missing,0). order(clash,1). order(broken,2). order(unfounded,3).
+rank(C,O) :- fault(C,F,_), order(F,O).
+first(C,F) :- case(C,_), O = #min{ Q : rank(C,Q) }, order(F,O).
+verdict(C,F,N) :- first(C,F), N = #min{ M : fault(C,F,M) }.
+verdict(C,passes,0) :- case(C,_), not fault(C,_,_).
+#show verdict/3.
+"""
+
+# A call of the second program takes cases of about so many rule parts.
+VERDICT_BATCH = 60000
+
+RANDOM = ["--rand-freq=1", "--sign-def=rnd"]
+
+
+def installed():
+    return shutil.which("clingo") is not None
+
+
+def run(program, options):
+    """Returns the answer sets printed, and whether there are no others."""
+    command = ["clingo", "--warn=none", "--verbose=1"] + options + ["-"]
+    done = subprocess.run(command, input=program, capture_output=True, text=True)
+    if done.returncode not in (10, 20, 30):
+        raise RuntimeError("clingo failed (%d):\n%s" % (done.returncode, done.stderr))
+    found, lines = [], iter(done.stdout.splitlines())
+    for line in lines:
+        if line.startswith("Answer:"):
+            found.append(frozenset(next(lines).split()))
+    return found, done.returncode in (20, 30)
+
+
+def answer_sets(program, limit, seed):
+    """At most `limit` answer sets, drawn at random; True if that is all."""
+    return run(program, ["--models=%d" % limit, "--seed=%d" % seed] + RANDOM)
+
+
+def choose_among(literals, sets):
+    """A program part that picks one of the sets and admits just that set."""
+    lines = ["{ pick(0..%d) } = 1." % (len(sets) - 1), "#show pick/1."]
+    for number, listed in enumerate(sets):
+        for literal in literals:
+            wanted = "not " if literal in listed else ""
+            lines.append(":- pick(%d), %s%s." % (number, wanted, literal))
+    return "\n".join(lines) + "\n"
+
+
+def are_answer_sets(program, literals, sets):
+    """For each set, whether it is an answer set of the program.
+
+    Each literal of the picked set is required and every other one forbidden,
+    so there is one answer set for each of the given sets that is one.
+    """
+    if not sets:
+        return []
+    found, complete = run(program + choose_among(literals, sets), ["--models=0"])
+    if not complete:
+        raise RuntimeError("clingo stopped before the last answer set")
+    picked = set().union(*found)
+    return ["pick(%d)" % number in picked for number in range(len(sets))]
+
+
+# ---------------------------------------------------------------- verdicts
+
+
+def rule_facts(number, program):
+    facts = ["size(%d,%d)." % (number, program.atoms)]
+    for place, (head, negated, plain) in enumerate(program.rules):
+        named = "none" if head == FALSE_HEAD else str(head)
+        facts.append("rule(%d,%d,%s,%d)." % (number, place, named, len(plain)))
+        facts += ["neg(%d,%d,%d)." % (number, place, code) for code in negated]
+        for index, code in enumerate(plain):
+            facts.append("pos(%d,%d,%d,%d)." % (number, place, index, code))
+    return facts
+
+
+def case_facts(number, program_number, program, codes):
+    facts = ["case(%d,%d)." % (number, program_number)]
+    if program.history:
+        facts.append("history(%d)." % number)
+    return facts + ["in(%d,%d)." % (number, code) for code in sorted(codes)]
+
+
+def verdict_line(model, number_of_cases):
+    """The verdict atoms of one answer set as lines, in case order."""
+    lines = [None] * number_of_cases
+    for atom in model:
+        case, fault, place = atom[len("verdict("):-1].split(",")
+        if lines[int(case)] is not None:
+            raise RuntimeError("two verdicts for case " + case)
+        lines[int(case)] = fault if fault == "passes" else "%s %s" % (fault, place)
+    if None in lines:
+        raise RuntimeError("no verdict for case %d" % lines.index(None))
+    return lines
+
+
+def verdict_batch(batch):
+    facts, numbers = [], {}
+    for number, (program, codes) in enumerate(batch):
+        if id(program) not in numbers:
+            numbers[id(program)] = len(numbers)
+            facts += rule_facts(numbers[id(program)], program)
+        facts += case_facts(number, numbers[id(program)], program, codes)
+    found, _ = run(VERDICT_PROGRAM + "\n".join(facts) + "\n", ["--models=2"])
+    if len(found) != 1:
+        raise RuntimeError("the verdict program has %d answer sets" % len(found))
+    return verdict_line(found[0], len(batch))
+
+
+def weight(program):
+    return 1 + program.atoms + sum(3 + len(rule[1]) + len(rule[2]) for rule in program.rules)
+
+
+def verdicts(pairs):
+    """The verdict lines of (program, set of codes) pairs, in order."""
+    lines, batch, load = [], [], 0
+    for program, codes in pairs:
+        batch.append((program, codes))
+        load += weight(program)
+        if load >= VERDICT_BATCH:
+            lines += verdict_batch(batch)
+            batch, load = [], 0
+    return lines + (verdict_batch(batch) if batch else [])

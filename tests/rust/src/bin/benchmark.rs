@@ -1,0 +1,181 @@
+//! Times the linked library against the independent reading, on the same inputs in one run.
+//!
+//! `benchmark [FILE=LABEL ...]`. The files are programs for clingo; where it is installed, they are solved and timed
+//! as well. The figures hold for the machine and the day they are taken on; nothing depends on them.
+
+#[path = "../lent.rs"]
+mod lent;
+
+use lent::Lent;
+use readings::answer::Answer;
+use readings::calls::{Calls, Reading};
+use readings::clingo;
+use readings::measure::{pair, readable, Pair};
+use readings::reading::report::read_input;
+use readings::reading::translation::all_rules;
+use readings::recipes::{belt_recipe, full_recipe, largest_recipe};
+use std::env;
+use std::hint::black_box;
+use std::io;
+
+const HORIZONS: [usize; 8] = [1, 2, 5, 10, 15, 20, 25, 30];
+
+/// One input: a description's text, a history's values, and the table both sides check.
+struct Sample {
+    label: String,
+    text: Vec<u8>,
+    values: Vec<u8>,
+    table: Vec<u16>,
+    rules: usize,
+}
+
+fn sample(label: &str, text: Vec<u8>) -> Sample {
+    let read = read_input(&text).expect("samples are good texts");
+    let table = all_rules(&read.description);
+    let values = read.values;
+    let sample = Sample {
+        label: label.to_string(),
+        text,
+        values,
+        table: table.words,
+        rules: table.rules,
+    };
+    agree(&sample);
+    sample
+}
+
+/// Both sides must say that the sample passes; anything else is no measure of the same work.
+fn agree(sample: &Sample) {
+    let passes = Answer::new(16, 0);
+    let mut table = vec![0; sample.table.len()];
+    assert_eq!(
+        Lent.check_set(&sample.values, &sample.table),
+        passes,
+        "{}",
+        sample.label
+    );
+    assert_eq!(
+        Reading.check_set(&sample.values, &sample.table),
+        passes,
+        "{}",
+        sample.label
+    );
+    assert_eq!(
+        Lent.check_history(&sample.text, &sample.values, &mut table),
+        passes,
+        "{}",
+        sample.label
+    );
+    assert_eq!(table, sample.table, "{}", sample.label);
+    assert_eq!(
+        Reading.check_history(&sample.text, &sample.values, &mut table),
+        passes,
+        "{}",
+        sample.label
+    );
+}
+
+/// The engine alone, on a table that is there already.
+fn time_engine(sample: &Sample) -> Pair {
+    let call = |side: &dyn Calls| {
+        black_box(side.check_set(black_box(&sample.values), black_box(&sample.table)));
+    };
+    pair(|| call(&Lent), || call(&Reading))
+}
+
+/// The history check from the description's text on: reading, translation and engine.
+fn time_history_check(sample: &Sample) -> Pair {
+    let mut lent = vec![0; sample.table.len()];
+    let mut own = vec![0; sample.table.len()];
+    pair(
+        || {
+            black_box(Lent.check_history(black_box(&sample.text), black_box(&sample.values), &mut lent));
+        },
+        || {
+            black_box(Reading.check_history(black_box(&sample.text), black_box(&sample.values), &mut own));
+        },
+    )
+}
+
+fn print_pair(what: &str, times: &Pair) {
+    println!(
+        "  {what}: library {}, reading {}, ratio {:.2} (median of {} runs a side)",
+        readable(times.first),
+        readable(times.second),
+        times.ratio(),
+        times.runs
+    );
+}
+
+fn time_sample(sample: &Sample) {
+    println!(
+        "{}: {} atoms, {} rules, {} words, {} bytes of text",
+        sample.label,
+        sample.values.len(),
+        sample.rules,
+        sample.table.len(),
+        sample.text.len()
+    );
+    print_pair("engine", &time_engine(sample));
+    print_pair("history check", &time_history_check(sample));
+}
+
+/// The same description with growing horizons; the growth is that against the first horizon.
+fn time_growth() {
+    println!("growth with the horizon (belt of 24 places, 1 action, 48 laws):");
+    let mut first: Option<(Pair, Pair)> = None;
+    for horizon in HORIZONS {
+        let sample = sample(&format!("belt, horizon {horizon}"), belt_recipe(horizon));
+        let engine = time_engine(&sample);
+        let check = time_history_check(&sample);
+        let (first_engine, first_check) = *first.get_or_insert((engine, check));
+        println!(
+            "  horizon {horizon}: {} rules, {} words",
+            sample.rules,
+            sample.table.len()
+        );
+        print_growth("engine", &engine, &first_engine);
+        print_growth("history check", &check, &first_check);
+    }
+}
+
+fn print_growth(what: &str, times: &Pair, first: &Pair) {
+    println!(
+        "    {what}: library {} ({:.1} times the first), reading {} ({:.1} times the first), ratio {:.2}",
+        readable(times.first),
+        times.first / first.first,
+        readable(times.second),
+        times.second / first.second,
+        times.ratio()
+    );
+}
+
+/// The files given as arguments, each with its label.
+fn time_clingo() -> Result<(), String> {
+    for given in env::args().skip(1) {
+        let (file, label) = given
+            .rsplit_once('=')
+            .ok_or(format!("`{given}` is not of the form FILE=LABEL"))?;
+        match clingo::solve(file) {
+            Ok(taken) => println!(
+                "clingo, {label}: {}, solving {:.4} s, own time {:.4} s, whole process {:.4} s",
+                taken.said, taken.solving, taken.own, taken.process
+            ),
+            Err(reason) if reason.kind() == io::ErrorKind::NotFound => {
+                println!("clingo is not installed; its files are left out");
+                return Ok(());
+            }
+            Err(reason) => return Err(reason.to_string()),
+        }
+    }
+    Ok(())
+}
+
+fn main() -> Result<(), String> {
+    println!("Times of one call; ratio is library by reading. Each side is warmed up, then both run by turns.");
+    println!("Table buffers are lent to every call as the call before left them; they are not cleared in between.");
+    time_sample(&sample("full recipe", full_recipe()));
+    time_sample(&sample("largest table", largest_recipe()));
+    time_growth();
+    time_clingo()
+}

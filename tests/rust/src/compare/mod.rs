@@ -1,0 +1,71 @@
+//! The comparison of a library's calls with the independent reading.
+
+pub mod brute;
+pub mod tables;
+pub mod tally;
+pub mod texts;
+
+#[cfg(test)]
+mod mutants;
+
+use crate::calls::Calls;
+use crate::random::Random;
+use std::io::{self, Write};
+use tally::Tally;
+
+/// How large a run is, and where its random numbers begin.
+#[derive(Clone, Copy, Debug)]
+pub struct Plan {
+    pub seed: u64,
+    pub texts: usize,
+    pub tables: usize,
+    /// How often each answer code must have been seen at the end.
+    pub least: u64,
+}
+
+/// What a first difference looks like, in words that let it be made again.
+#[derive(Clone, Debug)]
+pub struct Difference(pub String);
+
+/// The random numbers of one case depend on the run's seed and the case's number alone.
+fn case_random(seed: u64, stream: u64, number: usize) -> Random {
+    let mut mixer = Random::new(seed ^ stream.rotate_left(32) ^ number as u64);
+    Random::new(mixer.bits())
+}
+
+/// Runs the plan. True if there is no difference and every code was seen often enough.
+pub fn run(library: &impl Calls, plan: &Plan, out: &mut impl Write) -> io::Result<bool> {
+    writeln!(out, "seed {}", plan.seed)?;
+    let mut tally = Tally::new();
+    if let Err(found) = all_cases(library, plan, &mut tally) {
+        writeln!(out, "difference: {}", found.0)?;
+        return Ok(false);
+    }
+    tally.print(out)?;
+    let rare = tally.too_rare(plan.least);
+    for line in &rare {
+        writeln!(out, "seen too rarely: {line}")?;
+    }
+    writeln!(
+        out,
+        "compare: {} texts, {} tables, 0 differences",
+        plan.texts, plan.tables
+    )?;
+    Ok(rare.is_empty())
+}
+
+fn all_cases(library: &impl Calls, plan: &Plan, tally: &mut Tally) -> Result<(), Difference> {
+    for number in 0..plan.texts {
+        let mut random = case_random(plan.seed, 1, number);
+        texts::compare(library, &mut random, tally).map_err(|found| located(plan, "text", number, &found))?;
+    }
+    for number in 0..plan.tables {
+        let mut random = case_random(plan.seed, 2, number);
+        tables::compare(library, &mut random, tally).map_err(|found| located(plan, "table", number, &found))?;
+    }
+    Ok(())
+}
+
+fn located(plan: &Plan, sort: &str, number: usize, found: &Difference) -> Difference {
+    Difference(format!("seed {}, {sort} number {number}\n{}", plan.seed, found.0))
+}

@@ -1,0 +1,204 @@
+//! The comparison tried on itself: the reading against itself shows no difference, and each of many small slips does.
+
+use super::brute::is_answer_set;
+use super::{run, Plan};
+use crate::answer::Answer;
+use crate::calls::{Calls, Reading};
+use crate::generate::texts::text;
+use crate::random::Random;
+use crate::reading::engine::check_set;
+use crate::reading::report::output;
+
+/// A slip, made in one call of an otherwise right library.
+#[derive(Clone, Copy, Debug, PartialEq, Eq)]
+enum Slip {
+    None,
+    /// The last printed byte is not written.
+    ReportShort,
+    /// A byte behind the printed output is written.
+    ReportLong,
+    /// A set passes without a derivation.
+    NoDerivation,
+    /// Every set that does not clash passes.
+    AlwaysPasses,
+    /// The place of a refusal is one too high.
+    Place,
+    /// A word behind the table is written.
+    TableLong,
+    /// A table word is written before a refusal.
+    TableRefused,
+    /// The last word of a table is not written.
+    TableShort,
+    /// A value is written before a refusal.
+    ValuesRefused,
+    /// Missing is told after clash.
+    MissingLate,
+    /// The time of an uncaused fluent is one too low.
+    CausalTime,
+}
+
+const SLIPS: [Slip; 11] = [
+    Slip::ReportShort,
+    Slip::ReportLong,
+    Slip::NoDerivation,
+    Slip::AlwaysPasses,
+    Slip::Place,
+    Slip::TableLong,
+    Slip::TableRefused,
+    Slip::TableShort,
+    Slip::ValuesRefused,
+    Slip::MissingLate,
+    Slip::CausalTime,
+];
+
+struct Mutant(Slip);
+
+impl Calls for Mutant {
+    fn report(&self, input: &[u8], out: &mut [u8]) -> usize {
+        let length = Reading.report(input, out);
+        match self.0 {
+            Slip::ReportShort if length <= out.len() => out[length - 1] = 0,
+            Slip::ReportLong if length < out.len() => out[length] = 0,
+            _ => (),
+        }
+        length
+    }
+
+    fn check_set(&self, values: &[u8], table: &[u16]) -> Answer {
+        let answer = Reading.check_set(values, table);
+        match self.0 {
+            Slip::NoDerivation if answer.code == 19 => Answer::new(16, 0),
+            Slip::AlwaysPasses if answer.code >= 18 => Answer::new(16, 0),
+            Slip::Place if answer.code == 12 => Answer {
+                value: answer.value + 1,
+                ..answer
+            },
+            _ => answer,
+        }
+    }
+
+    fn translate(&self, text: &[u8], table: &mut [u16]) -> Answer {
+        let answer = Reading.translate(text, table);
+        let words = (answer.value >> 32) as usize;
+        match self.0 {
+            Slip::TableLong if answer.code == 48 && words < table.len() => table[words] ^= 1,
+            Slip::TableShort if answer.code == 48 => table[words - 1] ^= 1,
+            Slip::TableRefused if answer.code == 9 && !table.is_empty() => table[0] ^= 1,
+            _ => (),
+        }
+        answer
+    }
+
+    fn read_history(&self, description: &[u8], history: &[u8], values: &mut [u8]) -> Answer {
+        let answer = Reading.read_history(description, history, values);
+        if self.0 == Slip::ValuesRefused && answer.code == 6 && !values.is_empty() {
+            values[0] ^= 1;
+        }
+        answer
+    }
+
+    fn check_history(&self, text: &[u8], values: &[u8], table: &mut [u16]) -> Answer {
+        let answer = Reading.check_history(text, values, table);
+        match values.iter().position(|value| *value == 3) {
+            Some(atom) if self.0 == Slip::MissingLate && answer.code == 20 => Answer::new(17, atom),
+            _ => answer,
+        }
+    }
+
+    fn causal_reading(&self, input: &[u8]) -> Answer {
+        let answer = Reading.causal_reading(input);
+        match self.0 {
+            Slip::CausalTime if answer.code == 34 => Answer {
+                value: answer.value - 65_536,
+                ..answer
+            },
+            _ => answer,
+        }
+    }
+}
+
+fn small_run(slip: Slip) -> (bool, String) {
+    let plan = Plan {
+        seed: 7,
+        texts: 3_000,
+        tables: 3_000,
+        least: 0,
+    };
+    let mut printed = Vec::new();
+    let good = run(&Mutant(slip), &plan, &mut printed).unwrap();
+    (good, String::from_utf8(printed).unwrap())
+}
+
+#[test]
+fn reading_agrees_with_itself() {
+    let (good, printed) = small_run(Slip::None);
+    assert!(good, "{printed}");
+    assert!(printed.ends_with("compare: 3000 texts, 3000 tables, 0 differences\n"));
+}
+
+#[test]
+fn every_slip_is_found() {
+    for slip in SLIPS {
+        let (good, printed) = small_run(slip);
+        assert!(!good, "{slip:?} was not found");
+        assert!(printed.contains("difference: seed 7, "), "{slip:?}: {printed}");
+    }
+}
+
+#[test]
+fn a_rare_code_fails_a_run() {
+    let plan = Plan {
+        seed: 7,
+        texts: 10,
+        tables: 10,
+        least: 100,
+    };
+    let mut printed = Vec::new();
+    assert!(!run(&Reading, &plan, &mut printed).unwrap());
+}
+
+/// All programs of up to two rules over one atom, and all sets: engine and definition agree.
+#[test]
+fn definition_and_engine_agree_on_one_atom() {
+    let mut rules = vec![vec![]];
+    for head in [0, 1, 65_535] {
+        for part in [
+            vec![0, 0],
+            vec![1, 0, 0],
+            vec![1, 0, 1],
+            vec![0, 1, 0],
+            vec![0, 1, 1],
+            vec![1, 1, 0, 1],
+            vec![1, 1, 1, 0],
+        ] {
+            rules.push([vec![head], part].concat());
+        }
+    }
+    for first in &rules {
+        for second in &rules {
+            let table = [first.clone(), second.clone()].concat();
+            for value in 0..4 {
+                let passes = Answer::from(check_set(&[value], &table).unwrap()).code == 16;
+                assert_eq!(passes, is_answer_set(&[value], &table), "{value} {table:?}");
+            }
+        }
+    }
+}
+
+/// The engine on the translation and the causal reading were written apart; what passes the one is a path to the other.
+#[test]
+fn what_passes_is_a_path() {
+    let mut random = Random::new(11);
+    let mut passing = 0;
+    for _ in 0..3_000 {
+        let (_, text) = text(&mut random);
+        let printed = String::from_utf8_lossy(&output(&text)).into_owned();
+        assert_eq!(
+            printed.contains("answer=passes"),
+            printed.contains("causal=path"),
+            "{printed}"
+        );
+        passing += usize::from(printed.contains("causal=path"));
+    }
+    assert!(passing > 500);
+}

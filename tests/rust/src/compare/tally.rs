@@ -1,0 +1,145 @@
+//! How many cases of each kind and how many answers of each code were seen.
+
+use crate::answer::meaning;
+use crate::generate::{tables, texts};
+use crate::reading::MAX_HORIZON;
+use std::io::{self, Write};
+use std::ops::RangeInclusive;
+
+/// The calls that answers are counted for.
+#[derive(Clone, Copy, Debug, PartialEq, Eq)]
+pub enum Call {
+    Report,
+    CheckSet,
+    Translate,
+    ReadHistory,
+    CheckHistory,
+    CausalReading,
+}
+
+/// All calls: name, and the codes each can give according to the header. For the report these are the codes of the
+/// answers it prints.
+const CALLS: [(Call, &str, &[u8]); 6] = [
+    (
+        Call::Report,
+        "report",
+        &[1, 2, 3, 4, 5, 6, 7, 16, 17, 18, 19, 20, 32, 33, 34],
+    ),
+    (Call::CheckSet, "check_set", &[10, 11, 12, 16, 17, 18, 19]),
+    (Call::Translate, "translate", &[1, 2, 3, 4, 5, 6, 9, 48]),
+    (Call::ReadHistory, "read_history", &[1, 2, 3, 4, 5, 6, 7, 10, 64]),
+    (
+        Call::CheckHistory,
+        "check_history",
+        &[1, 2, 3, 4, 5, 6, 9, 10, 11, 16, 17, 18, 19, 20],
+    ),
+    (
+        Call::CausalReading,
+        "causal_reading",
+        &[1, 2, 3, 4, 5, 6, 7, 11, 32, 33, 34],
+    ),
+];
+
+/// Horizons put together when passing texts are counted.
+const PASSING_BANDS: [RangeInclusive<usize>; 5] = [1..=1, 2..=5, 6..=10, 11..=20, 21..=30];
+
+/// All counts of a run.
+pub struct Tally {
+    texts: [u64; texts::KINDS.len()],
+    tables: [u64; tables::KINDS.len()],
+    codes: [[u64; 256]; CALLS.len()],
+    calls: [u64; CALLS.len()],
+    /// Small programs also tested against the definition.
+    defined: [u64; 2],
+    /// Texts whose history passes, by horizon.
+    passing: [u64; MAX_HORIZON + 1],
+}
+
+impl Default for Tally {
+    fn default() -> Self {
+        Tally::new()
+    }
+}
+
+impl Tally {
+    pub fn new() -> Self {
+        Tally {
+            texts: [0; texts::KINDS.len()],
+            tables: [0; tables::KINDS.len()],
+            codes: [[0; 256]; CALLS.len()],
+            calls: [0; CALLS.len()],
+            defined: [0; 2],
+            passing: [0; MAX_HORIZON + 1],
+        }
+    }
+
+    pub fn text(&mut self, kind: usize) {
+        self.texts[kind] += 1;
+    }
+
+    pub fn table(&mut self, kind: usize) {
+        self.tables[kind] += 1;
+    }
+
+    pub fn call(&mut self, call: Call) {
+        self.calls[call as usize] += 1;
+    }
+
+    pub fn code(&mut self, call: Call, code: u8) {
+        self.codes[call as usize][usize::from(code)] += 1;
+    }
+
+    pub fn defined(&mut self, is_answer_set: bool) {
+        self.defined[usize::from(is_answer_set)] += 1;
+    }
+
+    pub fn passing(&mut self, horizon: usize) {
+        self.passing[horizon] += 1;
+    }
+
+    pub fn print(&self, out: &mut impl Write) -> io::Result<()> {
+        for ((_, name, _), count) in texts::KINDS.iter().zip(self.texts) {
+            writeln!(out, "texts, {name}: {count}")?;
+        }
+        for ((_, name, _), count) in tables::KINDS.iter().zip(self.tables) {
+            writeln!(out, "tables, {name}: {count}")?;
+        }
+        for band in PASSING_BANDS {
+            let count: u64 = self.passing[band.clone()].iter().sum();
+            writeln!(
+                out,
+                "texts that pass, horizon {} to {}: {count}",
+                band.start(),
+                band.end()
+            )?;
+        }
+        let [no, yes] = self.defined;
+        writeln!(
+            out,
+            "tables held against the definition: {yes} answer sets, {no} others"
+        )?;
+        for (call, name, _) in CALLS {
+            writeln!(out, "{name}: {} calls", self.calls[call as usize])?;
+            for (code, count) in self.codes[call as usize].iter().enumerate() {
+                if *count > 0 {
+                    writeln!(out, "  code {code} ({}): {count}", meaning(code as u8))?;
+                }
+            }
+        }
+        Ok(())
+    }
+
+    /// The codes of each call that were seen fewer times than asked for.
+    pub fn too_rare(&self, least: u64) -> Vec<String> {
+        let mut rare = Vec::new();
+        for (call, name, codes) in CALLS {
+            for code in codes {
+                let count = self.codes[call as usize][usize::from(*code)];
+                if count < least {
+                    rare.push(format!("{name} code {code}: {count}, wanted {least}"));
+                }
+            }
+        }
+        rare
+    }
+}

@@ -1,0 +1,295 @@
+//! One text, put through all calls that take a text, by both sides.
+
+use super::tally::{Call, Tally};
+use super::Difference;
+use crate::answer::Answer;
+use crate::calls::{Calls, Reading};
+use crate::generate::texts::text;
+use crate::random::Random;
+use crate::reading::description::read_description;
+use crate::reading::history::read_lines;
+use crate::reading::model::Description;
+use crate::reading::report::output;
+use crate::reading::translation::all_rules;
+use crate::reading::{MAX_ATOMS, MAX_LAWS, MAX_TEXT};
+use std::fmt::Debug;
+
+/// What is known of a text beforehand, to choose buffers that mean something for it.
+struct Known {
+    description: Description,
+    /// Words of the translation.
+    need: usize,
+    /// The history's values, if it can be read.
+    values: Option<Vec<u8>>,
+}
+
+/// A text at work.
+struct Case<'a, C> {
+    library: &'a C,
+    text: &'a [u8],
+    known: Option<Known>,
+    random: &'a mut Random,
+    tally: &'a mut Tally,
+}
+
+/// Makes one text and compares all calls on it.
+pub fn compare(library: &impl Calls, random: &mut Random, tally: &mut Tally) -> Result<(), Difference> {
+    let (kind, text) = text(random);
+    tally.text(kind);
+    let known = known(&text);
+    let mut case = Case {
+        library,
+        text: &text,
+        known,
+        random,
+        tally,
+    };
+    case.report()?;
+    case.translate()?;
+    case.read_history()?;
+    case.check_history()?;
+    case.causal_reading()
+}
+
+/// A text over 65,535 bytes may still begin with a description of fewer.
+fn known(text: &[u8]) -> Option<Known> {
+    let description = read_description(&text[..text.len().min(MAX_TEXT)], MAX_LAWS).ok()?;
+    let need = all_rules(&description).words.len();
+    let values = read_lines(&description, &text[description.length..]).ok();
+    Some(Known {
+        description,
+        need,
+        values,
+    })
+}
+
+impl<'a, C: Calls> Case<'a, C> {
+    /// The printed output, into one buffer longer than it and one shorter.
+    fn report(&mut self) -> Result<(), Difference> {
+        let printed = output(self.text);
+        self.count_report(&printed);
+        let longer = printed.len() + self.random.below(20);
+        let shorter = self.random.below(printed.len() + 1);
+        for room in [longer, shorter] {
+            let fill = self.bytes(room);
+            let (mut ours, mut theirs) = (fill.clone(), fill);
+            let wanted = Reading.report(self.text, &mut ours);
+            let given = self.library.report(self.text, &mut theirs);
+            self.tally.call(Call::Report);
+            if wanted != given || ours != theirs {
+                let lent = format!(
+                    "room {room}\nreading {}\nlibrary {}",
+                    ours.escape_ascii(),
+                    theirs.escape_ascii()
+                );
+                return Err(self.difference("report", &wanted, &given, &lent));
+            }
+        }
+        Ok(())
+    }
+
+    fn translate(&mut self) -> Result<(), Difference> {
+        let text = self.front();
+        let room = self.room();
+        let fill = self.words(room);
+        let (mut ours, mut theirs) = (fill.clone(), fill);
+        let wanted = Reading.translate(text, &mut ours);
+        let given = self.library.translate(text, &mut theirs);
+        self.count(Call::Translate, wanted);
+        if wanted != given || ours != theirs {
+            let lent = format!(
+                "first {} bytes, room {room}, {}",
+                text.len(),
+                first_change(&ours, &theirs)
+            );
+            return Err(self.difference("translate", &wanted, &given, &lent));
+        }
+        Ok(())
+    }
+
+    fn read_history(&mut self) -> Result<(), Difference> {
+        let (description, history) = self.halves();
+        let length = self.values_length();
+        let fill = self.bytes(length);
+        let (mut ours, mut theirs) = (fill.clone(), fill);
+        let wanted = Reading.read_history(description, history, &mut ours);
+        let given = self.library.read_history(description, history, &mut theirs);
+        self.count(Call::ReadHistory, wanted);
+        if wanted != given || ours != theirs {
+            let lent = format!(
+                "description is the first {} bytes, history the last {}, {length} values, {}",
+                description.len(),
+                history.len(),
+                first_change(&ours, &theirs)
+            );
+            return Err(self.difference("read_history", &wanted, &given, &lent));
+        }
+        Ok(())
+    }
+
+    fn check_history(&mut self) -> Result<(), Difference> {
+        let text = self.front();
+        let values = self.values();
+        let room = self.room();
+        let fill = self.words(room);
+        let (mut ours, mut theirs) = (fill.clone(), fill);
+        let wanted = Reading.check_history(text, &values, &mut ours);
+        let given = self.library.check_history(text, &values, &mut theirs);
+        self.count(Call::CheckHistory, wanted);
+        if wanted != given || ours != theirs {
+            let change = first_change(&ours, &theirs);
+            let lent = format!("first {} bytes, values {values:?}, room {room}, {change}", text.len());
+            return Err(self.difference("check_history", &wanted, &given, &lent));
+        }
+        Ok(())
+    }
+
+    fn causal_reading(&mut self) -> Result<(), Difference> {
+        let wanted = Reading.causal_reading(self.text);
+        let given = self.library.causal_reading(self.text);
+        self.count(Call::CausalReading, wanted);
+        if wanted != given {
+            return Err(self.difference("causal_reading", &wanted, &given, "nothing lent"));
+        }
+        Ok(())
+    }
+
+    fn count(&mut self, call: Call, answer: Answer) {
+        self.tally.call(call);
+        self.tally.code(call, answer.code);
+    }
+
+    /// Counts the answers that a printed output holds.
+    fn count_report(&mut self, printed: &[u8]) {
+        let printed = String::from_utf8_lossy(printed);
+        for line in printed.lines() {
+            let code = match line {
+                "answer=passes" => 16,
+                "answer=clash" => 17,
+                "answer=broken" => 18,
+                "answer=unfounded" => 19,
+                "answer=missing" => 20,
+                "causal=path" => 32,
+                "causal=contradicted" => 33,
+                "causal=uncaused" => 34,
+                _ => match line.strip_prefix("refused=") {
+                    Some(number) => number.parse().expect("a refusal is a number"),
+                    None => continue,
+                },
+            };
+            self.tally.code(Call::Report, code);
+            if let (16, Some(known)) = (code, &self.known) {
+                self.tally.passing(known.description.horizon);
+            }
+        }
+    }
+
+    /// Room for a table: as needed, one word short, more, or any.
+    fn room(&mut self) -> usize {
+        let Some(known) = &self.known else {
+            return self.random.below(200);
+        };
+        match self.random.below(8) {
+            0..=3 => known.need,
+            4 => known.need - 1,
+            5 | 6 => known.need + self.random.between(1, 40),
+            _ => self.random.below(known.need + 1),
+        }
+    }
+
+    /// How many values are lent: mostly as many as there are atoms.
+    fn values_length(&mut self) -> usize {
+        let atoms = self.known.as_ref().map_or(5, |known| known.description.atoms());
+        match self.random.below(16) {
+            0 => atoms - 1,
+            1 => atoms + 1,
+            2 => *self.random.pick(&[0, MAX_ATOMS, MAX_ATOMS + 1, 2_000, 70_000]),
+            _ => atoms,
+        }
+    }
+
+    /// Values for the history check: the history's own, or some, and often spoilt in one place.
+    fn values(&mut self) -> Vec<u8> {
+        let length = self.values_length();
+        let mut values = match &self.known {
+            Some(Known {
+                values: Some(values), ..
+            }) => values.clone(),
+            _ => vec![1; length],
+        };
+        values.resize(length, 2);
+        if values.is_empty() {
+            return values;
+        }
+        let index = self.random.below(length);
+        match self.random.below(10) {
+            0 => values[index] = 0,
+            1 => values[index] = 3,
+            2 => values[index] = 4,
+            3 => values[index] = self.random.byte(),
+            4 => values[index] = 3 - values[index].min(3),
+            _ => (),
+        }
+        values
+    }
+
+    /// The description with the history behind it, or alone; and where it cannot be read, the whole text.
+    fn front(&mut self) -> &'a [u8] {
+        match &self.known {
+            Some(known) if self.random.chance(1, 2) => &self.text[..known.description.length],
+            _ => self.text,
+        }
+    }
+
+    /// The description's text and the history's. More may stand behind the description's end line. Where there is no
+    /// description, any part of the text serves as a history.
+    fn halves(&mut self) -> (&'a [u8], &'a [u8]) {
+        let text = self.text;
+        match &self.known {
+            Some(known) => {
+                let (description, history) = text.split_at(known.description.length);
+                let lent = if self.random.chance(1, 3) { text } else { description };
+                (lent, history)
+            }
+            None => (text, &text[self.random.below(text.len() + 1)..]),
+        }
+    }
+
+    fn bytes(&mut self, count: usize) -> Vec<u8> {
+        let mut fill = self.random.byte();
+        std::iter::repeat_with(|| {
+            fill = fill.wrapping_mul(5).wrapping_add(77);
+            fill
+        })
+        .take(count)
+        .collect()
+    }
+
+    fn words(&mut self, count: usize) -> Vec<u16> {
+        let mut fill = self.random.word();
+        std::iter::repeat_with(|| {
+            fill = fill.wrapping_mul(5).wrapping_add(7_777);
+            fill
+        })
+        .take(count)
+        .collect()
+    }
+
+    fn difference(&self, call: &str, wanted: &impl Debug, given: &impl Debug, lent: &str) -> Difference {
+        let text = self.text.escape_ascii();
+        Difference(format!(
+            "{call}\nreading {wanted:?}\nlibrary {given:?}\n{lent}\ntext, with escapes:\n{text}"
+        ))
+    }
+}
+
+/// Where two buffers differ first.
+fn first_change<T: PartialEq + Debug>(ours: &[T], theirs: &[T]) -> String {
+    match ours.iter().zip(theirs).position(|(our, their)| our != their) {
+        Some(at) => format!(
+            "buffers differ at {at}: reading {:?}, library {:?}",
+            ours[at], theirs[at]
+        ),
+        None => "buffers agree".to_string(),
+    }
+}

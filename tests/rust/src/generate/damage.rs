@@ -1,0 +1,214 @@
+//! Damage done to a good text, from single bytes to whole lines.
+
+use super::limits::HORIZONS;
+use super::render::join;
+use crate::random::Random;
+
+const KEYS: [&[u8]; 10] = [
+    b"horizon", b"fluent", b"action", b"static", b"dynamic", b"if", b"after", b"state", b"act", b"end",
+];
+
+/// Keys that are none of the ten, though they look like them.
+const BAD_KEYS: [&[u8]; 10] = [
+    b"", b"Fluent", b"END", b"fluents", b"flue", b" if", b"if ", b"actions", b"ends", b"afte",
+];
+
+/// Values that fit some place and not others.
+const VALUES: [&[u8]; 22] = [
+    b"",
+    b"false",
+    b"-false",
+    b"--a",
+    b"-",
+    b"a",
+    b"A",
+    b"0a",
+    b"_a",
+    b"a-",
+    b"a b",
+    b"aB",
+    b"a.",
+    b"1",
+    b"30",
+    b"=",
+    b"a=b",
+    b",",
+    b"a,a",
+    b"a,-a",
+    b"\xc3\xa9",
+    b"\r",
+];
+
+/// Damages a text at one to three places.
+pub fn damage(random: &mut Random, text: &mut Vec<u8>) {
+    let times = if random.chance(3, 4) { 1 } else { random.between(2, 3) };
+    for _ in 0..times {
+        match random.below(10) {
+            0..=2 => damage_byte(random, text),
+            3 => cut(random, text),
+            4 => append(random, text),
+            _ => damage_lines(random, text),
+        }
+    }
+}
+
+/// One byte changed, taken out or put in.
+fn damage_byte(random: &mut Random, text: &mut Vec<u8>) {
+    if text.is_empty() {
+        text.push(random.byte());
+        return;
+    }
+    let at = random.below(text.len());
+    match random.below(6) {
+        0 | 1 => text[at] = random.byte(),
+        2 => text[at] ^= 1 << random.below(8),
+        3 => drop(text.remove(at)),
+        4 => text.insert(at, random.byte()),
+        _ => text.insert(at, *random.pick(b"\n=,-_ \r\0af0")),
+    }
+}
+
+/// The text ends too early.
+fn cut(random: &mut Random, text: &mut Vec<u8>) {
+    match random.below(4) {
+        // Only the last byte, mostly a line's end.
+        0 => drop(text.pop()),
+        // Behind some line.
+        1 => {
+            let ends: Vec<usize> = (0..text.len()).filter(|at| text[*at] == b'\n').collect();
+            let keep = if ends.is_empty() { 0 } else { *random.pick(&ends) + 1 };
+            text.truncate(keep);
+        }
+        _ => text.truncate(random.below(text.len() + 1)),
+    }
+}
+
+/// Bytes behind the end.
+fn append(random: &mut Random, text: &mut Vec<u8>) {
+    match random.below(6) {
+        0 => text.push(random.byte()),
+        1 => text.push(b'\n'),
+        2 => text.extend(b"end=\n"),
+        3 => text.extend(b"state=\n"),
+        4 => text.extend(b"x"),
+        _ => {
+            let again = text.clone();
+            text.extend(again);
+        }
+    }
+}
+
+/// Damage that keeps the text a run of lines.
+fn damage_lines(random: &mut Random, text: &mut Vec<u8>) {
+    let mut lines: Vec<Vec<u8>> = text.split(|byte| *byte == b'\n').map(<[u8]>::to_vec).collect();
+    // What stands behind the last line's end is no line.
+    let rest = lines.pop().unwrap_or_default();
+    if lines.is_empty() {
+        return;
+    }
+    if random.chance(1, 3) {
+        move_lines(random, &mut lines);
+    } else {
+        let index = pick_line(random, &lines);
+        damage_line(random, &mut lines, index);
+    }
+    *text = join(&lines);
+    text.extend(rest);
+}
+
+/// Lines taken out, doubled, exchanged or put in.
+fn move_lines(random: &mut Random, lines: &mut Vec<Vec<u8>>) {
+    let at = random.below(lines.len());
+    let other = random.below(lines.len());
+    let next = (at + 1) % lines.len();
+    match random.below(6) {
+        0 => drop(lines.remove(at)),
+        1 => lines.insert(at, lines[at].clone()),
+        2 => lines.insert(at, lines[other].clone()),
+        3 => lines.swap(at, other),
+        4 => lines.swap(at, next),
+        _ => {
+            let line = [*random.pick(&KEYS), b"=", *random.pick(&VALUES)].concat();
+            lines.insert(at, line);
+        }
+    }
+}
+
+/// A line, with each key about as likely as another, so that the many lines of one kind do not hide the few of others.
+fn pick_line(random: &mut Random, lines: &[Vec<u8>]) -> usize {
+    let key = *random.pick(&KEYS);
+    let same: Vec<usize> = (0..lines.len()).filter(|at| lines[*at].starts_with(key)).collect();
+    if same.is_empty() {
+        random.below(lines.len())
+    } else {
+        *random.pick(&same)
+    }
+}
+
+/// One line's key or value spoilt.
+fn damage_line(random: &mut Random, lines: &mut [Vec<u8>], index: usize) {
+    let other = random.below(lines.len());
+    let borrowed = parts(&lines[other]).1.to_vec();
+    let (key, value) = parts(&lines[index]);
+    let joined = |key: &[u8], value: &[u8]| [key, b"=", value].concat();
+    let changed = match random.below(16) {
+        0 => joined(random.pick::<&[u8]>(&KEYS), value),
+        1 => joined(random.pick::<&[u8]>(&BAD_KEYS), value),
+        2 | 3 => joined(key, random.pick::<&[u8]>(&VALUES)),
+        4 | 5 => joined(key, &borrowed),
+        6 => joined(key, &damage_value(random, value)),
+        7 => [key, value].concat(),
+        8 => joined(key, &joined(b"", value)),
+        9 => joined(b"", &joined(key, value)),
+        10 => [key, b"=", value, b"\r"].concat(),
+        11 if key == b"horizon" => joined(key, random.pick::<&[u8]>(&HORIZONS)),
+        11 | 12 => joined(key, b"false"),
+        _ => joined(key, &damage_list(random, value)),
+    };
+    lines[index] = changed;
+}
+
+/// A line's key and value; a line without an equals sign is all key.
+fn parts(line: &[u8]) -> (&[u8], &[u8]) {
+    match line.iter().position(|byte| *byte == b'=') {
+        Some(at) => (&line[..at], &line[at + 1..]),
+        None => (line, b""),
+    }
+}
+
+/// A value with a byte too many, mostly one that stands for something.
+fn damage_value(random: &mut Random, value: &[u8]) -> Vec<u8> {
+    let mut value = value.to_vec();
+    let at = random.below(value.len() + 1);
+    let byte = if random.chance(1, 3) {
+        random.byte()
+    } else {
+        *random.pick(b"-_,= 0aZ")
+    };
+    value.insert(at, byte);
+    value
+}
+
+/// A list with commas in wrong places, or literals repeated, contradicted or turned round.
+fn damage_list(random: &mut Random, value: &[u8]) -> Vec<u8> {
+    let mut items: Vec<Vec<u8>> = value.split(|byte| *byte == b',').map(<[u8]>::to_vec).collect();
+    let at = random.below(items.len());
+    let item = items[at].clone();
+    match random.below(7) {
+        0 => items.insert(at, Vec::new()),
+        1 => items.push(Vec::new()),
+        2 => items.insert(0, Vec::new()),
+        3 => items.push(item),
+        4 => items.push(opposite(&item)),
+        5 => items[at] = opposite(&item),
+        _ => items.extend(std::iter::repeat_n(item, 6)),
+    }
+    items.join(&b',')
+}
+
+fn opposite(item: &[u8]) -> Vec<u8> {
+    match item.strip_prefix(b"-") {
+        Some(name) => name.to_vec(),
+        None => [b"-", item].concat(),
+    }
+}

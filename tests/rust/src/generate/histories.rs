@@ -1,0 +1,140 @@
+//! Random histories, most of them found by simulation so that many pass.
+
+use crate::random::Random;
+use crate::reading::model::{Description, Head, Law};
+
+/// How often a state or a step is tried before a history is left as it is.
+const TRIES: usize = 6;
+/// How often a guess at a state is mended.
+const MENDS: usize = 8;
+
+fn holds(code: u16, truths: &[bool]) -> bool {
+    truths[usize::from(code / 2)] == code.is_multiple_of(2)
+}
+
+fn all_hold(codes: &[u16], truths: &[bool]) -> bool {
+    codes.iter().all(|code| holds(*code, truths))
+}
+
+/// One value an atom: a history that the laws explain, where such a one is found.
+pub fn explained_values(random: &mut Random, description: &Description) -> Vec<u8> {
+    let mut state = first_state(random, description);
+    let mut values = Vec::with_capacity(description.atoms());
+    for _ in 0..description.horizon {
+        let (before, next) = step(random, description, &state);
+        values.extend(before.iter().map(|truth| if *truth { 1 } else { 2 }));
+        state = next;
+    }
+    values.extend(state.iter().map(|truth| if *truth { 1 } else { 2 }));
+    values
+}
+
+/// A random state, mended until it satisfies the static laws or no try is left.
+fn first_state(random: &mut Random, description: &Description) -> Vec<bool> {
+    let mut state = truths(random, description.fluents.len());
+    for _ in 0..TRIES * MENDS {
+        let broken = |law: &&Law| {
+            let head = match law.head {
+                Head::Literal(code) => holds(code, &state),
+                Head::False => false,
+            };
+            law.after.is_none() && all_hold(&law.ifs, &state) && !head
+        };
+        match description.laws.iter().find(broken) {
+            None => return state,
+            Some(Law {
+                head: Head::Literal(code),
+                ..
+            }) => state[usize::from(code / 2)] = code.is_multiple_of(2),
+            Some(_) => state = truths(random, state.len()),
+        }
+    }
+    state
+}
+
+fn truths(random: &mut Random, count: usize) -> Vec<bool> {
+    (0..count).map(|_| random.chance(1, 2)).collect()
+}
+
+/// Draws actions and looks for a state they lead to. Answers with the old state and the actions in one, and the new
+/// state.
+fn step(random: &mut Random, description: &Description, state: &[bool]) -> (Vec<bool>, Vec<bool>) {
+    let mut before = state.to_vec();
+    let mut next = state.to_vec();
+    for _ in 0..TRIES {
+        before.truncate(state.len());
+        before.extend(truths(random, description.actions.len()));
+        next = state.to_vec();
+        if mend(random, description, &before, &mut next) {
+            break;
+        }
+    }
+    (before, next)
+}
+
+/// Changes a guess at the next state towards what the laws cause. True if the guess ends up explained.
+fn mend(random: &mut Random, description: &Description, before: &[bool], next: &mut [bool]) -> bool {
+    for _ in 0..MENDS {
+        let Some(caused) = caused(description, before, next) else {
+            return false;
+        };
+        let mut good = true;
+        for (fluent, truth) in next.iter_mut().enumerate() {
+            let code = 2 * fluent + usize::from(!*truth);
+            let against = caused[code ^ 1];
+            if against || !caused[code] {
+                good = false;
+                if against || random.chance(2, 3) {
+                    *truth = !*truth;
+                }
+            }
+        }
+        if good {
+            return true;
+        }
+    }
+    false
+}
+
+/// One mark a fluent literal: is it caused in the step? None if false is.
+fn caused(description: &Description, before: &[bool], next: &[bool]) -> Option<Vec<bool>> {
+    let mut marks = vec![false; 2 * next.len()];
+    for law in &description.laws {
+        let after = law.after.as_ref().is_none_or(|after| all_hold(after, before));
+        if after && all_hold(&law.ifs, next) {
+            match law.head {
+                Head::Literal(code) => marks[usize::from(code)] = true,
+                Head::False => return None,
+            }
+        }
+    }
+    Some(marks)
+}
+
+/// Spoils a history a little: a value turned round, taken away or doubled, at one place or a few.
+pub fn spoil(random: &mut Random, values: &mut [u8]) {
+    let times = if random.chance(3, 4) { 1 } else { random.between(2, 4) };
+    for _ in 0..times {
+        let index = random.below(values.len());
+        values[index] = match random.below(8) {
+            0 => 0,
+            1 => 3,
+            _ => 3 - values[index].min(3),
+        };
+    }
+}
+
+/// Puts a history's lists into another order, with some literals twice; the set it stands for stays the same.
+pub fn reorder(random: &mut Random, lists: &mut [Vec<u16>]) {
+    for list in lists {
+        if random.chance(1, 3) {
+            for _ in 0..random.below(3) {
+                if !list.is_empty() {
+                    let again = *random.pick(list);
+                    list.push(again);
+                }
+            }
+            random.shuffle(list);
+        }
+    }
+}

@@ -1,0 +1,284 @@
+//! Texts at the contract's limits and one past them.
+
+use super::descriptions::{any_law, description, names, spelled, Size};
+use super::histories::explained_values;
+use super::render::{description_lines, description_text, history_lines, history_lists, history_text, join, line};
+use crate::random::Random;
+use crate::reading::model::{Description, Head, Law};
+use crate::reading::{MAX_ACTIONS, MAX_FLUENTS, MAX_LAWS, MAX_LIST, MAX_TEXT};
+use crate::recipes::largest_description;
+
+/// A size that keeps texts at the limits cheap.
+const SMALL: Size = Size {
+    horizon: 2,
+    fluents: 3,
+    actions: 2,
+    laws: 4,
+};
+
+/// Horizons in and out of range, well and badly spelled.
+pub const HORIZONS: [&[u8]; 28] = [
+    b"",
+    b"0",
+    b"00",
+    b"01",
+    b"030",
+    b"1",
+    b"2",
+    b"9",
+    b"10",
+    b"29",
+    b"30",
+    b"31",
+    b"32",
+    b"40",
+    b"99",
+    b"100",
+    b"257",
+    b"65537",
+    b"4294967297",
+    b"18446744073709551617",
+    b"+1",
+    b"-1",
+    b" 1",
+    b"1 ",
+    b"1a",
+    b"a",
+    b":",
+    b"1/",
+];
+
+/// One text at a limit.
+pub fn text(random: &mut Random) -> Vec<u8> {
+    match random.below(8) {
+        0 => many_fluents(random),
+        1 => many_actions(random),
+        2 => many_laws(random),
+        3 | 4 => long_list(random),
+        5 => long_name(random),
+        6 => any_horizon(random),
+        _ => long_history_lists(random),
+    }
+}
+
+/// A description's lines with some history behind it, which fits if the description is taken. The laws followed by the
+/// history are those of the description given here, which may be fewer than the lines hold.
+fn with_history(random: &mut Random, description: &Description, mut lines: Vec<Vec<u8>>) -> Vec<u8> {
+    let values = explained_values(random, description);
+    lines.extend(history_lines(description, &history_lists(description, &values)));
+    join(&lines)
+}
+
+/// A name declared in a place where its count may be too high: good, taken, or no name at all.
+fn last_name(random: &mut Random, known: &[Vec<u8>]) -> Vec<u8> {
+    match random.below(4) {
+        0 => random.pick(known).clone(),
+        1 => b"false".to_vec(),
+        2 => b"-x".to_vec(),
+        _ => names(random, 64)
+            .into_iter()
+            .find(|name| !known.contains(name))
+            .expect("64 names are more than 33"),
+    }
+}
+
+fn many_fluents(random: &mut Random) -> Vec<u8> {
+    let mut made = description(random, SMALL);
+    let count = random.between(MAX_FLUENTS - 1, MAX_FLUENTS + 1);
+    made.actions.clear();
+    made.fluents = names(random, count.min(MAX_FLUENTS));
+    made.laws = (0..2).map(|_| any_law(random, &made)).collect();
+    if count > MAX_FLUENTS {
+        let last = last_name(random, &made.fluents);
+        made.fluents.push(last);
+    }
+    let lines = description_lines(&made);
+    with_history(random, &made, lines)
+}
+
+fn many_actions(random: &mut Random) -> Vec<u8> {
+    let mut made = description(random, SMALL);
+    let count = random.between(MAX_ACTIONS - 1, MAX_ACTIONS + 1);
+    let mut all = names(random, 2 + count.min(MAX_ACTIONS));
+    if count > MAX_ACTIONS {
+        all.push(last_name(random, &all));
+    }
+    made.actions = all.split_off(2);
+    made.fluents = all;
+    made.laws = (0..2).map(|_| any_law(random, &made)).collect();
+    let lines = description_lines(&made);
+    with_history(random, &made, lines)
+}
+
+fn many_laws(random: &mut Random) -> Vec<u8> {
+    let mut made = description(random, SMALL);
+    let count = random.between(MAX_LAWS - 1, MAX_LAWS + 1);
+    while made.laws.len() < count {
+        // A law that always holds, or any; the last one may have a head that nothing declares.
+        let law = match random.below(3) {
+            0 => any_law(random, &made),
+            1 if made.laws.len() == MAX_LAWS => Law {
+                head: Head::Literal(99),
+                ifs: vec![],
+                after: None,
+            },
+            _ => Law {
+                head: Head::Literal(0),
+                ifs: vec![0],
+                after: Some(vec![0]),
+            },
+        };
+        made.laws.push(law);
+    }
+    let lines = description_lines(&made);
+    made.laws.truncate(MAX_LAWS);
+    with_history(random, &made, lines)
+}
+
+/// A law's list of six or seven items, where some item may be no literal, or of the wrong sort.
+fn long_list(random: &mut Random) -> Vec<u8> {
+    let mut made = description(random, SMALL);
+    let length = random.between(MAX_LIST - 1, MAX_LIST + 1);
+    let is_after = random.chance(1, 2);
+    let limit = if is_after {
+        2 * made.stride()
+    } else {
+        2 * made.fluents.len()
+    };
+    let mut codes: Vec<u16> = (0..length).map(|_| random.below(limit) as u16).collect();
+    if random.chance(1, 3) {
+        let index = random.below(length);
+        codes[index] = random.between(2 * made.fluents.len(), 2 * made.stride() + 1) as u16;
+    }
+    let law = match is_after {
+        true => Law {
+            head: Head::Literal(0),
+            ifs: vec![0],
+            after: Some(codes),
+        },
+        false => Law {
+            head: Head::False,
+            ifs: codes,
+            after: random.chance(1, 2).then(Vec::new),
+        },
+    };
+    made.laws.truncate(2);
+    made.laws.push(law);
+    let mut lines = description_lines(&made);
+    if random.chance(1, 4) {
+        // An empty item behind a last comma.
+        let index = lines.len() - 2;
+        lines[index].push(b',');
+    }
+    made.laws.pop();
+    with_history(random, &made, lines)
+}
+
+fn long_name(random: &mut Random) -> Vec<u8> {
+    let mut made = description(random, SMALL);
+    let length = random.between(15, 18);
+    let name = spelled(random, length);
+    if random.chance(1, 2) || made.actions.is_empty() {
+        let index = random.below(made.fluents.len());
+        made.fluents[index] = name;
+    } else {
+        let index = random.below(made.actions.len());
+        made.actions[index] = name;
+    }
+    let lines = description_lines(&made);
+    with_history(random, &made, lines)
+}
+
+fn any_horizon(random: &mut Random) -> Vec<u8> {
+    let mut made = description(random, SMALL);
+    let spelled = *random.pick(&HORIZONS);
+    let number: Option<usize> = std::str::from_utf8(spelled).ok().and_then(|digits| digits.parse().ok());
+    made.horizon = number.filter(|horizon| *horizon <= 31).unwrap_or(1);
+    let mut lines = description_lines(&made);
+    lines[0] = line("horizon", spelled);
+    with_history(random, &made, lines)
+}
+
+/// A history whose lists hold more literals than any law's list may.
+fn long_history_lists(random: &mut Random) -> Vec<u8> {
+    let made = description(random, SMALL);
+    let values = explained_values(random, &made);
+    let mut lists = history_lists(&made, &values);
+    for list in &mut lists {
+        let more = random.below(20);
+        for _ in 0..more {
+            if !list.is_empty() {
+                let again = *random.pick(list);
+                list.push(again);
+            }
+        }
+    }
+    let mut lines = description_lines(&made);
+    lines.extend(history_lines(&made, &lists));
+    join(&lines)
+}
+
+/// Which part of a text is made as long as it may be, or too long.
+#[derive(Clone, Copy, Debug, PartialEq, Eq)]
+pub enum Long {
+    /// Description and history together.
+    Whole,
+    /// The history alone.
+    History,
+    /// The description and bytes that nothing should look at.
+    Tail,
+}
+
+/// A text of which one part has 65,534 to 65,537 bytes, or far more.
+pub fn long_text(random: &mut Random) -> Vec<u8> {
+    let made = description(random, SMALL);
+    let head = description_text(&made);
+    let long = *random.pick(&[Long::Whole, Long::Whole, Long::History, Long::Tail]);
+    let excess = *random.pick(&[0, 0, 1, 1, 2, 3, 4_000, 66_000]);
+    let wanted = MAX_TEXT - 1 + excess;
+    let mut text = head.clone();
+    match long {
+        Long::Whole => text.extend(history_of(random, &made, wanted - head.len())),
+        Long::History => text.extend(history_of(random, &made, wanted)),
+        Long::Tail => {
+            text.extend(history_text(&made, &explained_values(random, &made)));
+            text.resize(wanted, b'x');
+        }
+    }
+    text
+}
+
+/// A history of so many bytes: the first literal of its first state is repeated; what is too short for one more
+/// literal stands behind the end line.
+fn history_of(random: &mut Random, description: &Description, wanted: usize) -> Vec<u8> {
+    let values = explained_values(random, description);
+    let mut lines = history_lines(description, &history_lists(description, &values));
+    let first: Vec<u8> = lines[0][b"state=".len()..].to_vec();
+    let item = first.split(|byte| *byte == b',').next().unwrap_or(&first).to_vec();
+    let mut missing = wanted.saturating_sub(join(&lines).len());
+    while missing > item.len() {
+        lines[0].push(b',');
+        lines[0].extend(&item);
+        missing -= item.len() + 1;
+    }
+    let mut text = join(&lines);
+    text.extend(std::iter::repeat_n(b'\n', missing));
+    text
+}
+
+/// The largest description, or one law short of it, with a passing history that may be spoilt in one place.
+pub fn largest_text(random: &mut Random) -> Vec<u8> {
+    let mut made = largest_description();
+    made.horizon = random.between(28, 30);
+    if random.chance(1, 2) {
+        made.laws.pop();
+    }
+    let mut values = vec![1; made.atoms()];
+    if random.chance(1, 2) {
+        let index = random.below(values.len());
+        values[index] = random.below(4) as u8;
+    }
+    let mut text = description_text(&made);
+    text.extend(history_text(&made, &values));
+    text
+}

@@ -1,0 +1,9 @@
+//! Random inputs: descriptions, histories, texts at the limits, damaged texts, and ground rule tables.
+
+pub mod damage;
+pub mod descriptions;
+pub mod histories;
+pub mod limits;
+pub mod render;
+pub mod tables;
+pub mod texts;

@@ -1,0 +1,109 @@
+//! The six functions of the C header, and safe calls of them.
+//!
+//! Only the programs that link the library include this file; it is no part of the package's own library.
+
+use readings::answer::Answer;
+use readings::calls::Calls;
+use std::ptr;
+
+#[link(name = "huntyghai", kind = "static")]
+extern "C" {
+    fn huntyghai_report(input: *const u8, input_length: usize, out: *mut u8, out_length: usize) -> usize;
+    fn huntyghai_check_set(values: *const u8, values_length: usize, table: *const u16, table_length: usize) -> u64;
+    fn huntyghai_translate(text: *const u8, text_length: usize, table: *mut u16, table_length: usize) -> u64;
+    fn huntyghai_read_history(
+        description: *const u8,
+        description_length: usize,
+        history: *const u8,
+        history_length: usize,
+        values: *mut u8,
+        values_length: usize,
+    ) -> u64;
+    fn huntyghai_check_history(
+        text: *const u8,
+        text_length: usize,
+        values: *const u8,
+        values_length: usize,
+        table: *mut u16,
+        table_length: usize,
+    ) -> u64;
+    fn huntyghai_causal_reading(input: *const u8, input_length: usize) -> u64;
+}
+
+/// The linked library.
+///
+/// Each call lends parts of memory that live as long as the call; those that are written to are borrowed for writing,
+/// so they overlap nothing else. Lengths are those of the parts. An empty part is lent with a null pointer, for the
+/// header allows any pointer with a length of 0, and this is the one most likely to do harm.
+pub struct Lent;
+
+fn place<T>(part: &[T]) -> *const T {
+    if part.is_empty() {
+        ptr::null()
+    } else {
+        part.as_ptr()
+    }
+}
+
+fn place_mut<T>(part: &mut [T]) -> *mut T {
+    if part.is_empty() {
+        ptr::null_mut()
+    } else {
+        part.as_mut_ptr()
+    }
+}
+
+impl Calls for Lent {
+    fn report(&self, input: &[u8], out: &mut [u8]) -> usize {
+        // SAFETY: as said at `Lent`.
+        unsafe { huntyghai_report(place(input), input.len(), place_mut(out), out.len()) }
+    }
+
+    fn check_set(&self, values: &[u8], table: &[u16]) -> Answer {
+        // SAFETY: as said at `Lent`.
+        let number = unsafe { huntyghai_check_set(place(values), values.len(), place(table), table.len()) };
+        Answer::from_number(number)
+    }
+
+    fn translate(&self, text: &[u8], table: &mut [u16]) -> Answer {
+        // SAFETY: as said at `Lent`.
+        let number = unsafe { huntyghai_translate(place(text), text.len(), place_mut(table), table.len()) };
+        Answer::from_number(number)
+    }
+
+    fn read_history(&self, description: &[u8], history: &[u8], values: &mut [u8]) -> Answer {
+        // SAFETY: as said at `Lent`. The two texts may overlap, for neither is written to.
+        let number = unsafe {
+            huntyghai_read_history(
+                place(description),
+                description.len(),
+                place(history),
+                history.len(),
+                place_mut(values),
+                values.len(),
+            )
+        };
+        Answer::from_number(number)
+    }
+
+    fn check_history(&self, text: &[u8], values: &[u8], table: &mut [u16]) -> Answer {
+        // SAFETY: as said at `Lent`.
+        let number = unsafe {
+            huntyghai_check_history(
+                place(text),
+                text.len(),
+                place(values),
+                values.len(),
+                place_mut(table),
+                table.len(),
+            )
+        };
+        Answer::from_number(number)
+    }
+
+    fn causal_reading(&self, input: &[u8]) -> Answer {
+        // SAFETY: as said at `Lent`.
+        let number = unsafe { huntyghai_causal_reading(place(input), input.len()) };
+        Answer::from_number(number)
+    }
+}

@@ -1,0 +1,120 @@
+//! The description reader.
+
+use super::lines::{list, literal, Key, Line, Lines, Sort};
+use super::model::{Description, Head, Law};
+use super::{Refusal, MAX_ACTIONS, MAX_FLUENTS, MAX_HORIZON, MAX_LAWS, MAX_LIST, MAX_NAME, MAX_TEXT};
+
+/// How far the reader is: each part of a description closes the ones before it.
+#[derive(Clone, Copy, Debug, PartialEq, Eq, PartialOrd, Ord)]
+enum Part {
+    /// Behind the horizon, where a first fluent is due.
+    FirstFluent,
+    Fluents,
+    Actions,
+    Laws,
+}
+
+/// Reads the description at the text's start. `law_run` is how many law records are lent; 64 where none are.
+pub fn read_description(text: &[u8], law_run: usize) -> Result<Description, Refusal> {
+    if text.len() > MAX_TEXT {
+        return Err(Refusal::new(1, 0));
+    }
+    let mut lines = Lines::new(text);
+    let horizon = read_horizon(&lines.expect(Key::Horizon)?)?;
+    let mut description = Description {
+        horizon,
+        fluents: Vec::new(),
+        actions: Vec::new(),
+        laws: Vec::new(),
+        length: 0,
+        lines: 0,
+    };
+    read_parts(&mut lines, &mut description, law_run.min(MAX_LAWS))?;
+    description.length = lines.position();
+    description.lines = lines.count();
+    Ok(description)
+}
+
+/// Everything behind the horizon line, up to the end line.
+fn read_parts(lines: &mut Lines, description: &mut Description, law_limit: usize) -> Result<(), Refusal> {
+    let mut part = Part::FirstFluent;
+    loop {
+        let line = lines.take()?;
+        match line.key {
+            Key::Fluent if part <= Part::Fluents => {
+                part = Part::Fluents;
+                let name = read_name(description, &line, description.fluents.len(), MAX_FLUENTS)?;
+                description.fluents.push(name);
+            }
+            Key::Action if part == Part::Fluents || part == Part::Actions => {
+                part = Part::Actions;
+                let name = read_name(description, &line, description.actions.len(), MAX_ACTIONS)?;
+                description.actions.push(name);
+            }
+            Key::Static | Key::Dynamic if part >= Part::Fluents => {
+                part = Part::Laws;
+                if description.laws.len() >= law_limit {
+                    return Err(line.refusal(5));
+                }
+                let law = read_law(lines, description, &line)?;
+                description.laws.push(law);
+            }
+            Key::End if part >= Part::Fluents && line.value.is_empty() => return Ok(()),
+            _ => return Err(line.refusal(2)),
+        }
+    }
+}
+
+/// A horizon is 1 to 30 in decimal digits without a leading zero.
+fn read_horizon(line: &Line) -> Result<usize, Refusal> {
+    let digits = line.value;
+    let spelled = matches!(digits.len(), 1 | 2) && digits[0] != b'0' && digits.iter().all(u8::is_ascii_digit);
+    if !spelled {
+        return Err(line.refusal(3));
+    }
+    let number = digits.iter().fold(0, |sum, digit| sum * 10 + usize::from(digit - b'0'));
+    if number > MAX_HORIZON {
+        return Err(line.refusal(3));
+    }
+    Ok(number)
+}
+
+/// A letter a to z, then up to 15 letters, digits or underscores; and not the word false.
+pub fn is_name(bytes: &[u8]) -> bool {
+    let starts = bytes.first().is_some_and(u8::is_ascii_lowercase);
+    let goes_on = |byte: &u8| byte.is_ascii_lowercase() || byte.is_ascii_digit() || *byte == b'_';
+    starts && bytes.len() <= MAX_NAME && bytes.iter().all(goes_on) && bytes != b"false"
+}
+
+/// A newly declared name. Its count is tested before its spelling.
+fn read_name(known: &Description, line: &Line, count: usize, limit: usize) -> Result<Vec<u8>, Refusal> {
+    if count >= limit {
+        return Err(line.refusal(5));
+    }
+    if !is_name(line.value) || known.symbol(line.value).is_some() {
+        return Err(line.refusal(4));
+    }
+    Ok(line.value.to_vec())
+}
+
+/// A law whose first line is at hand.
+fn read_law(lines: &mut Lines, names: &Description, first: &Line) -> Result<Law, Refusal> {
+    let head = read_head(names, first)?;
+    let if_line = lines.expect(Key::If)?;
+    let ifs = list(names, &if_line, Sort::Fluents, Some(MAX_LIST))?;
+    let mut after = None;
+    if first.key == Key::Dynamic {
+        let after_line = lines.expect(Key::After)?;
+        after = Some(list(names, &after_line, Sort::Either, Some(MAX_LIST))?);
+    }
+    Ok(Law { head, ifs, after })
+}
+
+/// The word false, or a fluent literal.
+fn read_head(names: &Description, line: &Line) -> Result<Head, Refusal> {
+    if line.value == b"false" {
+        return Ok(Head::False);
+    }
+    let code = literal(names, line.value, Sort::Fluents).ok_or(line.refusal(6))?;
+    Ok(Head::Literal(code))
+}
