@@ -1,8 +1,9 @@
 //! A solver from elsewhere, run on programs that someone has written out for it.
 
 use crate::measure::median;
+use std::fs::File;
 use std::io;
-use std::process::Command;
+use std::process::{Command, Stdio};
 use std::time::Instant;
 
 /// Runs of one file.
@@ -49,6 +50,18 @@ pub fn solve(file: &str) -> io::Result<Taken> {
         process: median(&mut process),
         said,
     })
+}
+
+/// The median time of a program's whole process, in seconds, with a file as its standard input.
+pub fn whole_process(program: &str, input: &str) -> io::Result<f64> {
+    let mut times = Vec::new();
+    for _ in 0..RUNS {
+        let file = File::open(input)?;
+        let start = Instant::now();
+        Command::new(program).stdin(file).stdout(Stdio::null()).status()?;
+        times.push(start.elapsed().as_secs_f64());
+    }
+    Ok(median(&mut times))
 }
 
 /// The solver ends with 10 for an answer set, 20 for none, and 30 for all that there are.

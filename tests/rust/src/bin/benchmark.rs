@@ -1,7 +1,7 @@
 //! Times the linked library against the independent reading, on the same inputs in one run.
 //!
-//! `benchmark [FILE=LABEL ...]`. The files are programs for clingo; where it is installed, they are solved and timed
-//! as well. The figures hold for the machine and the day they are taken on; nothing depends on them.
+//! `benchmark [CHECK [PROGRAM=RECIPE ...]]`. CHECK is the program check; the others are programs for clingo, each with
+//! the recipe it was made from: where clingo is installed, they are solved and timed as well. The figures hold for the machine and the day they are taken on; nothing depends on them.
 
 #[path = "../lent.rs"]
 mod lent;
@@ -15,8 +15,13 @@ use readings::reading::report::read_input;
 use readings::reading::translation::all_rules;
 use readings::recipes::{belt_recipe, full_recipe, largest_recipe};
 use std::env;
+use std::fs;
 use std::hint::black_box;
 use std::io;
+use std::path::Path;
+
+/// The library as its callers have it: nothing is copied or looked at besides.
+const LIBRARY: Lent = Lent { watched: false };
 
 const HORIZONS: [usize; 8] = [1, 2, 5, 10, 15, 20, 25, 30];
 
@@ -49,7 +54,7 @@ fn agree(sample: &Sample) {
     let passes = Answer::new(16, 0);
     let mut table = vec![0; sample.table.len()];
     assert_eq!(
-        Lent.check_set(&sample.values, &sample.table),
+        LIBRARY.check_set(&sample.values, &sample.table),
         passes,
         "{}",
         sample.label
@@ -61,7 +66,7 @@ fn agree(sample: &Sample) {
         sample.label
     );
     assert_eq!(
-        Lent.check_history(&sample.text, &sample.values, &mut table),
+        LIBRARY.check_history(&sample.text, &sample.values, &mut table),
         passes,
         "{}",
         sample.label
@@ -80,7 +85,7 @@ fn time_engine(sample: &Sample) -> Pair {
     let call = |side: &dyn Calls| {
         black_box(side.check_set(black_box(&sample.values), black_box(&sample.table)));
     };
-    pair(|| call(&Lent), || call(&Reading))
+    pair(|| call(&LIBRARY), || call(&Reading))
 }
 
 /// The history check from the description's text on: reading, translation and engine.
@@ -89,7 +94,7 @@ fn time_history_check(sample: &Sample) -> Pair {
     let mut own = vec![0; sample.table.len()];
     pair(
         || {
-            black_box(Lent.check_history(black_box(&sample.text), black_box(&sample.values), &mut lent));
+            black_box(LIBRARY.check_history(black_box(&sample.text), black_box(&sample.values), &mut lent));
         },
         || {
             black_box(Reading.check_history(black_box(&sample.text), black_box(&sample.values), &mut own));
@@ -150,17 +155,17 @@ fn print_growth(what: &str, times: &Pair, first: &Pair) {
     );
 }
 
-/// The files given as arguments, each with its label.
+/// The programs given as arguments, each with the recipe it was made from.
 fn time_clingo() -> Result<(), String> {
-    for given in env::args().skip(1) {
-        let (file, label) = given
-            .rsplit_once('=')
-            .ok_or(format!("`{given}` is not of the form FILE=LABEL"))?;
-        match clingo::solve(file) {
-            Ok(taken) => println!(
-                "clingo, {label}: {}, solving {:.4} s, own time {:.4} s, whole process {:.4} s",
-                taken.said, taken.solving, taken.own, taken.process
-            ),
+    let mut given = env::args().skip(1);
+    let Some(check) = given.next() else { return Ok(()) };
+    println!("against clingo: ratios are the checker by clingo, 0 solving time left out");
+    for pair in given {
+        let (program, recipe) = pair
+            .split_once('=')
+            .ok_or(format!("`{pair}` is not of the form PROGRAM=RECIPE"))?;
+        match clingo::solve(program) {
+            Ok(taken) => print_against(&taken, recipe, &check)?,
             Err(reason) if reason.kind() == io::ErrorKind::NotFound => {
                 println!("clingo is not installed; its files are left out");
                 return Ok(());
@@ -168,6 +173,34 @@ fn time_clingo() -> Result<(), String> {
             Err(reason) => return Err(reason.to_string()),
         }
     }
+    Ok(())
+}
+
+/// One recipe: clingo's times beside the history check's and beside those of the program check, as whole processes.
+fn print_against(taken: &clingo::Taken, recipe: &str, check: &str) -> Result<(), String> {
+    let text = fs::read(recipe).map_err(|reason| reason.to_string())?;
+    let label = Path::new(recipe)
+        .file_stem()
+        .map_or(recipe.into(), |stem| stem.to_string_lossy());
+    let library = time_history_check(&sample(&label, text)).first / 1e9;
+    let process = clingo::whole_process(check, recipe).map_err(|reason| reason.to_string())?;
+    println!(
+        "  {label}: clingo says {}, solving {:.4} s, own time {:.4} s, whole process {:.4} s",
+        taken.said, taken.solving, taken.own, taken.process
+    );
+    if taken.solving > 0.0 {
+        println!("    history check by solving: ratio {:.4}", library / taken.solving);
+    }
+    println!(
+        "    history check {} by clingo's own time: ratio {:.4}",
+        readable(library * 1e9),
+        library / taken.own
+    );
+    println!(
+        "    whole process {:.4} s by clingo's: ratio {:.3}",
+        process,
+        process / taken.process
+    );
     Ok(())
 }
 

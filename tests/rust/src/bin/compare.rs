@@ -46,7 +46,7 @@ fn main() -> ExitCode {
         }
     };
     let mut out = io::stdout().lock();
-    match run(&Lent, &plan, &mut out).and_then(|good| out.flush().map(|()| good)) {
+    match run(&Lent { watched: true }, &plan, &mut out).and_then(|good| out.flush().map(|()| good)) {
         Ok(true) => ExitCode::SUCCESS,
         Ok(false) => ExitCode::FAILURE,
         Err(reason) => {
