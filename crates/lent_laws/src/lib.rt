@@ -181,3 +181,20 @@ pub fn causal_reading(d: Description, laws: &[Law], values: &[u8]) -> Reading
 {
     causal::causal_reading(d, gather(laws), laws.len(), values)
 }
+
+// What the description reader answers, and the run that it was lent.
+pub struct ReadRun {
+    pub read: Read,
+    pub laws: [Law; 64],
+}
+
+// Lends a run by value to the description reader, and hands it out as the reader left it.
+pub fn read_run(text: &[u8], laws: [Law; 64]) -> ReadRun
+    ensures { λ r. ⌜ replyOf (r .read .answer) ≡ replied (now (text .entry)) (described 64 (now (text .entry))) ⌝ }
+    ensures { λ r. ⌜ r .read .description ≡ recordOf (described 64 (now (text .entry))) ⌝ }
+    ensures { λ r. ⌜ r .laws ≡ lawsLeft (described 64 (now (text .entry))) laws ⌝ }
+{
+    let mut laws = laws;
+    let read = read_description(text, &mut laws);
+    ReadRun { read, laws }
+}
