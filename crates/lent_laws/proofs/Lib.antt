@@ -6,3 +6,4 @@ pub mod Records
 pub mod Gathering
 pub mod Lending
 pub mod Locals
+pub mod Relending

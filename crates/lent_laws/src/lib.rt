@@ -198,3 +198,30 @@ pub fn read_run(text: &[u8], laws: [Law; 64]) -> ReadRun
     let read = read_description(text, &mut laws);
     ReadRun { read, laws }
 }
+
+// What the three functions over a run say of one history.
+pub struct Judged {
+    pub translated: Translated,
+    pub checked: Checked,
+    pub reading: Reading,
+}
+
+// Lends a run by value to the three functions in turn: to be translated, checked against a history, and read with it.
+pub fn judge(d: Description, laws: [Law; 64], values: &[u8], table: &mut [u16]) -> Judged
+    ensures { λ r. ⌜ outcomeOf (r .translated) ≡ outcome d laws 64 (length (now (table .entry))) ⌝ }
+    ensures { λ r. ⌜ Checks.replyOf (r .checked) ≡ Checks.checked d laws 64 (now (values .entry)) (length (now (table .entry))) ⌝ }
+    ensures { λ r. ⌜ Readings.replyOf (r .reading) ≡ Readings.reading d laws 64 (now (values .entry)) ⌝ }
+    ensures { λ _. ⌜ now (table .exit) ≡ tableAfter d laws 64 (now (table .entry)) ⌝ }
+    ensures { λ r. ⌜ PassesExactly d laws (now (values .entry)) (length (now (table .entry))) (r .checked) ⌝ }
+    ensures { λ r. ⌜ PathExactly d laws (now (values .entry)) (r .reading) ⌝ }
+{
+    let run: &[Law] = &laws;
+    let translated = translate(d, run, table);
+    let checked = check_history(d, run, values, table);
+    let reading = causal_reading(d, run, values);
+    Judged {
+        translated,
+        checked,
+        reading,
+    }
+}
