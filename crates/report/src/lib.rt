@@ -67,7 +67,7 @@ fn moved_up(lines: usize, number: u8, place: usize) -> usize
     lines + place
 }
 
-// Checks the values of a history, reads them causally, and writes what both say.
+// Translates the laws, checks the values of a history, reads them causally, and writes what the three say.
 fn put_outcome(
     out: &mut [u8],
     input: &[u8],
@@ -78,13 +78,14 @@ fn put_outcome(
     ensures { λ r. ⌜ (let ws = afterOutcome (now (input .entry)) d laws (now (values .entry)) (outcome d laws 64 room) in
         (r ≡ 0 + length ws) × (now (out .exit) ≡ sets (now (out .entry)) 0 ws)) ⌝ }
 {
-    let measured = translation::measure(d, laws, 64, 30912);
-    match measured {
+    let mut table = no_table();
+    let judged = lent_laws::judge(d, laws, values, &mut table);
+    let translated = judged.translated;
+    match translated {
         Translated::Refused(number, place) => answers::put_refusal(out, 0, number, place),
         Translated::Written(atoms, rules, words) => {
-            let mut table = no_table();
-            let checked = history::check_history(d, laws, 64, values, &mut table);
-            let reading = causal::causal_reading(d, laws, 64, values);
+            let checked = judged.checked;
+            let reading = judged.reading;
             let counts = Counts {
                 horizon: d.horizon,
                 atoms,
@@ -101,14 +102,14 @@ fn put_outcome(
 pub fn report(input: &[u8], out: &mut [u8]) -> usize
     ensures { λ r. ⌜ (r ≡ length (output (now (input .entry)))) × (now (out .exit) ≡ sets (now (out .entry)) 0 (output (now (input .entry)))) ⌝ }
 {
-    let described = text::read_description(input, no_laws(), 64);
-    let answer = described.answer;
+    let described = lent_laws::read_run(input, no_laws());
+    let read = described.read;
+    let answer = read.answer;
     match answer {
         Answer::Refused(number, place) => answers::put_refusal(out, 0, number, place),
         Answer::Read(bytes, lines) => {
-            let d = described.description;
-            let run = described.run;
-            let laws = run.laws;
+            let d = read.description;
+            let laws = described.laws;
             let atoms = atom_count(d);
             let mut values = no_values();
             let said = text::read_history(input, &input[bytes..], &mut values[..atoms]);

@@ -22,8 +22,8 @@ use Rattle.report.proofs.report.Tie as tie
 no-laws-requires : tie.Need-no-laws-requires
 no-laws-requires c κs = search needs
 
-read-description-requires : tie.Need-read-description-requires
-read-description-requires c κs = search needs
+read-run-requires : tie.Need-read-run-requires
+read-run-requires c κs = search needs
 
 enum-known-answer : tie.Need-enum-known-answer
 enum-known-answer c = search needs
@@ -36,32 +36,32 @@ enum-known-answer-2 c = search needs
 
 atom-count-requires : tie.Need-atom-count-requires
 atom-count-requires c κs =
-    let n = c .before .before .before .before in
-    let rd = n .before .before in
+    let n = c .before .before .before in
+    let rd = n .before .before .before in
     let a = rd .before .before .before .before .args in
     let input = a .input .now in
-    let k = known input (sym (rd .read-description .ensures .0) ∙ ap replyOf (n .answer2 .given .1)) in
-    rw (rd .read-description .ensures .1 .0, k .is) (limits input k)
+    let k = known input (sym (rd .read-run .ensures .0) ∙ ap replyOf (n .answer2 .given .1)) in
+    rw (rd .read-run .ensures .1 .0, k .is) (limits input k)
 
 no-values-requires : tie.Need-no-values-requires
 no-values-requires c κs = search needs
 
 sub-read-history : tie.Need-sub-read-history
 sub-read-history c =
-    let n = c .before .before .before .before .before .before in
-    let rd = n .before .before in
+    let n = c .before .before .before .before .before in
+    let rd = n .before .before .before in
     let a = rd .before .before .before .before .args in
     let input = a .input .now in
-    let k = known input (sym (rd .read-description .ensures .0) ∙ ap replyOf (n .answer2 .given .1)) in
+    let k = known input (sym (rd .read-run .ensures .0) ∙ ap replyOf (n .answer2 .given .1)) in
     k .start
 
 part-read-history-start : tie.Need-part-read-history-start
 part-read-history-start c =
-    let n = c .before .before .before .before .before .before in
-    let rd = n .before .before in
+    let n = c .before .before .before .before .before in
+    let rd = n .before .before .before in
     let a = rd .before .before .before .before .args in
     let input = a .input .now in
-    let k = known input (sym (rd .read-description .ensures .0) ∙ ap replyOf (n .answer2 .given .1)) in
+    let k = known input (sym (rd .read-run .ensures .0) ∙ ap replyOf (n .answer2 .given .1)) in
     k .start
 
 part-read-history-end : tie.Need-part-read-history-end
@@ -88,12 +88,12 @@ moved-up-requires c κs =
     let rh = said .before .before .before in
     let v = rh .before .before .before in
     let count = v .before in
-    let n = count .before .before .before .before .before in
-    let rd = n .before .before in
+    let n = count .before .before .before .before in
+    let rd = n .before .before .before in
     let a = rd .before .before .before .before .args in
     let input = a .input .now in
-    let k = known input (sym (rd .read-description .ensures .0) ∙ ap replyOf (n .answer2 .given .1)) in
-    let dis = rd .read-description .ensures .1 .0 ∙ ap recordOf (k .is) in
+    let k = known input (sym (rd .read-run .ensures .0) ∙ ap replyOf (n .answer2 .given .1)) in
+    let dis = rd .read-run .ensures .1 .0 ∙ ap recordOf (k .is) in
     let lent = take (count .atom-count .result) (v .no-values .result) in
     let size : length lent ≡ count .atom-count .result =
     omega (arith, length-take (count .atom-count .result) (v .no-values .result), count .atom-count .ensures .1, v .no-values .ensures) in
@@ -136,11 +136,11 @@ returns : tie.Need-returns
 returns c =
     let w = c .before .before in
     let n = w .before .before .before in
-    let rd = n .before .before in
+    let rd = n .before .before .before in
     let a = rd .before .before .before .before .args in
     let input = a .input .now in
     from-first (a .out .now) (output input)
-    (rw (says-turned input (sym (rd .read-description .ensures .0) ∙ ap replyOf (n .answer .given .1))) (w .put-refusal .ensures))
+    (rw (says-turned input (sym (rd .read-run .ensures .0) ∙ ap replyOf (n .answer .given .1))) (w .put-refusal .ensures))
 
 same-length-2 : tie.Need-same-length-2
 same-length-2 c = search needs
@@ -153,12 +153,12 @@ returns-2 c =
     let rh = said .before .before .before in
     let v = rh .before .before .before in
     let count = v .before in
-    let n = count .before .before .before .before .before in
-    let rd = n .before .before in
+    let n = count .before .before .before .before in
+    let rd = n .before .before .before in
     let a = rd .before .before .before .before .args in
     let input = a .input .now in
-    let k = known input (sym (rd .read-description .ensures .0) ∙ ap replyOf (n .answer2 .given .1)) in
-    let dis = rd .read-description .ensures .1 .0 ∙ ap recordOf (k .is) in
+    let k = known input (sym (rd .read-run .ensures .0) ∙ ap replyOf (n .answer2 .given .1)) in
+    let dis = rd .read-run .ensures .1 .0 ∙ ap recordOf (k .is) in
     let lent = take (count .atom-count .result) (v .no-values .result) in
     let size : length lent ≡ count .atom-count .result =
     omega (arith, length-take (count .atom-count .result) (v .no-values .result), count .atom-count .ensures .1, v .no-values .ensures) in
@@ -176,16 +176,16 @@ returns-3 c =
     let rh = told .before .before .before in
     let v = rh .before .before .before in
     let count = v .before in
-    let n = count .before .before .before .before .before in
-    let rd = n .before .before in
+    let n = count .before .before .before .before in
+    let rd = n .before .before .before in
     let a = rd .before .before .before .before .args in
     let input = a .input .now in
-    let k = known input (sym (rd .read-description .ensures .0) ∙ ap replyOf (n .answer2 .given .1)) in
-    let d = rd .read-description .result .description in
-    let laws = rd .read-description .result .run .laws in
+    let k = known input (sym (rd .read-run .ensures .0) ∙ ap replyOf (n .answer2 .given .1)) in
+    let d = rd .read-run .result .read .description in
+    let laws = rd .read-run .result .laws in
     let old = rd .before .no-laws .result in
-    let dis = rd .read-description .ensures .1 .0 ∙ ap recordOf (k .is) in
-    let lis = rd .read-description .ensures .1 .1 .0 ∙ ap (λ (o : Outcome). lawsLeft o old) (k .is) in
+    let dis = rd .read-run .ensures .1 .0 ∙ ap recordOf (k .is) in
+    let lis = rd .read-run .ensures .1 .1 ∙ ap (λ (o : Outcome). lawsLeft o old) (k .is) in
     let m = count .atom-count .result in
     let lent = take m (v .no-values .result) in
     let size : length lent ≡ m = omega (arith, length-take m (v .no-values .result), count .atom-count .ensures .1, v .no-values .ensures) in
@@ -203,7 +203,7 @@ report-spec =
     tie.close
     (tie.spec
     no-laws-requires
-    read-description-requires
+    read-run-requires
     enum-known-answer
     put-refusal-requires
     enum-known-answer-2
