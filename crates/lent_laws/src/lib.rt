@@ -32,7 +32,8 @@ fn no_law() -> Law
     }
 }
 
-fn no_laws() -> [Law; 64]
+// Room for the laws of any description.
+pub fn no_laws() -> [Law; 64]
     ensures { λ r. ⌜ r ≡ noLaws ⌝ }
 {
     let law = no_law();

@@ -4,8 +4,6 @@ mod writing;
 
 use answers::Counts;
 use description::Description;
-use description::Head;
-use description::Kind;
 use description::Law;
 use text::Answer;
 use text::HistoryAnswer;
@@ -23,19 +21,6 @@ fn no_table() -> [u16; 30912]
     ensures { λ r. ⌜ 30912 ≡ length r ⌝ }
 {
     [0; 30912]
-}
-
-// Room for the laws; each is read before it is looked at.
-fn no_laws() -> [Law; 64] {
-    let law = Law {
-        kind: Kind::Static,
-        head: Head::False,
-        if_count: 0,
-        if_codes: [0; 6],
-        after_count: 0,
-        after_codes: [0; 6],
-    };
-    [law; 64]
 }
 
 // Room for the values of the most atoms.
@@ -102,7 +87,7 @@ fn put_outcome(
 pub fn report(input: &[u8], out: &mut [u8]) -> usize
     ensures { λ r. ⌜ (r ≡ length (output (now (input .entry)))) × (now (out .exit) ≡ sets (now (out .entry)) 0 (output (now (input .entry)))) ⌝ }
 {
-    let described = lent_laws::read_run(input, no_laws());
+    let described = lent_laws::read_run(input, lent_laws::no_laws());
     let read = described.read;
     let answer = read.answer;
     match answer {
