@@ -207,7 +207,8 @@ pub struct Judged {
     pub reading: Reading,
 }
 
-// Lends a run by value to the three functions in turn: to be translated, checked against a history, and read with it.
+// Lends a run by value to the three functions in turn: to be translated, checked against a history, and read with it. The table is
+// left as the translation leaves it, whatever the other two then say.
 pub fn judge(d: Description, laws: [Law; 64], values: &[u8], table: &mut [u16]) -> Judged
     ensures { λ r. ⌜ outcomeOf (r .translated) ≡ outcome d laws 64 (length (now (table .entry))) ⌝ }
     ensures { λ r. ⌜ Checks.replyOf (r .checked) ≡ Checks.checked d laws 64 (now (values .entry)) (length (now (table .entry))) ⌝ }
