@@ -19,7 +19,6 @@ use types.Share.{arr-parts}
 use types.Tokens.{lent-back}
 use denote.Laws.{Is, shows}
 use denote.Memory.{cellAt, partAt, mem, shares, partOf}
-use denote.Array.{array-vals, array-tells}
 use denote.ArrayMemory.{array-apart, array-whole}
 use denote.Ref.{RefT}
 use denote.Slice.{sliceVal, MutSlice, ShrSlice, Room, finally}

@@ -16,7 +16,7 @@ use denote.RattleType.{RattleType}
 use denote.Laws.{Is, Tells, Makes}
 use denote.Memory.{mem, pointee}
 use denote.Shadow.{shadow}
-use denote.Array.{Array, each, arrayVal, array-vals, array-tells, array-lawful, array-makes}
+use denote.Array.{Array, each, arrayVal, array-tells, array-lawful, array-makes}
 use denote.Slice.{sliceTy}
 use denote.Struct.Field.{array-field}
 use denote.Struct.Laws as LL

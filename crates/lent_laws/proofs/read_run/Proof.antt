@@ -1,6 +1,6 @@
 -- `read_run` meets its contract: a walk of its MIR, by hand. The run goes to a local, which is lent to `read_description` for a lifetime of its own, and taken back as that left it.
 -- Assumes nothing.
-use mathlib.Core.Path.{_≡_, refl, _∙_, ap, subst}
+use mathlib.Core.Path.{_≡_, refl, subst}
 use Prim.Native.Nat.{ℕ}
 use mathlib.Core.List.{List, [], _∷_}
 use lib.Dec.{lit<}
@@ -28,7 +28,7 @@ use denote.Laws.{Is}
 use denote.Builtin.{u8, SliceRef}
 use denote.Ref.{RefT}
 use denote.Signature.{plain}
-use denote.Slice.{sliceVal, ShrSlice, MutSlice, finally, slice-vals, shr-slice-tells, shr-slice-lawful}
+use denote.Slice.{sliceVal, ShrSlice, MutSlice, slice-vals, shr-slice-tells, shr-slice-lawful}
 use denote.Lend.{Held}
 use denote.Steps.{owned, nothing}
 use denote.Struct.Laws as LL
@@ -41,7 +41,7 @@ use denote.Triple.Walked.{Stays, stay-dropped, walkOf, goes-dropped, Walks, walk
 use denote.Exit.{yes}
 use Rattle.description.specs.declared.Law.{Law}
 use Rattle.description.proofs.Law as T
-use Rattle.text.specs.Descriptions.{Outcome, described}
+use Rattle.text.specs.Descriptions.{described}
 use Rattle.text.specs.Answers.{replyOf, replied, recordOf, lawsLeft}
 use Rattle.lent_laws.specs.declared.Read.{Read}
 use Rattle.lent_laws.specs.declared.ReadRun.{ReadRun}
