@@ -13,7 +13,8 @@ use Rattle.causal.specs.Readings as causal
 use Rattle.text.specs.Descriptions.{Outcome, turned, read, described, descriptionOf}
 use Rattle.text.specs.Answers.{Reply, refused, behind, replied, recordOf, lawsLeft}
 use Rattle.text.specs.Histories.{Recorded, rejected, values, leftIn, HistoryReply, turnedDown, complete, historyReplied}
-use Rattle.inputs.specs.Inputs.{noLaws, recordedIn}
+use Rattle.lent_laws.specs.Gathered.{noLaws}
+use Rattle.inputs.specs.Inputs.{recordedIn}
 use Rattle.inputs.proofs.Known.{turned-down}
 use Rattle.report.specs.Output.{lawsRead}
 use Rattle.report.proofs.Composing.{same-laws, same-outcome, same-check, same-reading}

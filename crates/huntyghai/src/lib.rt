@@ -2,9 +2,6 @@
 // code and 256 times its value.
 mod codes;
 
-use description::Head;
-use description::Kind;
-use description::Law;
 use text::Answer;
 use text::HistoryAnswer;
 ghost use mathlib.Core.Path.{_≡_};
@@ -15,19 +12,6 @@ ghost use Rattle.text.specs.Histories.{history, historyReplied, leftIn};
 ghost use Rattle.report.specs.Output.{output};
 ghost use Rattle.huntyghai.specs.Codes.{answerCode, historyCode};
 ghost use Rattle.huntyghai.specs.Texts.{translatedText, tableOfText, checkedText, tableOfCheck, readingOfInput};
-
-// A run of laws to read into.
-fn no_laws() -> [Law; 64] {
-    let law = Law {
-        kind: Kind::Static,
-        head: Head::Lit(0),
-        if_count: 0,
-        if_codes: [0; 6],
-        after_count: 0,
-        after_codes: [0; 6],
-    };
-    [law; 64]
-}
 
 // What the program check prints for an input, as far as the buffer goes; the result is the whole output's length.
 #[no_mangle]
@@ -51,13 +35,13 @@ pub extern "C" fn huntyghai_translate(text: &[u8], table: &mut [u16]) -> u64
     ensures { λ r. ⌜ r ≡ translatedText (now (text .entry)) (length (now (table .entry))) ⌝ }
     ensures { λ _. ⌜ now (table .exit) ≡ tableOfText (now (text .entry)) (now (table .entry)) ⌝ }
 {
-    let read = text::read_description(text, no_laws(), 64);
+    let run = lent_laws::read_run(text, lent_laws::no_laws());
+    let read = run.read;
     let answer = read.answer;
     match answer {
         Answer::Refused(number, place) => codes::number(number, place),
         Answer::Read(_bytes, _lines) => {
             let d = read.description;
-            let run = read.run;
             let laws = run.laws;
             codes::of_translated(translation::translate(d, laws, 64, table))
         }
@@ -79,13 +63,13 @@ pub extern "C" fn huntyghai_check_history(text: &[u8], values: &[u8], table: &mu
     ensures { λ r. ⌜ r ≡ checkedText (now (text .entry)) (now (values .entry)) (length (now (table .entry))) ⌝ }
     ensures { λ _. ⌜ now (table .exit) ≡ tableOfCheck (now (text .entry)) (now (values .entry)) (now (table .entry)) ⌝ }
 {
-    let read = text::read_description(text, no_laws(), 64);
+    let run = lent_laws::read_run(text, lent_laws::no_laws());
+    let read = run.read;
     let answer = read.answer;
     match answer {
         Answer::Refused(number, place) => codes::number(number, place),
         Answer::Read(_bytes, _lines) => {
             let d = read.description;
-            let run = read.run;
             let laws = run.laws;
             codes::of_checked(history::check_history(d, laws, 64, values, table))
         }

@@ -4,19 +4,8 @@ use mathlib.Core.Bool.{Bool, cond, _||_}
 use mathlib.Core.List.{List}
 use Prim.Native.Nat.{ℕ, _+_}
 use lib.Dec.{eqb}
-use lib.ListN.{replicate}
-use Rattle.description.specs.declared.Head.the-variants.{Lit}
-use Rattle.description.specs.declared.Kind.the-variants.{Static}
-use Rattle.description.specs.declared.Law.{Law}
 use Rattle.text.specs.Descriptions.{Outcome, turned, read, described}
 use Rattle.text.specs.Histories.{Recorded, rejected, values, atoms, history}
-
--- the run of laws that nothing was read into
-abbrev pub blankLaw : Law
-blankLaw = record { kind = Static; head = Lit 0; «if_count» = 0; «if_codes» = replicate 6 0; «after_count» = 0; «after_codes» = replicate 6 0 }
-
-unfoldable pub noLaws : List Law
-noLaws = replicate 64 blankLaw
 
 -- lines count over the whole input: a line of the history is moved up by the description's lines; place 0 and lengths are not
 abbrev pub movedUp : ℕ → ℕ → ℕ → ℕ

@@ -1,7 +1,5 @@
 // The reader of a whole input: a description, and behind its end line the history of it. Lines count over the whole input.
 use description::Description;
-use description::Head;
-use description::Kind;
 use description::Law;
 use text::Answer;
 use text::HistoryAnswer;
@@ -12,22 +10,8 @@ ghost use Rattle.description.specs.Atoms.{atomCount};
 ghost use Rattle.text.specs.Descriptions.{described};
 ghost use Rattle.text.specs.Answers.{recordOf, lawsLeft};
 ghost use Rattle.text.specs.Histories.{historyReplyOf, historyReplied, leftIn};
-ghost use Rattle.inputs.specs.Inputs.{noLaws, movedUp, recordedIn};
-
-// A run of laws to read into.
-fn no_laws() -> [Law; 64]
-    ensures { λ r. ⌜ r ≡ noLaws ⌝ }
-{
-    let law = Law {
-        kind: Kind::Static,
-        head: Head::Lit(0),
-        if_count: 0,
-        if_codes: [0; 6],
-        after_count: 0,
-        after_codes: [0; 6],
-    };
-    [law; 64]
-}
+ghost use Rattle.lent_laws.specs.Gathered.{noLaws};
+ghost use Rattle.inputs.specs.Inputs.{movedUp, recordedIn};
 
 // Room for the values of the most atoms.
 fn no_values() -> [u8; 1024]
@@ -78,11 +62,11 @@ pub fn read_input(input: &[u8]) -> Input
     ensures { λ r. ⌜ drop (r .atoms) (r .values) ≡ replicate (1024 - r .atoms) 0 ⌝ }
     ensures { λ r. ⌜ (r .atoms ≤ 1024) × (length (r .values) ≡ 1024) ⌝ }
 {
-    let read = text::read_description(input, no_laws(), 64);
+    let run = lent_laws::read_run(input, lent_laws::no_laws());
+    let read = run.read;
+    let laws = run.laws;
     let answer = read.answer;
     let description = read.description;
-    let run = read.run;
-    let laws = run.laws;
     let mut values = no_values();
     match answer {
         Answer::Refused(number, place) => Input {

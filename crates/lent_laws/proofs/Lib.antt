@@ -5,3 +5,5 @@ pub mod Answers
 pub mod Records
 pub mod Gathering
 pub mod Lending
+pub mod Locals
+pub mod Relending

@@ -32,7 +32,8 @@ fn no_law() -> Law
     }
 }
 
-fn no_laws() -> [Law; 64]
+// Room for the laws of any description.
+pub fn no_laws() -> [Law; 64]
     ensures { λ r. ⌜ r ≡ noLaws ⌝ }
 {
     let law = no_law();
@@ -180,4 +181,49 @@ pub fn causal_reading(d: Description, laws: &[Law], values: &[u8]) -> Reading
     ensures { λ r. ⌜ PathExactly d (now (laws .entry)) (now (values .entry)) r ⌝ }
 {
     causal::causal_reading(d, gather(laws), laws.len(), values)
+}
+
+// What the description reader answers, and the run that it was lent.
+pub struct ReadRun {
+    pub read: Read,
+    pub laws: [Law; 64],
+}
+
+// Lends a run by value to the description reader, and hands it out as the reader left it.
+pub fn read_run(text: &[u8], laws: [Law; 64]) -> ReadRun
+    ensures { λ r. ⌜ replyOf (r .read .answer) ≡ replied (now (text .entry)) (described 64 (now (text .entry))) ⌝ }
+    ensures { λ r. ⌜ r .read .description ≡ recordOf (described 64 (now (text .entry))) ⌝ }
+    ensures { λ r. ⌜ r .laws ≡ lawsLeft (described 64 (now (text .entry))) laws ⌝ }
+{
+    let mut laws = laws;
+    let read = read_description(text, &mut laws);
+    ReadRun { read, laws }
+}
+
+// What the three functions over a run say of one history.
+pub struct Judged {
+    pub translated: Translated,
+    pub checked: Checked,
+    pub reading: Reading,
+}
+
+// Lends a run by value to the three functions in turn: to be translated, checked against a history, and read with it. The table is
+// left as the translation leaves it, whatever the other two then say.
+pub fn judge(d: Description, laws: [Law; 64], values: &[u8], table: &mut [u16]) -> Judged
+    ensures { λ r. ⌜ outcomeOf (r .translated) ≡ outcome d laws 64 (length (now (table .entry))) ⌝ }
+    ensures { λ r. ⌜ Checks.replyOf (r .checked) ≡ Checks.checked d laws 64 (now (values .entry)) (length (now (table .entry))) ⌝ }
+    ensures { λ r. ⌜ Readings.replyOf (r .reading) ≡ Readings.reading d laws 64 (now (values .entry)) ⌝ }
+    ensures { λ _. ⌜ now (table .exit) ≡ tableAfter d laws 64 (now (table .entry)) ⌝ }
+    ensures { λ r. ⌜ PassesExactly d laws (now (values .entry)) (length (now (table .entry))) (r .checked) ⌝ }
+    ensures { λ r. ⌜ PathExactly d laws (now (values .entry)) (r .reading) ⌝ }
+{
+    let run: &[Law] = &laws;
+    let translated = translate(d, run, table);
+    let checked = check_history(d, run, values, table);
+    let reading = causal_reading(d, run, values);
+    Judged {
+        translated,
+        checked,
+        reading,
+    }
 }

@@ -37,8 +37,9 @@ fn put_outcome(
         Translated::Refused(number, place) => answers::put_refusal(out, 0, number, place),
         Translated::Written(atoms, rules, words) => {
             let mut table = no_table();
-            let checked = history::check_history(d, laws, 64, values, &mut table);
-            let reading = causal::causal_reading(d, laws, 64, values);
+            let judged = lent_laws::judge(d, laws, values, &mut table);
+            let checked = judged.checked;
+            let reading = judged.reading;
             let counts = Counts {
                 horizon: d.horizon,
                 atoms,

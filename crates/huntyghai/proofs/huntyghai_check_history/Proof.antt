@@ -12,8 +12,8 @@ use Rattle.huntyghai.proofs.huntyghai_check_history.Tie as tie
 no-laws-requires : tie.Need-no-laws-requires
 no-laws-requires c κs = search needs
 
-read-description-requires : tie.Need-read-description-requires
-read-description-requires c κs = search needs
+read-run-requires : tie.Need-read-run-requires
+read-run-requires c κs = search needs
 
 enum-known-answer : tie.Need-enum-known-answer
 enum-known-answer c = search needs
@@ -33,10 +33,10 @@ of-checked-requires c κs = search needs
 returns : tie.Need-returns
 returns c =
     let told = c .before .before in
-    let rd = told .before .before in
+    let rd = told .before .before .before in
     let a = rd .before .before .before .before .before .args in
     let text = a .text .now in
-    let e = sym (rd .read-description .ensures .0) ∙ ap replyOf (told .answer .given .1) in
+    let e = sym (rd .read-run .ensures .0) ∙ ap replyOf (told .answer .given .1) in
     (c .number .ensures ∙ check-turned text e (a .values .now) (length (a .table .now)), check-table-turned text e (a .values .now) (a .table .now))
 
 same-length : tie.Need-same-length
@@ -45,14 +45,14 @@ same-length c = search needs
 returns-2 : tie.Need-returns-2
 returns-2 c =
     let t = c .before .before .before in
-    let told = t .before .before .before .before .before .before in
-    let rd = told .before .before in
+    let told = t .before .before .before .before .before in
+    let rd = told .before .before .before in
     let a = rd .before .before .before .before .before .args in
     let text = a .text .now in
     let old = rd .before .no-laws .result in
-    let e = sym (rd .read-description .ensures .0) ∙ ap replyOf (told .answer2 .given .1) in
-    let dis = rd .read-description .ensures .1 .0 in
-    let lis = rd .read-description .ensures .1 .1 .0 in (
+    let e = sym (rd .read-run .ensures .0) ∙ ap replyOf (told .answer2 .given .1) in
+    let dis = rd .read-run .ensures .1 .0 in
+    let lis = rd .read-run .ensures .1 .1 in (
       c .of-checked .ensures ∙ ap checkedCode (t .check-history .ensures .0) ∙ check-read text old e dis lis (a .values .now) (length (a .table .now)),
       t .check-history .ensures .1 ∙ check-table-read text old e dis lis (a .values .now) (a .table .now),
     )
@@ -62,7 +62,7 @@ huntyghai-check-history-spec =
     tie.close
     (tie.spec
     no-laws-requires
-    read-description-requires
+    read-run-requires
     enum-known-answer
     number-requires
     enum-known-answer-2

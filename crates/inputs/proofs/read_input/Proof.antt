@@ -18,8 +18,8 @@ use Rattle.inputs.proofs.read_input.Tie as tie
 no-laws-requires : tie.Need-no-laws-requires
 no-laws-requires c κs = search needs
 
-read-description-requires : tie.Need-read-description-requires
-read-description-requires c κs = search needs
+read-run-requires : tie.Need-read-run-requires
+read-run-requires c κs = search needs
 
 no-values-requires : tie.Need-no-values-requires
 no-values-requires c κs = search needs
@@ -36,8 +36,8 @@ atom-count-requires c κs =
     let rd = n .before .before .before .before .before .before in
     let a = rd .before .before .before .args in
     let input = a .input .now in
-    let k = known input (sym (rd .read-description .ensures .0) ∙ ap replyOf (n .answer2 .given .1)) in
-    rw (rd .read-description .ensures .1 .0, k .is) (limits input k)
+    let k = known input (sym (rd .read-run .ensures .0) ∙ ap replyOf (n .answer2 .given .1)) in
+    rw (rd .read-run .ensures .1 .0, k .is) (limits input k)
 
 sub-read-history : tie.Need-sub-read-history
 sub-read-history c =
@@ -45,7 +45,7 @@ sub-read-history c =
     let rd = n .before .before .before .before .before .before in
     let a = rd .before .before .before .args in
     let input = a .input .now in
-    let k = known input (sym (rd .read-description .ensures .0) ∙ ap replyOf (n .answer2 .given .1)) in
+    let k = known input (sym (rd .read-run .ensures .0) ∙ ap replyOf (n .answer2 .given .1)) in
     k .start
 
 part-read-history-start : tie.Need-part-read-history-start
@@ -54,7 +54,7 @@ part-read-history-start c =
     let rd = n .before .before .before .before .before .before in
     let a = rd .before .before .before .args in
     let input = a .input .now in
-    let k = known input (sym (rd .read-description .ensures .0) ∙ ap replyOf (n .answer2 .given .1)) in
+    let k = known input (sym (rd .read-run .ensures .0) ∙ ap replyOf (n .answer2 .given .1)) in
     k .start
 
 part-read-history-end : tie.Need-part-read-history-end
@@ -85,11 +85,11 @@ moved-up-requires c κs =
     let rd = n .before .before .before .before .before .before in
     let a = rd .before .before .before .args in
     let input = a .input .now in
-    let k = known input (sym (rd .read-description .ensures .0) ∙ ap replyOf (n .answer2 .given .1)) in
+    let k = known input (sym (rd .read-run .ensures .0) ∙ ap replyOf (n .answer2 .given .1)) in
     let v = n .before .before in
     let m = count .atom-count .result in
     let zs = v .no-values .result in
-    let dis = rd .read-description .ensures .1 .0 ∙ ap recordOf (k .is) in
+    let dis = rd .read-run .ensures .1 .0 ∙ ap recordOf (k .is) in
     let few = count .atom-count .ensures .1 in
     let size : length (take m zs) ≡ m = omega (arith, length-take m zs, few, ap length (v .no-values .ensures)) in
     let enough = size ∙ count .atom-count .ensures .0 ∙ ap (λ (x : Description). atomCount (x .fluents) (x .actions) (x .horizon)) dis in
@@ -104,12 +104,12 @@ returns c =
     let v = n .before .before in
     let rd = v .before .before .before .before in
     let input = rd .before .before .before .args .input .now in
-    let is = turned-down input (sym (rd .read-description .ensures .0) ∙ ap replyOf (n .answer .given .1)) in (
+    let is = turned-down input (sym (rd .read-run .ensures .0) ∙ ap replyOf (n .answer .given .1)) in (
       sym (ap historyReplied (recorded-turned input is)),
       (
-        rd .read-description .ensures .1 .0,
+        rd .read-run .ensures .1 .0,
         (
-          rd .read-description .ensures .1 .1 .0 ∙ ap (lawsLeft (described 64 input)) (rd .before .no-laws .ensures),
+          rd .read-run .ensures .1 .1 ∙ ap (lawsLeft (described 64 input)) (rd .before .no-laws .ensures),
           (
             rw is refl,
             (
@@ -133,11 +133,11 @@ returns-2 c =
     let rd = n .before .before .before .before .before .before in
     let a = rd .before .before .before .args in
     let input = a .input .now in
-    let k = known input (sym (rd .read-description .ensures .0) ∙ ap replyOf (n .answer2 .given .1)) in
+    let k = known input (sym (rd .read-run .ensures .0) ∙ ap replyOf (n .answer2 .given .1)) in
     let v = n .before .before in
     let m = count .atom-count .result in
     let zs = v .no-values .result in
-    let dis = rd .read-description .ensures .1 .0 ∙ ap recordOf (k .is) in
+    let dis = rd .read-run .ensures .1 .0 ∙ ap recordOf (k .is) in
     let few = count .atom-count .ensures .1 in
     let size : length (take m zs) ≡ m = omega (arith, length-take m zs, few, ap length (v .no-values .ensures)) in
     let enough = size ∙ count .atom-count .ensures .0 ∙ ap (λ (x : Description). atomCount (x .fluents) (x .actions) (x .horizon)) dis in
@@ -148,11 +148,11 @@ returns-2 c =
     let is = says-rejected input k (k .part) enough (sym (ap historyReplyOf (said .said .given .1)) ∙ rh .read-history .ensures .0) in (
       rw (c .moved-up .ensures) is,
       (
-        rd .read-description .ensures .1 .0,
+        rd .read-run .ensures .1 .0,
         (
-          rd .read-description .ensures .1 .1 .0 ∙ ap (lawsLeft (described 64 input)) (rd .before .no-laws .ensures),
+          rd .read-run .ensures .1 .1 ∙ ap (lawsLeft (described 64 input)) (rd .before .no-laws .ensures),
           (
-            count .atom-count .ensures .0 ∙ ap (λ (x : Description). atomCount (x .fluents) (x .actions) (x .horizon)) (rd .read-description .ensures .1 .0),
+            count .atom-count .ensures .0 ∙ ap (λ (x : Description). atomCount (x .fluents) (x .actions) (x .horizon)) (rd .read-run .ensures .1 .0),
             (vs .0, (vs .1, (few, filled))),
           ),
         ),
@@ -167,11 +167,11 @@ returns-3 c =
     let rd = n .before .before .before .before .before .before in
     let a = rd .before .before .before .args in
     let input = a .input .now in
-    let k = known input (sym (rd .read-description .ensures .0) ∙ ap replyOf (n .answer2 .given .1)) in
+    let k = known input (sym (rd .read-run .ensures .0) ∙ ap replyOf (n .answer2 .given .1)) in
     let v = n .before .before in
     let m = count .atom-count .result in
     let zs = v .no-values .result in
-    let dis = rd .read-description .ensures .1 .0 ∙ ap recordOf (k .is) in
+    let dis = rd .read-run .ensures .1 .0 ∙ ap recordOf (k .is) in
     let few = count .atom-count .ensures .1 in
     let size : length (take m zs) ≡ m = omega (arith, length-take m zs, few, ap length (v .no-values .ensures)) in
     let enough = size ∙ count .atom-count .ensures .0 ∙ ap (λ (x : Description). atomCount (x .fluents) (x .actions) (x .horizon)) dis in
@@ -181,11 +181,11 @@ returns-3 c =
     let vs = values-read input k (k .part) enough m zs last few (v .no-values .ensures) whole (rh .read-history .ensures .1) in (
       says-complete input k (k .part) enough (sym (ap historyReplyOf (c .enum-told .given .1)) ∙ rh .read-history .ensures .0),
       (
-        rd .read-description .ensures .1 .0,
+        rd .read-run .ensures .1 .0,
         (
-          rd .read-description .ensures .1 .1 .0 ∙ ap (lawsLeft (described 64 input)) (rd .before .no-laws .ensures),
+          rd .read-run .ensures .1 .1 ∙ ap (lawsLeft (described 64 input)) (rd .before .no-laws .ensures),
           (
-            count .atom-count .ensures .0 ∙ ap (λ (x : Description). atomCount (x .fluents) (x .actions) (x .horizon)) (rd .read-description .ensures .1 .0),
+            count .atom-count .ensures .0 ∙ ap (λ (x : Description). atomCount (x .fluents) (x .actions) (x .horizon)) (rd .read-run .ensures .1 .0),
             (vs .0, (vs .1, (few, filled))),
           ),
         ),
@@ -197,7 +197,7 @@ read-input-spec =
     tie.close
     (tie.spec
     no-laws-requires
-    read-description-requires
+    read-run-requires
     no-values-requires
     enum-known-answer
     enum-known-answer-2

@@ -22,14 +22,11 @@ enum-known-measured-2 c = search needs
 no-table-requires : tie.Need-no-table-requires
 no-table-requires c κs = search needs
 
-slice-aggregate-check-history : tie.Need-slice-aggregate-check-history
-slice-aggregate-check-history c = search needs
+slice-aggregate-judge : tie.Need-slice-aggregate-judge
+slice-aggregate-judge c = search needs
 
-check-history-requires : tie.Need-check-history-requires
-check-history-requires c κs = search needs
-
-causal-reading-requires : tie.Need-causal-reading-requires
-causal-reading-requires c κs = search needs
+judge-requires : tie.Need-judge-requires
+judge-requires c κs = search needs
 
 put-checked-requires : tie.Need-put-checked-requires
 put-checked-requires c κs = search needs
@@ -49,15 +46,14 @@ same-length-2 c = search needs
 returns-2 : tie.Need-returns-2
 returns-2 c =
     let w = c .before .before in
-    let r = w .before .before in
-    let h = r .before .before in
-    let t = h .before .before in
+    let j = w .before .before .before in
+    let t = j .before .before in
     let m = t .before .before in
     let a = m .before .before .before .before .before .before .args in
     let e = sym (m .before .before .measure .ensures) ∙ ap outcomeOf (m .measured2 .given .1) in
-    let checks : replyOf (h .check-history .result) ≡ checked (a .d) (a .laws) 64 (a .values .now) 30912 =
-    h .check-history .ensures .0 ∙ ap (λ n. checked (a .d) (a .laws) 64 (a .values .now) n) (sym (t .no-table .ensures)) in
-    rw (e, ← checks, ← r .causal-reading .ensures) (w .put-checked .ensures)
+    let checks : replyOf (j .judge .result .checked) ≡ checked (a .d) (a .laws) 64 (a .values .now) 30912 =
+    j .judge .ensures .1 .0 ∙ ap (checked (a .d) (a .laws) 64 (a .values .now)) (sym (t .no-table .ensures)) in
+    rw (e, ← checks, ← j .judge .ensures .1 .1 .0) (w .put-checked .ensures)
 
 pub put-outcome-spec : {M : Type 1} → statement M
 put-outcome-spec =
@@ -68,9 +64,8 @@ put-outcome-spec =
     put-refusal-requires
     enum-known-measured-2
     no-table-requires
-    slice-aggregate-check-history
-    check-history-requires
-    causal-reading-requires
+    slice-aggregate-judge
+    judge-requires
     put-checked-requires
     same-length
     returns
