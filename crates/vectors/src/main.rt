@@ -1,21 +1,6 @@
 // Runs stored inputs through the report: for each argument, the name of a file, it writes the name and what the report says
 // of the file's bytes; then the same for the file every_byte with each byte value in one place of a declared name.
 use libc::STDOUT_FILENO;
-ghost use Rattle.io.specs.Counts.{Counts};
-
-// One file, as far as the buffer goes.
-fn read_file(path: &[u8], buf: &mut [u8]) -> usize
-    ensures { λ r. ⌜ Counts r (now (buf .exit)) ⌝ }
-{
-    let fd = os::open_read(path);
-    if fd < 0 {
-        os::fail(path);
-        return 0;
-    }
-    let got = io::read_full(fd, buf);
-    libc::close(fd);
-    got
-}
 
 // What the report says of an input.
 fn write_report(input: &[u8]) {
@@ -28,7 +13,7 @@ fn write_report(input: &[u8]) {
 // One stored input. The buffer has one byte more than a text may have.
 fn run_file(path: &[u8]) {
     let mut input = io::large_buffer();
-    let got = read_file(path, &mut input);
+    let got = files::read_file(path, &mut input);
     io::write_all(STDOUT_FILENO, path);
     io::write_all(STDOUT_FILENO, b"\n");
     write_report(&input[..got]);
@@ -53,7 +38,7 @@ fn run_arguments() {
 // An input with one byte replaced: place 18 is the second byte of the first name that every_byte declares.
 fn run_byte(value: u8) {
     let mut input = io::buffer();
-    let got = read_file(b"every_byte", &mut input);
+    let got = files::read_file(b"every_byte", &mut input);
     input[18] = value;
     io::write_all(STDOUT_FILENO, b"byte ");
     io::print_decimal(STDOUT_FILENO, value as u64);
