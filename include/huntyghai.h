@@ -34,7 +34,7 @@ extern "C" {
 #endif
 
 /* What the program check prints for an input, written to out as far as out goes. The result is the length of the whole
- * output. */
+ * output, which is never over 400 bytes. */
 size_t huntyghai_report(const uint8_t *input, size_t input_length, uint8_t *out, size_t out_length);
 
 /* The engine: is the set of literals that the values hold an answer set of the table's rules? One value an atom: 0 none,

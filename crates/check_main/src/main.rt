@@ -2,8 +2,8 @@
 use libc::STDIN_FILENO;
 use libc::STDOUT_FILENO;
 
-// The input buffer has one byte more than a text may have, so that a longer text is refused. The output is far shorter than
-// its buffer.
+// The input buffer has one byte more than a text may have, so that a longer text is refused. The output buffer
+// holds every output whole.
 fn main() {
     let mut input = io::large_buffer();
     let got = io::read_full(STDIN_FILENO, &mut input);

@@ -5,6 +5,7 @@ mod codes;
 use text::Answer;
 use text::HistoryAnswer;
 ghost use mathlib.Core.Path.{_≡_};
+ghost use Prim.Native.Nat.{_≤_};
 ghost use lib.ListN.{length};
 ghost use lib.Seq.{sets};
 ghost use Rattle.answer_sets.specs.Answers.{answer};
@@ -13,10 +14,11 @@ ghost use Rattle.report.specs.Output.{output};
 ghost use Rattle.huntyghai.specs.Codes.{answerCode, historyCode};
 ghost use Rattle.huntyghai.specs.Texts.{translatedText, tableOfText, checkedText, tableOfCheck, readingOfInput};
 
-// What the program check prints for an input, as far as the buffer goes; the result is the whole output's length.
+// What the program check prints for an input, as far as the buffer goes; the result is the whole output's length, at most 400.
 #[no_mangle]
 pub extern "C" fn huntyghai_report(input: &[u8], out: &mut [u8]) -> usize
     ensures { λ r. ⌜ (r ≡ length (output (now (input .entry)))) × (now (out .exit) ≡ sets (now (out .entry)) 0 (output (now (input .entry)))) ⌝ }
+    ensures { λ r. ⌜ r ≤ 400 ⌝ }
 {
     report::report(input, out)
 }

@@ -9,17 +9,23 @@ use native.Mathlib.Omega.{arith}
 use borrow.Author.Tests.{ltb-true, ltb-false, leb-true}
 use lib.Dec.{eqb, ltb, leb}
 use lib.ListN.{length, take, length-append, take-append-drop}
-use Rattle.search.specs.Search.{first}
-use Rattle.search.proofs.Tests.{and-iff}
+use Rattle.search.specs.Search.{Each, first}
+use Rattle.search.proofs.Tests.{and-iff, each-append}
 use Rattle.description.specs.declared.Head.{Head}
 use Rattle.description.specs.declared.Kind.{Kind}
 use Rattle.description.specs.declared.Kind.the-variants.{Static, Dynamic}
 use Rattle.text.specs.Bytes.{newline, equalsSign, isDigit, Cut, cutAt, cut}
 use Rattle.text.specs.Lines.{horizonKey, fluentKey, actionKey, staticKey, dynamicKey, ifKey, afterKey, Line, keyed, valued, ended, keyNumber, firstLine}
+use Rattle.text.specs.Names.{isName, declaredAt}
+use Rattle.text.proofs.WrittenNames.{named}
 use Rattle.text.specs.Lists.{Listed, refused, codes, listOf}
-use Rattle.text.specs.Descriptions.{Due, horizonDue, Draft, allowed, Step, refuse, next, finish, inHorizon, horizonOf, horizonLine, isNew}
+use Rattle.text.specs.Descriptions.{Due, horizonDue, Draft, allowed, Step, refuse, next, finish, inHorizon, horizonOf, horizonLine, absent, isNew}
 use Rattle.text.specs.Descriptions.{fluentLine, actionLine, headOf, begun, lawLine, withIf, ifLine, afterLine, endLine, byKey, lineStep}
 use Rattle.text.specs.Descriptions.{Outcome, turned, read, afterStep, afterFirst, blank, linesFrom, described}
+
+-- a name of at most 16 bytes
+abbrev pub Short : List ℕ → Type 0
+Short bs = length bs ≤ 16
 
 -- the limits of a draft
 pub record Limited (d : Draft) : Type 0 where
@@ -27,6 +33,7 @@ pub record Limited (d : Draft) : Type 0 where
   pub few : d .fluents ≤ 24
   pub named : d .fluents ≤ length (d .names)
   pub actions : length (d .names) ≤ d .fluents + 8
+  pub short : Each Short (d .names)
 
 abbrev pub LimitedStep : Step → Type 0
 LimitedStep (refuse k) = Unit
@@ -56,20 +63,25 @@ module _ (d : Draft) (g : Limited d) where
   horizon-kept : (o : Option ℕ) → AtMost30 o → LimitedStep (horizonLine d o)
   horizon-kept none h = tt
   horizon-kept (some T) h =
-      record { time = h; few = g .few; named = g .named; actions = g .actions }
+      record { time = h; few = g .few; named = g .named; actions = g .actions; short = g .short }
 
   one-more : (value : List ℕ) → length (d .names ++ (value ∷ [])) ≡ length (d .names) + 1
   one-more value = length-append (d .names) (value ∷ [])
+
+  one-short : (value : List ℕ) → isNew (d .names) value ≡ true → Each Short (d .names ++ (value ∷ []))
+  one-short value new =
+      each-append Short (d .names) (value ∷ []) .1 (g .short, (named value (and-iff (isName value) (absent (declaredAt (d .names) value)) .0 new .0) .short, tt))
 
   fluent-kept : (value : List ℕ) → LimitedStep (fluentLine d value)
   fluent-kept value =
       chosen LimitedStep (ltb (d .fluents) 24)
       (λ room. chosen LimitedStep (isNew (d .names) value)
-      (λ _. record {
+      (λ new. record {
         time = g .time;
         few = ltb-true (d .fluents) 24 room;
         named = omega (arith, one-more value, g .named);
         actions = omega (arith, one-more value, g .actions);
+        short = one-short value new;
       })
       (λ _. tt))
       (λ _. tt)
@@ -78,26 +90,27 @@ module _ (d : Draft) (g : Limited d) where
   action-kept value =
       chosen LimitedStep (ltb (length (d .names)) (d .fluents + 8))
       (λ room. chosen LimitedStep (isNew (d .names) value)
-      (λ _. record {
+      (λ new. record {
         time = g .time;
         few = g .few;
         named = omega (arith, one-more value, g .named);
         actions = omega (arith, one-more value, ltb-true (length (d .names)) (d .fluents + 8) room);
+        short = one-short value new;
       })
       (λ _. tt))
       (λ _. tt)
 
   begun-kept : (kind : Kind) (o : Option Head) → LimitedStep (begun d kind o)
   begun-kept kind none = tt
-  begun-kept kind (some h) = record { time = g .time; few = g .few; named = g .named; actions = g .actions }
+  begun-kept kind (some h) = record { time = g .time; few = g .few; named = g .named; actions = g .actions; short = g .short }
 
   law-kept : (lent : ℕ) (kind : Kind) (value : List ℕ) → LimitedStep (lawLine lent d kind value)
   law-kept lent kind value =
       chosen LimitedStep (ltb (length (d .laws)) (min 64 lent)) (λ _. begun-kept kind (headOf (d .names) (d .fluents) value)) (λ _. tt)
 
   with-if-kept : (kind : Kind) (cs : List ℕ) → LimitedStep (withIf d kind cs)
-  with-if-kept Static cs = record { time = g .time; few = g .few; named = g .named; actions = g .actions }
-  with-if-kept Dynamic cs = record { time = g .time; few = g .few; named = g .named; actions = g .actions }
+  with-if-kept Static cs = record { time = g .time; few = g .few; named = g .named; actions = g .actions; short = g .short }
+  with-if-kept Dynamic cs = record { time = g .time; few = g .few; named = g .named; actions = g .actions; short = g .short }
 
   if-kept : (l : Listed) → LimitedStep (ifLine d l)
   if-kept (refused k) = tt
@@ -105,7 +118,7 @@ module _ (d : Draft) (g : Limited d) where
 
   after-kept : (l : Listed) → LimitedStep (afterLine d l)
   after-kept (refused k) = tt
-  after-kept (codes cs) = record { time = g .time; few = g .few; named = g .named; actions = g .actions }
+  after-kept (codes cs) = record { time = g .time; few = g .few; named = g .named; actions = g .actions; short = g .short }
 
   end-kept : (value : List ℕ) → LimitedStep (endLine d value)
   end-kept [] = g
@@ -200,7 +213,7 @@ lines-taken (suc fuel) lent line due d text g = by-line (λ due′ d′ rest s. 
     by-line go (some l) e = by-step go (lineStep lent due d (l .key) (l .value)) (l .rest) e (step-kept d g lent due (l .key) (l .value))
 
 blank-limited : Limited blank
-blank-limited = record { time = omega arith; few = omega arith; named = omega arith; actions = omega arith }
+blank-limited = record { time = omega arith; few = omega arith; named = omega arith; actions = omega arith; short = tt }
 
 pub taken : (text : List ℕ) → TakenIn text 65537 (described 64 text)
 unfolding described
