@@ -8,34 +8,13 @@ import pathlib
 import subprocess
 import sys
 
-CRATE = pathlib.Path(__file__).resolve().parents[2] / "crates" / "vectors"
+TOP = pathlib.Path(__file__).resolve().parents[2]
+CRATE = TOP / "crates" / "vectors"
 
-FULL = """horizon=1
-fluent=locked
-fluent=flowed
-action=reflow
-dynamic=flowed
-if=
-after=reflow
-dynamic=false
-if=
-after=reflow,locked
-dynamic=locked
-if=locked
-after=locked
-dynamic=-locked
-if=-locked
-after=-locked
-dynamic=flowed
-if=flowed
-after=flowed
-dynamic=-flowed
-if=-flowed
-after=-flowed
-end=
-"""
-PASSING = "state=-locked,-flowed\nact=reflow\nstate=-locked,flowed\nend=\n"
-RECIPE = FULL + PASSING
+RECIPE = (TOP / "tests" / "recipes" / "full.txt").read_text()
+# The description, and the history that passes.
+FULL = RECIPE[: RECIPE.index("state=")]
+PASSING = RECIPE[len(FULL) :]
 
 
 def history(*lines):
