@@ -23,7 +23,7 @@ dynamic h is as′ =
 abbrev pub choice : ℕ → List ℕ
 choice c = ((c + 1) ∷ 1 ∷ 0 ∷ c ∷ []) ++ (c ∷ 1 ∷ 0 ∷ (c + 1) ∷ [])
 
--- fluents 0 and 1 keep their values, and the rules of that from time 0 to time 1 where there are 3 atoms for each time
+-- fluents 0 and 1 keep their values
 abbrev pub inertia : List Law
 inertia =
     dynamic (Lit 0) (0 ∷ []) (0 ∷ [])
@@ -32,6 +32,7 @@ inertia =
     ∷ dynamic (Lit 3) (3 ∷ []) (3 ∷ [])
     ∷ []
 
+-- the rules of that for the step from time 0, where there are 3 atoms for each time
 abbrev pub inertiaStep : List ℕ
 inertiaStep = (6 ∷ 1 ∷ 1 ∷ 7 ∷ 0 ∷ []) ++ (7 ∷ 1 ∷ 1 ∷ 6 ∷ 1 ∷ []) ++ (8 ∷ 1 ∷ 1 ∷ 9 ∷ 2 ∷ []) ++ (9 ∷ 1 ∷ 1 ∷ 8 ∷ 3 ∷ [])
 
