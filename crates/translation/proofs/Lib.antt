@@ -4,5 +4,6 @@ pub mod RuleByRule
 pub mod Bounds
 pub mod Sums
 pub mod Writing
+pub mod Turns
 pub mod Outcomes
 pub mod Examples

@@ -1,4 +1,4 @@
--- What the counting loops share: sums over the laws not yet passed, and what one law adds.
+-- What the counting loop keeps: sums over the laws not yet passed, and what one law adds.
 -- Assumes nothing.
 use mathlib.Core.Path.{_≡_, refl}
 use mathlib.Core.Bool.{cond}
@@ -16,11 +16,15 @@ use Rattle.description.specs.Laws.{isStatic, ifList, afterList}
 use Rattle.search.proofs.Loops.{rest-cons}
 use Rattle.translation.proofs.Counts.{sumLaws, staticOf, dynamicOf, statics, dynamics, lawWordsOf}
 
+-- what is counted and what the laws not yet passed count make up what the count began with and what all of them count
+abbrev pub Counted : (Kind → Law → ℕ) → List Law → ℕ → ℕ → ℕ → Type 0
+Counted g ls i total total₀ = total + sumLaws g (drop i ls) ≡ total₀ + sumLaws g ls
+
 -- a turn adds what the next law counts, and takes it off what is left
-pub sum-turn : (g : Kind → Law → ℕ) (laws : List Law) (d : Law) (count i total : ℕ) {x sum : ℕ} → i < count → count ≤ length laws
-    → x ≡ g (getD laws i d .kind) (getD laws i d) → total + sumLaws g (drop i (take count laws)) ≡ sum
-    → total + x + sumLaws g (drop (i + 1) (take count laws)) ≡ sum
-sum-turn g laws d count i total h k e left = omega (arith, e, rw (rest-cons laws count i d h k) at left)
+pub sum-turn : (g : Kind → Law → ℕ) (laws : List Law) (d : Law) (count i total total₀ : ℕ) {x : ℕ} → i < count → count ≤ length laws
+    → x ≡ g (getD laws i d .kind) (getD laws i d) → Counted g (take count laws) i total total₀
+    → Counted g (take count laws) (i + 1) (total + x) total₀
+sum-turn g laws d count i total total₀ h k e left = omega (arith, e, rw (rest-cons laws count i d h k) at left)
 
 -- what a read past the end of a run of laws would give
 abbrev pub past : Law

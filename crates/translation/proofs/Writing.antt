@@ -2,7 +2,7 @@
 -- Assumes nothing.
 use mathlib.Core.Path.{_≡_, refl, sym, ap, _∙_}
 use mathlib.Core.List.{List, [], _∷_, _++_, map, append-assoc, append-nil}
-use Prim.Native.Nat.{ℕ, suc, _+_, _*_, _-_, _≤_, _<_}
+use Prim.Native.Nat.{ℕ, suc, _+_, _*_, _≤_, _<_}
 use native.Mathlib.Nat.{mul-le-mul, add-zero, zero-add, add-suc, suc-add}
 use native.Mathlib.Omega.{arith}
 use native.Mathlib.Numerals.{add-one, add-three}
@@ -82,13 +82,6 @@ module _ {table : List ℕ} {place : ℕ} {ws table₀ : List ℕ} {at₀ : ℕ}
 -- all of them are left
 pub begun : (table : List ℕ) (at : ℕ) (ws ws₀ : List ℕ) → ws ≡ ws₀ → Left table at ws table at ws₀
 begun table at ws ws₀ e = rw e (record { as-long = refl; ends = refl; stores = refl })
-
--- numbers from t up to, not including, k
-pub range-cons : (t k : ℕ) → t < k → range t (k - t) ≡ t ∷ range (t + 1) (k - (t + 1))
-range-cons t k h = let e : k - t ≡ suc (k - (t + 1)) = omega arith in rw (e, add-one t)
-
-pub range-done : (t k : ℕ) → k ≤ t → range t (k - t) ≡ []
-range-done t k h = let e : k - t ≡ 0 = omega arith in rw e
 
 pub choices-append : (Bs Cs : List ℕ) → choices (Bs ++ Cs) ≡ choices Bs ++ choices Cs
 choices-append [] Cs = refl

@@ -26,13 +26,12 @@ pub fn measure(d: Description, laws: [Law; 64], lent: usize, room: usize) -> Tra
     if let Found::At(place) = description::bad_horizon(d.horizon) {
         return Translated::Refused(3, place);
     }
-    let needed = sizes::words_needed(d, laws);
-    if room < needed {
-        return Translated::Refused(9, needed);
+    let needed = sizes::sizes_needed(d, laws);
+    if room < needed.words {
+        return Translated::Refused(9, needed.words);
     }
     let atoms = d.horizon * (d.fluents + d.actions) + d.fluents;
-    let rules = sizes::rules_needed(d, laws);
-    Translated::Written(atoms, rules, needed)
+    Translated::Written(atoms, needed.rules, needed.words)
 }
 
 // Writes the translation of the laws that the description counts. Nothing is written where the answer is a refusal.

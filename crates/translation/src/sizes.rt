@@ -36,36 +36,30 @@ fn rule_size(law: Law) -> usize
     }
 }
 
-// The rules of a description's translation: those of its laws, and two for each atom that is chosen.
-pub(crate) fn rules_needed(d: Description, laws: [Law; 64]) -> usize
-    requires { ⌜ (d .fluents ≤ 24) × (d .actions ≤ 8) × (d .laws ≤ 64) × (d .horizon ≤ 30) ⌝ }
-    ensures { λ r. ⌜ r ≡ length (rulesFor d laws) ⌝ }
-{
-    let count = d.laws;
-    let horizon = d.horizon;
-    let mut total = 2 * (d.fluents + horizon * d.actions);
-    let mut i = 0;
-    while i < count {
-        let law = laws[i];
-        total += rules_of(law, horizon);
-        i += 1;
-    }
-    total
+// How many rules and words.
+pub(crate) struct Sizes {
+    pub(crate) rules: usize,
+    pub(crate) words: usize,
 }
 
-// The words that they take.
-pub(crate) fn words_needed(d: Description, laws: [Law; 64]) -> usize
+// The sizes of a description's translation: those of its laws' rules, and two rules of four words for each atom that is
+// chosen.
+pub(crate) fn sizes_needed(d: Description, laws: [Law; 64]) -> Sizes
     requires { ⌜ (d .fluents ≤ 24) × (d .actions ≤ 8) × (d .laws ≤ 64) × (d .horizon ≤ 30) ⌝ }
-    ensures { λ r. ⌜ r ≡ length (tableFor d laws) ⌝ }
+    ensures { λ r. ⌜ (r .rules ≡ length (rulesFor d laws)) × (r .words ≡ length (tableFor d laws)) ⌝ }
 {
     let count = d.laws;
     let horizon = d.horizon;
-    let mut total = 8 * (d.fluents + horizon * d.actions);
+    let chosen = d.fluents + horizon * d.actions;
+    let mut rules = 2 * chosen;
+    let mut words = 8 * chosen;
     let mut i = 0;
     while i < count {
         let law = laws[i];
-        total += rules_of(law, horizon) * rule_size(law);
+        let times = rules_of(law, horizon);
+        rules += times;
+        words += times * rule_size(law);
         i += 1;
     }
-    total
+    Sizes { rules, words }
 }

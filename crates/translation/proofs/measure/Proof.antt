@@ -62,36 +62,36 @@ returns-2 c =
 enum-told-2 : tie.Need-enum-told-2
 enum-told-2 c = search needs
 
-words-needed-requires : tie.Need-words-needed-requires
-words-needed-requires c κs = limits c
+sizes-needed-requires : tie.Need-sizes-needed-requires
+sizes-needed-requires c κs = limits c
 
 returns-3 : tie.Need-returns-3
 unfolding outcome
 returns-3 c =
-    let w = c .before in
+    let w = c .before .before in
     let k = w .before in
-    let e = w .words-needed .ensures in
+    let e = w .sizes-needed .ensures .1 in
     rw (record-taken (k .before .before .before), horizon-taken k, lt-ltb _ _ (rw e at (c .if1 .taken)), e) refl
 
 add-atoms : tie.Need-add-atoms
-add-atoms c = omega (arith, limits (c .before .before .before))
+add-atoms c = omega (arith, limits (c .before .before .before .before))
 
 mul-atoms : tie.Need-mul-atoms
-mul-atoms c = omega (arith, atoms-bound (c .before .before .before .before))
+mul-atoms c = omega (arith, atoms-bound (c .before .before .before .before .before))
 
 add-atoms-2 : tie.Need-add-atoms-2
-add-atoms-2 c = omega (arith, atoms-bound (c .before .before .before .before .before), limits (c .before .before .before .before .before))
-
-rules-needed-requires : tie.Need-rules-needed-requires
-rules-needed-requires c κs = limits (c .before .before .before .before .before)
+add-atoms-2 c =
+    let k = c .before .before .before .before .before .before in
+    omega (arith, atoms-bound k, limits k)
 
 returns-4 : tie.Need-returns-4
 unfolding outcome
 returns-4 c =
     let w = c .before .before .before .before .before in
     let k = w .before in
-    let room = rw (w .words-needed .ensures) at (c .before .before .before .before .if1 .left) in
-    rw (record-taken (k .before .before .before), horizon-taken k, le-ltb _ _ room, c .rules-needed .ensures, w .words-needed .ensures)
+    let e = w .sizes-needed .ensures in
+    let room = rw (e .1) at (c .before .before .before .if1 .left) in
+    rw (record-taken (k .before .before .before), horizon-taken k, le-ltb _ _ room, e .0, e .1)
 
 pub measure-spec : {M : Type 1} → statement M
 measure-spec =
@@ -105,10 +105,9 @@ measure-spec =
     enum-known-place-2
     returns-2
     enum-told-2
-    words-needed-requires
+    sizes-needed-requires
     returns-3
     add-atoms
     mul-atoms
     add-atoms-2
-    rules-needed-requires
     returns-4)

@@ -3,7 +3,7 @@
 use mathlib.Core.Bool.{Bool, cond}
 use mathlib.Core.List.{List}
 use mathlib.Core.Path.{_≡_, refl}
-use Prim.Native.Nat.{ℕ, _+_, _-_, _<_, _≤_}
+use Prim.Native.Nat.{ℕ, _-_, _<_, _≤_}
 use native.Mathlib.Omega.{arith}
 use lib.ListN.{length, take, drop, getD}
 use Rattle.answer_sets.specs.Rules.{Rule}
@@ -13,33 +13,32 @@ use Rattle.description.specs.declared.Kind.{Kind}
 use Rattle.description.specs.declared.Law.{Law}
 use Rattle.translation.specs.Rules.{staticRules, dynamicRules, perLaw}
 use Rattle.translation.proofs.Counts.{words-append}
-use Rattle.translation.proofs.Writing.{Left, Split, begun, wrote, room, ended, stored}
+use Rattle.translation.proofs.Sums.{past}
+use Rattle.translation.proofs.Turns.{Turns, Before, starts, fits, turned, finished}
 use Rattle.translation.proofs.writers.write_laws.Statement.{statement}
 use Rattle.translation.proofs.writers.write_laws.Tie as tie
 
 abbrev rules : ℕ → ℕ → Bool → Kind → Law → List Rule
 rules n horizon dynamic = cond dynamic (dynamicRules n horizon) (staticRules n horizon)
 
--- the rules of law i come first of those that are left
-abbrev next : (n horizon : ℕ) (dynamic : Bool) (laws : List Law) (d : Law) (count i : ℕ) → i < count → count ≤ length laws
-    → Split (words (perLaw (rules n horizon dynamic) (drop i (take count laws))))
-next n horizon dynamic laws d count i h k =
+abbrev turns : (Kind → Law → List Rule) → (laws : List Law) (count : ℕ) → Turns (λ i. (i < count) × (count ≤ length laws)) count
+turns f laws count =
     record {
-      first = words (rules n horizon dynamic (getD laws i d .kind) (getD laws i d));
-      rest = words (perLaw (rules n horizon dynamic) (drop (i + 1) (take count laws)));
-      whole = rw (rest-cons laws count i d h k, words-append);
+      first = λ i. words (f (getD laws i past .kind) (getD laws i past));
+      left = λ i. words (perLaw f (drop i (take count laws)));
+      next = λ i h. rw (rest-cons laws count i past (h .0) (h .1), words-append);
+      done = λ i h. rw (rest-done laws count i h);
     }
 
 abbrev Inv-loop : tie.InvT-loop
 Inv-loop table₀ at count n horizon dynamic laws place₀ i₀ table place i =
-    (i ≤ count) × (length laws ≡ 64)
-    × Left table place (words (perLaw (rules n horizon dynamic) (drop i (take count laws)))) table₀ at (words (perLaw (rules n horizon dynamic) (take count laws)))
+    (length laws ≡ 64) × Before (turns (rules n horizon dynamic) laws count) i table place table₀ at (words (perLaw (rules n horizon dynamic) (take count laws)))
 
 abbrev μ-loop : tie.MeasureT-loop
 μ-loop table₀ at count n horizon dynamic laws place₀ i₀ table place i = count - i
 
 loop-holds : tie.Need-loop-holds Inv-loop μ-loop
-loop-holds c = (omega arith, c .before .good .1 .1 .0 .1 .0 .1, begun _ _ _ _ refl)
+loop-holds c = (c .before .good .1 .1 .0 .1 .0 .1, starts _ _ _ _ _ refl)
 
 mul-law : tie.Need-mul-law Inv-loop μ-loop
 mul-law c = omega arith
@@ -50,8 +49,7 @@ array-copy-out-law c = omega arith
 write-law-requires : tie.Need-write-law-requires Inv-loop μ-loop
 write-law-requires c κs =
     let h = c .before .before .before in
-    let a = h .before .before .args in
-    (omega arith, room (h .loop .inv .2) (next (a .n) (a .horizon) (a .dynamic) (a .t3) _ (a .count) (h .loop .i) (c .before .before .loop-test .taken) (omega arith)) (h .before .before .pre .1))
+    (omega arith, fits (h .loop .inv .1) (c .before .before .loop-test .taken, omega arith) (h .before .before .pre .1))
 
 add-i : tie.Need-add-i Inv-loop μ-loop
 add-i c = omega arith
@@ -62,23 +60,15 @@ loop-less c = omega arith
 loop-again : tie.Need-loop-again Inv-loop μ-loop
 loop-again c =
     let w = c .before .before in
-    let h = w .before .before .before .before in
-    let a = h .before .before .args in (
-      omega arith,
-      h .loop .inv .1,
-      wrote (h .loop .inv .2) (next (a .n) (a .horizon) (a .dynamic) (a .t3) _ (a .count) (h .loop .i) (w .before .before .before .loop-test .taken) (omega arith))
-          (w .write-law .ensures .0) (w .write-law .ensures .1),
-    )
+    let h = w .before .before .before in
+    let inv = h .before .loop .inv in
+    (inv .0, turned (inv .1) (h .loop-test .taken, omega arith) (w .write-law .ensures .0) (w .write-law .ensures .1))
 
 same-length : tie.Need-same-length Inv-loop μ-loop
-same-length c = c .before .loop .inv .2 .as-long
+same-length c = c .before .loop .inv .1 .rest .as-long
 
 returns : tie.Need-returns Inv-loop μ-loop
-returns c =
-    let h = c .before in
-    let a = h .before .before .args in
-    let done = rest-done (a .t3) (a .count) (h .loop .i) (c .loop-test .left) in
-    (ended (h .loop .inv .2) (rw done), stored (h .loop .inv .2) (rw done))
+returns c = finished (c .before .loop .inv .1) (c .loop-test .left)
 
 pub write-laws-spec : {M : Type 1} → statement M
 write-laws-spec =
