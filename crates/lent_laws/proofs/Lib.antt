@@ -6,4 +6,3 @@ pub mod Records
 pub mod Gathering
 pub mod Lending
 pub mod Locals
-pub mod Relending
