@@ -1,13 +1,12 @@
 -- The definitions read only the laws that a description counts, and none where the counts are refused: so on the gathered run
 -- they say what they say on the run. And demand 3, of an answer that one of them gives.
 -- Assumes nothing.
-use mathlib.Core.Path.{_≡_, refl, ap}
+use mathlib.Core.Path.{_≡_, refl}
 use mathlib.Core.Logic.{⊎-elim}
 use mathlib.Core.Bool.{true, false}
-use mathlib.Core.List.{List, _++_}
+use mathlib.Core.List.{List}
 use Prim.Native.Nat.{ℕ}
-use lib.ListN.{length, take, drop}
-use lib.Seq.{drop-append-seam}
+use lib.ListN.{length, take}
 use Rattle.search.proofs.Tests.{true-or-false}
 use Rattle.description.specs.declared.Law.{Law}
 use Rattle.description.specs.declared.Description.{Description}
@@ -22,15 +21,6 @@ use Rattle.correctness.proofs.Demand3.{demand-3}
 use Rattle.lent_laws.specs.Gathered.{gathered}
 use Rattle.lent_laws.specs.Promises.{PassesExactly, PathExactly}
 use Rattle.lent_laws.proofs.Gathered.{gathered-front}
-
-overwrites : (r : history.Reply) (ws table : List ℕ) → history.leftIn r ws (translated.overwritten ws table) ≡ translated.overwritten ws table
-overwrites (history.refused number place) ws table = refl
-overwrites (history.missing atom) ws table = ap (λ (xs : List ℕ). ws ++ xs) (drop-append-seam ws (drop (length ws) table))
-overwrites (history.judged v) ws table = ap (λ (xs : List ℕ). ws ++ xs) (drop-append-seam ws (drop (length ws) table))
-
-stays : (o : translated.Outcome) (vs ws table : List ℕ) → history.leftIn (history.afterTranslation o vs ws) ws (translated.leftIn o ws table) ≡ translated.leftIn o ws table
-stays (translated.refused number place) vs ws table = refl
-stays (translated.written atoms rules words) vs ws table = overwrites (history.afterTranslation (translated.written atoms rules words) vs ws) ws table
 
 module _ (d : Description) (ls : List Law) where
   -- the same answer, whether the counts fit or not
@@ -58,12 +48,6 @@ module _ (d : Description) (ls : List Law) where
   pub same-reading : (vs : List ℕ) → causal.reading d (gathered ls) (length ls) vs ≡ causal.reading d ls (length ls) vs
   unfolding causal.reading badRecord
   same-reading vs = agreeing (λ e. rw e refl) (λ e. rw e refl)
-
-  -- the history check leaves a table that holds the translation as it is
-  pub same-left : (vs table : List ℕ) → length (translated.tableAfter d ls (length ls) table) ≡ length table
-      → history.tableAfter d ls (length ls) vs (translated.tableAfter d ls (length ls) table) ≡ translated.tableAfter d ls (length ls) table
-  unfolding history.tableAfter history.checked translated.tableAfter
-  same-left vs table e = rw e (stays (translated.outcome d ls (length ls) (length table)) vs (translated.tableFor d ls) table)
 
   pub passes-exactly : (vs : List ℕ) (room : ℕ) (r : Checked) → history.replyOf r ≡ history.checked d ls (length ls) vs room → PassesExactly d ls vs room r
   unfolding PassesExactly

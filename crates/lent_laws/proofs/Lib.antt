@@ -2,8 +2,8 @@ pub mod Gathered
 pub mod Agreement
 pub mod Reading
 pub mod Answers
+pub mod Walking
 pub mod Records
 pub mod Gathering
 pub mod Lending
 pub mod Locals
-pub mod Relending

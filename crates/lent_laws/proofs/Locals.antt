@@ -30,7 +30,6 @@ use denote.Struct.Steps.{spelt}
 use Rattle.description.specs.declared.Law.{Law}
 use Rattle.description.specs.declared.Description.{Description}
 use Rattle.description.proofs.Law as T
-use Rattle.description.proofs.Law.Laws as T′
 use Rattle.description.proofs.Description as D
 use Rattle.description.proofs.Description.Laws as D′
 use Rattle.lent_laws.proofs.Records.{Run, run-ty, run-val, run-tells, run-makes}

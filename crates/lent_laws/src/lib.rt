@@ -200,30 +200,31 @@ pub fn read_run(text: &[u8], laws: [Law; 64]) -> ReadRun
     ReadRun { read, laws }
 }
 
-// What the three functions over a run say of one history.
+// Lends a run by value to be translated into the table.
+pub fn translate_run(d: Description, laws: [Law; 64], table: &mut [u16]) -> Translated
+    ensures { λ r. ⌜ outcomeOf r ≡ outcome d laws 64 (length (now (table .entry))) ⌝ }
+    ensures { λ _. ⌜ now (table .exit) ≡ tableAfter d laws 64 (now (table .entry)) ⌝ }
+{
+    translate(d, &laws, table)
+}
+
+// What the check of a history and the reading of it say.
 pub struct Judged {
-    pub translated: Translated,
     pub checked: Checked,
     pub reading: Reading,
 }
 
-// Lends a run by value to the three functions in turn: to be translated, checked against a history, and read with it. The table is
-// left as the translation leaves it, whatever the other two then say.
+// Lends a run by value to be checked against a history, and then to be read with it. The table is left as the check leaves it: with
+// the description's translation, or as it was where the check refuses.
 pub fn judge(d: Description, laws: [Law; 64], values: &[u8], table: &mut [u16]) -> Judged
-    ensures { λ r. ⌜ outcomeOf (r .translated) ≡ outcome d laws 64 (length (now (table .entry))) ⌝ }
     ensures { λ r. ⌜ Checks.replyOf (r .checked) ≡ Checks.checked d laws 64 (now (values .entry)) (length (now (table .entry))) ⌝ }
     ensures { λ r. ⌜ Readings.replyOf (r .reading) ≡ Readings.reading d laws 64 (now (values .entry)) ⌝ }
-    ensures { λ _. ⌜ now (table .exit) ≡ tableAfter d laws 64 (now (table .entry)) ⌝ }
+    ensures { λ _. ⌜ now (table .exit) ≡ Checks.tableAfter d laws 64 (now (values .entry)) (now (table .entry)) ⌝ }
     ensures { λ r. ⌜ PassesExactly d laws (now (values .entry)) (length (now (table .entry))) (r .checked) ⌝ }
     ensures { λ r. ⌜ PathExactly d laws (now (values .entry)) (r .reading) ⌝ }
 {
     let run: &[Law] = &laws;
-    let translated = translate(d, run, table);
     let checked = check_history(d, run, values, table);
     let reading = causal_reading(d, run, values);
-    Judged {
-        translated,
-        checked,
-        reading,
-    }
+    Judged { checked, reading }
 }

@@ -115,7 +115,15 @@ fn value_count(d: Description, laws: [Law; 64], buf: &[u8]) -> usize
 fn show_judged(d: Description, laws: [Law; 64], values: &[u8]) {
     let mut table = no_table();
     let judged = lent_laws::judge(d, laws, values, &mut table);
-    let translated = judged.translated;
+    let checked = judged.checked;
+    let reading = judged.reading;
+    print_checked(checked);
+    print_reading(reading);
+}
+
+fn show_laws(d: Description, laws: [Law; 64], values: &[u8]) {
+    let mut table = no_table();
+    let translated = lent_laws::translate_run(d, laws, &mut table);
     match translated {
         Translated::Refused(number, place) => print_refusal(number, place),
         Translated::Written(atoms, rules, words) => {
@@ -123,10 +131,7 @@ fn show_judged(d: Description, laws: [Law; 64], values: &[u8]) {
             print_number(b"rules=", rules);
             print_number(b"words=", words);
             print_table(&table, words);
-            let checked = judged.checked;
-            let reading = judged.reading;
-            print_checked(checked);
-            print_reading(reading);
+            show_judged(d, laws, values)
         }
     }
 }
@@ -135,7 +140,7 @@ fn show_history(text: &[u8], history: &[u8], d: Description, laws: [Law; 64], va
     let said = text::read_history(text, history, values);
     match said {
         HistoryAnswer::Refused(number, place) => print_refusal(number, place),
-        HistoryAnswer::Complete => show_judged(d, laws, values),
+        HistoryAnswer::Complete => show_laws(d, laws, values),
     }
 }
 
