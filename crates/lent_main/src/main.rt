@@ -6,19 +6,11 @@ use description::Law;
 use history::Checked;
 use libc::STDIN_FILENO;
 use libc::STDOUT_FILENO;
-use text::Answer;
 use text::HistoryAnswer;
 use translation::Translated;
 ghost use mathlib.Core.Path.{_≡_};
 ghost use Prim.Native.Nat.{_≤_};
 ghost use lib.ListN.{length};
-ghost use Rattle.io.specs.Counts.{Counts};
-
-fn no_values() -> [u8; 1024]
-    ensures { λ r. ⌜ 1024 ≡ length r ⌝ }
-{
-    [0; 1024]
-}
 
 fn no_table() -> [u16; 30912]
     ensures { λ r. ⌜ 30912 ≡ length r ⌝ }
@@ -30,13 +22,6 @@ fn at_most(n: usize, most: usize) -> usize
     ensures { λ r. ⌜ r ≤ most ⌝ }
 {
     if n < most { n } else { most }
-}
-
-// How many of a buffer's bytes are meant: so many, or all of them where there are fewer.
-fn shown(size: usize, buf: &[u8]) -> usize
-    ensures { λ r. ⌜ Counts r (now (buf .entry)) ⌝ }
-{
-    if size < buf.len() { size } else { buf.len() }
 }
 
 fn wide(n: usize) -> u64 {
@@ -101,17 +86,6 @@ fn print_reading(reading: Reading) {
     }
 }
 
-// How many of a buffer's bytes the values of a history take, and none where the laws are refused.
-fn value_count(d: Description, laws: [Law; 64], buf: &[u8]) -> usize
-    ensures { λ r. ⌜ Counts r (now (buf .entry)) ⌝ }
-{
-    let measured = translation::measure(d, laws, 64, 30912);
-    match measured {
-        Translated::Refused(_, _) => shown(0, buf),
-        Translated::Written(atoms, _, _) => shown(atoms, buf),
-    }
-}
-
 fn show_judged(d: Description, laws: [Law; 64], values: &[u8]) {
     let mut table = no_table();
     let judged = lent_laws::judge(d, laws, values, &mut table);
@@ -136,28 +110,19 @@ fn show_laws(d: Description, laws: [Law; 64], values: &[u8]) {
     }
 }
 
-fn show_history(text: &[u8], history: &[u8], d: Description, laws: [Law; 64], values: &mut [u8]) {
-    let said = text::read_history(text, history, values);
-    match said {
-        HistoryAnswer::Refused(number, place) => print_refusal(number, place),
-        HistoryAnswer::Complete => show_laws(d, laws, values),
-    }
-}
-
-fn show(text: &[u8]) {
-    let described = lent_laws::read_run(text, lent_laws::no_laws());
-    let read = described.read;
-    let laws = described.laws;
-    let answer = read.answer;
+// The whole input is read through a lent run, as check does it.
+fn show(input: &[u8]) {
+    let whole = inputs::read_input(input);
+    let answer = whole.answer;
     match answer {
-        Answer::Refused(number, place) => print_refusal(number, place),
-        Answer::Read(bytes, _) => {
-            let d = read.description;
+        HistoryAnswer::Refused(number, place) => print_refusal(number, place),
+        HistoryAnswer::Complete => {
+            let d = whole.description;
+            let laws = whole.laws;
+            let values = whole.values;
+            let atoms = whole.atoms;
             print_number(b"laws=", d.laws);
-            let start = at_most(bytes, text.len());
-            let mut values = no_values();
-            let count = value_count(d, laws, &values);
-            show_history(text, &text[start..], d, laws, &mut values[..count])
+            show_laws(d, laws, &values[..atoms])
         }
     }
 }

@@ -52,8 +52,8 @@ returns-2 c =
     let a = m .before .before .before .before .before .before .args in
     let e = sym (m .before .before .measure .ensures) ∙ ap outcomeOf (m .measured2 .given .1) in
     let checks : replyOf (j .judge .result .checked) ≡ checked (a .d) (a .laws) 64 (a .values .now) 30912 =
-    j .judge .ensures .1 .0 ∙ ap (checked (a .d) (a .laws) 64 (a .values .now)) (sym (t .no-table .ensures)) in
-    rw (e, ← checks, ← j .judge .ensures .1 .1 .0) (w .put-checked .ensures)
+    j .judge .ensures .0 ∙ ap (checked (a .d) (a .laws) 64 (a .values .now)) (sym (t .no-table .ensures)) in
+    rw (e, ← checks, ← j .judge .ensures .1 .0) (w .put-checked .ensures)
 
 pub put-outcome-spec : {M : Type 1} → statement M
 put-outcome-spec =
