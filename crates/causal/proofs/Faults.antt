@@ -30,11 +30,6 @@ kept Path h x y e = absurd (⊎-elim (λ z. omega arith) (⊎-elim (λ z. omega 
 pub explained : (r : Reading) → r ≡ Path → (x : Causal) → replyOf r ≡ judged x → path ≡ x
 explained r told x e = let q : judged path ≡ judged x = rw told at e in cc
 
-pub then-contradicted : (found : Option ℕ) (time : ℕ) (next : Causal)
-    → firstFault (orElse found (contradicted time) path) next ≡ orElse found (contradicted time) next
-then-contradicted (some law) time next = refl
-then-contradicted none time next = refl
-
 -- a step is explained, or its fault comes before all later ones
 pub then-step : (n : ℕ) (ls : List Law) (s a s′ : Interpretation) (time : ℕ) (next : Causal)
     → firstFault (stepVerdict n ls s a s′ time path) next ≡ stepVerdict n ls s a s′ time next

@@ -8,15 +8,15 @@ ghost use mathlib.Core.Path.{_≡_};
 ghost use mathlib.Core.Bool.{cond, _&&_};
 ghost use Prim.Native.Nat.{_+_, _*_};
 ghost use Rattle.description.specs.Meaning.{satisfiesHead};
-ghost use Rattle.causal.specs.Verdicts.{headIs, contradicts, appliesAtStart, appliesInStep};
-ghost use Rattle.causal.specs.Parts.{read};
+ghost use Rattle.causal.specs.Verdicts.{headIs, contradicts, appliesInStep};
+ghost use Rattle.causal.specs.Parts.{read, applies};
 
 // Whether the head holds in a state; false never does.
 pub(crate) fn head_holds(head: Head, state: &[u8]) -> bool
     ensures { λ r. ⌜ r ≡ satisfiesHead (read (now (state .entry))) head ⌝ }
 {
     match head {
-        Head::Lit(code) => literals::satisfies(state, code),
+        Head::Lit(code) => literals::satisfies(0, state, state, code),
         Head::False => false, // in every state
     }
 }
@@ -31,59 +31,43 @@ pub(crate) fn head_is(head: Head, f: usize, value: bool) -> bool
     }
 }
 
-// A static law applies in the first state if its if-list holds there; a dynamic law has no step before it.
-pub(crate) fn applies_at_start(law: Law, state: &[u8]) -> bool
-    ensures { λ r. ⌜ r ≡ appliesAtStart (read (now (state .entry))) law ⌝ }
-{
-    let kind = law.kind;
-    let codes = law.if_codes;
-    match kind {
-        Kind::Static => literals::holds(state, codes, values::wide(law.if_count)),
-        Kind::Dynamic => false,
-    }
-}
-
-// A law applies in a step if its if-list holds in the new state and, for a dynamic law, its after-list before it.
-pub(crate) fn applies_in_step(law: Law, n: usize, old: &[u8], done: &[u8], new: &[u8]) -> bool
-    ensures { λ r. ⌜ r ≡ appliesInStep n (read (now (old .entry))) (read (now (done .entry))) (read (now (new .entry))) law ⌝ }
+// A law applies in a step if its if-list holds in the new state and, for a dynamic law, its after-list in the old state and
+// the actions done there. Before the first state there is no step: no dynamic law applies, and old and done aren't read.
+pub(crate) fn applies(law: Law, start: bool, n: usize, old: &[u8], done: &[u8], new: &[u8]) -> bool
+    ensures { λ r. ⌜ r ≡ applies start n (read (now (old .entry))) (read (now (done .entry))) (read (now (new .entry))) law ⌝ }
 {
     let kind = law.kind;
     let if_codes = law.if_codes;
     let after_codes = law.after_codes;
-    if !literals::holds(new, if_codes, values::wide(law.if_count)) {
+    if !literals::holds(0, new, new, if_codes, values::wide(law.if_count)) {
         return false;
     }
     match kind {
         Kind::Static => true,
-        Kind::Dynamic => literals::holds_before(
-            n,
-            old,
-            done,
-            after_codes,
-            values::wide(law.after_count),
-        ),
+        Kind::Dynamic => {
+            if start {
+                return false;
+            }
+            literals::holds(n, old, done, after_codes, values::wide(law.after_count))
+        }
     }
 }
 
-// A law contradicts a state if it applies while its head does not hold there.
-pub(crate) fn contradicts_at_start(law: Law, state: &[u8]) -> bool
-    ensures { λ r. ⌜ r ≡ contradicts (appliesAtStart (read (now (state .entry)))) (read (now (state .entry))) law ⌝ }
-{
-    let head = law.head;
-    if !applies_at_start(law, state) {
-        return false;
-    }
-    !head_holds(head, state)
-}
-
-// The same for the new state of a step.
-pub(crate) fn contradicts_in_step(law: Law, n: usize, old: &[u8], done: &[u8], new: &[u8]) -> bool
+// A law contradicts the new state if it applies while its head does not hold there.
+pub(crate) fn contradicts(
+    law: Law,
+    start: bool,
+    n: usize,
+    old: &[u8],
+    done: &[u8],
+    new: &[u8],
+) -> bool
     ensures { λ r. ⌜ r ≡ contradicts
-        (appliesInStep n (read (now (old .entry))) (read (now (done .entry))) (read (now (new .entry))))
+        (applies start n (read (now (old .entry))) (read (now (done .entry))) (read (now (new .entry))))
         (read (now (new .entry))) law ⌝ }
 {
     let head = law.head;
-    if !applies_in_step(law, n, old, done, new) {
+    if !applies(law, start, n, old, done, new) {
         return false;
     }
     !head_holds(head, new)
@@ -104,7 +88,7 @@ pub(crate) fn causes(
         && headIs (law .head) (cond value (2 * f) (2 * f + 1))) ⌝ }
 {
     let head = law.head;
-    if !applies_in_step(law, n, old, done, new) {
+    if !applies(law, false, n, old, done, new) {
         return false;
     }
     head_is(head, f, value)

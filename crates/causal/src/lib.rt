@@ -10,12 +10,11 @@ use search::Found;
 ghost use mathlib.Core.Path.{_≡_};
 ghost use Prim.Native.Nat.{suc, _+_, _*_, _≤_, _<_};
 ghost use lib.ListN.{length, take};
-ghost use Rattle.search.specs.Search.{placeOf};
 ghost use Rattle.description.specs.Laws.{lawsOf};
 ghost use Rattle.description.specs.Atoms.{atomCount};
 ghost use Rattle.description.specs.Meaning.{stateAt, actionAt};
-ghost use Rattle.causal.specs.Verdicts.{Causal, contradicted, uncaused, path, orElse, stepVerdict, stepsFrom, causalVerdict};
-ghost use Rattle.causal.specs.Parts.{read, firstFault};
+ghost use Rattle.causal.specs.Verdicts.{path, stepVerdict, stepsFrom, causalVerdict};
+ghost use Rattle.causal.specs.Parts.{read};
 ghost use Rattle.causal.specs.Readings.{replyOf, judged, reading};
 
 // A refusal's number and place, or the verdict with its time and the law or the fluent that it names.
@@ -24,36 +23,6 @@ pub enum Reading {
     Contradicted(usize, usize),
     Uncaused(usize, usize),
     Path,
-}
-
-// A contradiction at this time, if a law was found.
-fn contradicted_at(time: usize, found: Found) -> Reading
-    ensures { λ r. ⌜ replyOf r ≡ judged (orElse (placeOf found) (contradicted time) path) ⌝ }
-{
-    match found {
-        Found::At(law) => Reading::Contradicted(time, law),
-        Found::Nothing => Reading::Path,
-    }
-}
-
-// An uncaused fluent at this time, if one was found.
-fn uncaused_at(time: usize, found: Found) -> Reading
-    ensures { λ r. ⌜ replyOf r ≡ judged (orElse (placeOf found) (uncaused time) path) ⌝ }
-{
-    match found {
-        Found::At(fluent) => Reading::Uncaused(time, fluent),
-        Found::Nothing => Reading::Path,
-    }
-}
-
-// The fault, or where there is none the next one.
-fn first_fault(fault: Reading, next: Reading) -> Reading
-    ensures { λ r. ⌜ ((x y : Causal) → replyOf fault ≡ judged x → replyOf next ≡ judged y → replyOf r ≡ judged (firstFault x y)) ⌝ }
-{
-    match fault {
-        Reading::Path => next,
-        _ => fault,
-    }
 }
 
 // The fault of one step from the old state by the actions done to the new state, which is at this time: contradicted before
@@ -70,15 +39,15 @@ pub fn step_fault(
     ensures { λ r. ⌜ replyOf r ≡ judged (stepVerdict n (take count laws)
         (read (now (old .entry))) (read (now (done .entry))) (read (now (new .entry))) time path) ⌝ }
 {
-    let contradicted = contradicted_at(
-        time,
-        searches::first_contradiction(laws, count, n, old, done, new),
-    );
-    let uncaused = uncaused_at(
-        time,
-        searches::first_uncaused(laws, count, n, old, done, new),
-    );
-    first_fault(contradicted, uncaused)
+    let contradicting = searches::first_contradiction(laws, count, false, n, old, done, new);
+    if let Found::At(law) = contradicting {
+        return Reading::Contradicted(time, law);
+    }
+    let bare = searches::first_uncaused(laws, count, n, old, done, new);
+    if let Found::At(fluent) = bare {
+        return Reading::Uncaused(time, fluent);
+    }
+    Reading::Path
 }
 
 // The fault of the step from time t to t + 1: the old state, the actions and the new state are three parts of the values,
@@ -120,18 +89,19 @@ fn steps(d: Description, laws: [Law; 64], values: &[u8]) -> Reading
     Reading::Path
 }
 
-// The verdict on an accepted description and one value for each atom: the first state, then each step.
+// The verdict on an accepted description and one value for each atom: the first state, to which no step leads, then each step.
 fn verdict(d: Description, laws: [Law; 64], values: &[u8]) -> Reading
     requires { ⌜ (d .horizon ≤ 30) × (length (now values) ≡ atomCount (d .fluents) (d .actions) (d .horizon)) ⌝ }
     ensures { λ r. ⌜ replyOf r ≡ judged
         (causalVerdict (d .fluents) (d .actions) (d .horizon) (lawsOf d laws) (now (values .entry))) ⌝ }
 {
     let count = d.laws;
-    let start = contradicted_at(
-        0,
-        searches::first_contradiction_at_start(laws, count, values),
-    );
-    first_fault(start, steps(d, laws, values))
+    let n = d.fluents;
+    let contradicting = searches::first_contradiction(laws, count, true, n, values, values, values);
+    if let Found::At(law) = contradicting {
+        return Reading::Contradicted(0, law);
+    }
+    steps(d, laws, values)
 }
 
 // Refusals 8, 3, 10 and 11 in this order, then the verdict.

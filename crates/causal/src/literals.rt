@@ -18,16 +18,9 @@ pub(crate) fn literal_holds(code: usize, value: bool) -> bool
     !value
 }
 
-// Whether the literal of a code holds in a state.
-pub(crate) fn satisfies(state: &[u8], code: u8) -> bool
-    ensures { λ r. ⌜ r ≡ satisfies (read (now (state .entry))) code ⌝ }
-{
-    let code = values::wide(code);
-    literal_holds(code, values::is_true(state, code / 2))
-}
-
-// The same for a state and the actions done in it: codes below 2n speak of the state, the others of the actions.
-pub(crate) fn satisfies_before(n: usize, old: &[u8], done: &[u8], code: u8) -> bool
+// Whether the literal of a code holds in a state and the actions done in it: codes below 2n speak of the state, the others
+// of the actions. With n = 0 all codes speak of done, so that a state alone is lent there.
+pub(crate) fn satisfies(n: usize, old: &[u8], done: &[u8], code: u8) -> bool
     ensures { λ r. ⌜ r ≡ satisfies (together n (read (now (old .entry))) (read (now (done .entry)))) code ⌝ }
 {
     let code = values::wide(code);
@@ -38,29 +31,14 @@ pub(crate) fn satisfies_before(n: usize, old: &[u8], done: &[u8], code: u8) -> b
     literal_holds(code, values::is_true(done, i - n))
 }
 
-// All literals of a list hold in a state; those of an empty list always do.
-pub(crate) fn holds(state: &[u8], codes: [u8; 6], count: usize) -> bool
-    ensures { λ r. ⌜ r ≡ holds (read (now (state .entry))) (take count codes) ⌝ }
-{
-    let end = values::least(count, 6);
-    let mut i = 0;
-    while i < end {
-        if !satisfies(state, codes[i]) {
-            return false;
-        }
-        i += 1;
-    }
-    true
-}
-
-// The same for an after-list: it is read in the old state and the actions done there, never in the new state.
-pub(crate) fn holds_before(n: usize, old: &[u8], done: &[u8], codes: [u8; 6], count: usize) -> bool
+// All literals of a list hold there; those of an empty list always do.
+pub(crate) fn holds(n: usize, old: &[u8], done: &[u8], codes: [u8; 6], count: usize) -> bool
     ensures { λ r. ⌜ r ≡ holds (together n (read (now (old .entry))) (read (now (done .entry)))) (take count codes) ⌝ }
 {
     let end = values::least(count, 6);
     let mut i = 0;
     while i < end {
-        if !satisfies_before(n, old, done, codes[i]) {
+        if !satisfies(n, old, done, codes[i]) {
             return false;
         }
         i += 1;

@@ -7,44 +7,28 @@ ghost use mathlib.Core.Path.{_≡_};
 ghost use mathlib.Core.Bool.{not};
 ghost use lib.ListN.{take};
 ghost use Rattle.search.specs.Search.{first, range, placeOf};
-ghost use Rattle.causal.specs.Verdicts.{literalIn, someCause, contradicts, appliesAtStart, appliesInStep};
-ghost use Rattle.causal.specs.Parts.{read};
+ghost use Rattle.causal.specs.Verdicts.{literalIn, someCause, contradicts, appliesInStep};
+ghost use Rattle.causal.specs.Parts.{read, applies};
 
-// The lowest law that contradicts the first state, of the first count laws.
-pub(crate) fn first_contradiction_at_start(laws: [Law; 64], count: usize, state: &[u8]) -> Found
-    ensures { λ r. ⌜ placeOf r ≡
-        first (contradicts (appliesAtStart (read (now (state .entry)))) (read (now (state .entry)))) 0 (take count laws) ⌝ }
-{
-    let end = values::least(count, 64);
-    let mut i = 0;
-    while i < end {
-        let law = laws[i];
-        if laws::contradicts_at_start(law, state) {
-            return Found::At(i);
-        }
-        i += 1;
-    }
-    Found::Nothing
-}
-
-// The lowest law that contradicts the new state of a step, of the first count laws.
+// The lowest law that contradicts the new state of a step, or the first state, of the first count laws.
 pub(crate) fn first_contradiction(
     laws: [Law; 64],
     count: usize,
+    start: bool,
     n: usize,
     old: &[u8],
     done: &[u8],
     new: &[u8],
 ) -> Found
     ensures { λ r. ⌜ placeOf r ≡ first (contradicts
-        (appliesInStep n (read (now (old .entry))) (read (now (done .entry))) (read (now (new .entry))))
+        (applies start n (read (now (old .entry))) (read (now (done .entry))) (read (now (new .entry))))
         (read (now (new .entry)))) 0 (take count laws) ⌝ }
 {
     let end = values::least(count, 64);
     let mut number = 0;
     while number < end {
         let law = laws[number];
-        if laws::contradicts_in_step(law, n, old, done, new) {
+        if laws::contradicts(law, start, n, old, done, new) {
             return Found::At(number);
         }
         number += 1;

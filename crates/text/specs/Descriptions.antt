@@ -69,21 +69,20 @@ absent (some i) = false
 abbrev pub isNew : List (List ℕ) → List ℕ → Bool
 isNew names bs = isName bs && absent (declaredAt names bs)
 
-abbrev pub fluentLine : Draft → List ℕ → Step
-fluentLine d value =
-    cond (ltb (d .fluents) 24)
+-- a line that declares a name, where there is a place for it; fluents is their number behind it
+abbrev pub nameLine : Bool → Due → ℕ → Draft → List ℕ → Step
+nameLine fits due fluents d value =
+    cond fits
     (cond (isNew (d .names) value)
-    (next fluentDue (record { horizon = d .horizon; fluents = suc (d .fluents); names = d .names ++ (value ∷ []); laws = d .laws; law = d .law }))
+    (next due (record { horizon = d .horizon; fluents = fluents; names = d .names ++ (value ∷ []); laws = d .laws; law = d .law }))
     (refuse 4))
     (refuse 5)
 
+abbrev pub fluentLine : Draft → List ℕ → Step
+fluentLine d value = nameLine (ltb (d .fluents) 24) fluentDue (suc (d .fluents)) d value
+
 abbrev pub actionLine : Draft → List ℕ → Step
-actionLine d value =
-    cond (ltb (length (d .names)) (d .fluents + 8))
-    (cond (isNew (d .names) value)
-    (next actionDue (record { horizon = d .horizon; fluents = d .fluents; names = d .names ++ (value ∷ []); laws = d .laws; law = d .law }))
-    (refuse 4))
-    (refuse 5)
+actionLine d value = nameLine (ltb (length (d .names)) (d .fluents + 8)) actionDue (d .fluents) d value
 
 -- a law's head: false or a fluent literal
 abbrev pub litHead : Option ℕ → Option Head

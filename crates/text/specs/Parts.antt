@@ -142,6 +142,10 @@ pub record Goes (s r : State) : Type 0 where
   pub sound : Sound (dueOf (r .due)) (r .reading)
   pub follows : (old : List Law) → Follows old (s .reading .run) → Follows old (r .reading .run)
 
+-- whether one more action, or one more fluent, can be declared
+abbrev pub hasPlace : Bool → ℕ → ℕ → Bool
+hasPlace action fluents names = cond action (ltb names (fluents + 8)) (ltb fluents 24)
+
 -- a line's step where its list, if it is an if- or after-list, is read already
 unfoldable pub stepWith : ℕ → Due → Draft → ℕ → List ℕ → Listed → Step
 stepWith lent due d key value list =

@@ -111,12 +111,12 @@ pub fn read_history(description: &[u8], text: &[u8], values: &mut [u8]) -> Histo
 pub fn fluent_name(text: &[u8], fluent: usize) -> &[u8]
     ensures { λ r. ⌜ now r ≡ shownFluent (now (text .entry)) fluent ⌝ }
 {
-    shown::fluent_name(text, fluent)
+    shown::name(text, false, fluent)
 }
 
 // The same for an action.
 pub fn action_name(text: &[u8], action: usize) -> &[u8]
     ensures { λ r. ⌜ now r ≡ shownAction (now (text .entry)) action ⌝ }
 {
-    shown::action_name(text, action)
+    shown::name(text, true, action)
 }

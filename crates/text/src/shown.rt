@@ -7,6 +7,7 @@ use description::Head;
 use description::Kind;
 use description::Law;
 ghost use mathlib.Core.Path.{_≡_};
+ghost use mathlib.Core.Bool.{cond};
 ghost use Rattle.text.specs.Shown.{shownFluent, shownAction};
 
 // A run of laws that nobody looks at: no law run counts where a name is shown.
@@ -15,8 +16,9 @@ pub(crate) fn no_laws() -> [Law; 64] {
     [law; 64]
 }
 
-pub(crate) fn fluent_name(text: &[u8], fluent: usize) -> &[u8]
-    ensures { λ r. ⌜ now r ≡ shownFluent (now (text .entry)) fluent ⌝ }
+// The name of an action or a fluent by its number, or nothing. At most 8 actions stand behind the fluents.
+pub(crate) fn name(text: &[u8], action: bool, number: usize) -> &[u8]
+    ensures { λ r. ⌜ now r ≡ cond action (shownAction (now (text .entry)) number) (shownFluent (now (text .entry)) number) ⌝ }
 {
     let end = descriptions::read(text, no_laws(), 64);
     let state = end.state;
@@ -24,27 +26,15 @@ pub(crate) fn fluent_name(text: &[u8], fluent: usize) -> &[u8]
         return bytes::part(text, 0, 0);
     }
     let reading = state.reading;
-    if reading.fluents <= fluent {
-        return bytes::part(text, 0, 0);
-    }
     let names = reading.names;
-    names::declared(text, names, fluent)
-}
-
-// At most 8 actions stand behind the fluents.
-pub(crate) fn action_name(text: &[u8], action: usize) -> &[u8]
-    ensures { λ r. ⌜ now r ≡ shownAction (now (text .entry)) action ⌝ }
-{
-    let end = descriptions::read(text, no_laws(), 64);
-    let state = end.state;
-    if 0 < state.refused {
+    if action {
+        if 8 <= number {
+            return bytes::part(text, 0, 0);
+        }
+        return names::declared(text, names, reading.fluents + number);
+    }
+    if reading.fluents <= number {
         return bytes::part(text, 0, 0);
     }
-    if 8 <= action {
-        return bytes::part(text, 0, 0);
-    }
-    let reading = state.reading;
-    let names = reading.names;
-    let place = reading.fluents + action;
-    names::declared(text, names, place)
+    names::declared(text, names, number)
 }

@@ -12,14 +12,15 @@ use description::Kind;
 use description::Law;
 use search::Found;
 ghost use mathlib.Core.Path.{_≡_};
+ghost use mathlib.Core.Bool.{cond};
 ghost use mathlib.Core.List.{List, []};
 ghost use mathlib.Core.Option.{some};
-ghost use Prim.Native.Nat.{ℕ, _-_, _≤_, _<_};
+ghost use Prim.Native.Nat.{ℕ, suc, _-_, _≤_, _<_};
 ghost use lib.ListN.{length, take, drop};
 ghost use Rattle.text.specs.Lists.{codes};
-ghost use Rattle.text.specs.Descriptions.{horizonOf, refuse, horizonLine, fluentLine, actionLine, lawLine};
+ghost use Rattle.text.specs.Descriptions.{actionDue, fluentDue, horizonOf, refuse, horizonLine, nameLine, lawLine};
 ghost use Rattle.text.specs.Descriptions.{begun, whole, lawOf, ifLine, afterLine, endLine, byKey};
-ghost use Rattle.text.specs.Parts.{dueOf, draftOf, stepOf, stepWith, Sound, Goes, Padded, Pushed};
+ghost use Rattle.text.specs.Parts.{dueOf, draftOf, stepOf, stepWith, hasPlace, Sound, Goes, Padded, Pushed};
 
 // A line that is refused.
 pub(crate) fn refused(state: State, number: u8) -> State
@@ -50,40 +51,29 @@ fn horizon_line(value: &[u8], state: State) -> State
     }
 }
 
-// A new fluent: 5 before its spelling, then 4.
-fn fluent_line(text: &[u8], from: usize, to: usize, state: State) -> State
-    requires { ⌜ (from ≤ to) × (to ≤ length (now text)) × Sound (dueOf (state .due)) (state .reading) ⌝ }
-    ensures { λ r. ⌜ stepOf (now (text .entry)) r ≡ fluentLine (draftOf (now (text .entry)) (state .reading)) (take (to - from) (drop from (now (text .entry)))) ⌝ }
-    ensures { λ r. ⌜ Goes state r ⌝ }
+// Whether one more action, or one more fluent, can be declared.
+fn has_place(action: bool, fluents: usize, names: usize) -> bool
+    requires { ⌜ fluents ≤ 24 ⌝ }
+    ensures { λ r. ⌜ r ≡ hasPlace action fluents names ⌝ }
 {
-    let mut reading = state.reading;
-    if 24 <= reading.fluents {
-        return refused(state, 5);
+    if action {
+        return names < fluents + 8;
     }
-    let names = reading.names;
-    if !names::is_new(text, names, &text[from..to]) {
-        return refused(state, 4);
-    }
-    let more = names::with_name(names, from, to - from);
-    reading.names = more;
-    reading.fluents += 1;
-    State {
-        refused: 0,
-        ended: false,
-        due: Due::Fluent,
-        reading,
-    }
+    fluents < 24
 }
 
-// A new action: 5 before its spelling, then 4.
-fn action_line(text: &[u8], from: usize, to: usize, state: State) -> State
+// A new fluent or action: 5 before its spelling, then 4.
+fn name_line(text: &[u8], from: usize, to: usize, state: State, action: bool) -> State
     requires { ⌜ (from ≤ to) × (to ≤ length (now text)) × Sound (dueOf (state .due)) (state .reading) ⌝ }
-    ensures { λ r. ⌜ stepOf (now (text .entry)) r ≡ actionLine (draftOf (now (text .entry)) (state .reading)) (take (to - from) (drop from (now (text .entry)))) ⌝ }
+    ensures { λ r. ⌜ stepOf (now (text .entry)) r ≡ nameLine
+        (hasPlace action (state .reading .fluents) (state .reading .names .count)) (cond action actionDue fluentDue)
+        (cond action (state .reading .fluents) (suc (state .reading .fluents)))
+        (draftOf (now (text .entry)) (state .reading)) (take (to - from) (drop from (now (text .entry)))) ⌝ }
     ensures { λ r. ⌜ Goes state r ⌝ }
 {
     let mut reading = state.reading;
     let names = reading.names;
-    if reading.fluents + 8 <= names.count {
+    if !has_place(action, reading.fluents, names.count) {
         return refused(state, 5);
     }
     if !names::is_new(text, names, &text[from..to]) {
@@ -91,10 +81,15 @@ fn action_line(text: &[u8], from: usize, to: usize, state: State) -> State
     }
     let more = names::with_name(names, from, to - from);
     reading.names = more;
+    let mut due = Due::Action;
+    if !action {
+        due = Due::Fluent;
+        reading.fluents += 1;
+    }
     State {
         refused: 0,
         ended: false,
-        due: Due::Action,
+        due,
         reading,
     }
 }
@@ -250,10 +245,10 @@ fn other_line(text: &[u8], from: usize, to: usize, key: usize, state: State, len
         return horizon_line(&text[from..to], state);
     }
     if key == lines::FLUENT {
-        return fluent_line(text, from, to, state);
+        return name_line(text, from, to, state, false);
     }
     if key == lines::ACTION {
-        return action_line(text, from, to, state);
+        return name_line(text, from, to, state, true);
     }
     if key == lines::STATIC {
         return law_line(text, from, to, state, Kind::Static, lent);

@@ -1,48 +1,50 @@
 -- `verdict` meets its contract: the first state is judged, then the steps.
 -- Assumes nothing.
-use mathlib.Core.Path.{_∙_, ap}
+use mathlib.Core.Path.{_≡_, _∙_}
 use Rattle.search.specs.Search.{first, placeOf}
+use Rattle.search.proofs.Loops.{at-place, no-place}
 use Rattle.description.specs.Laws.{lawsOf}
-use Rattle.causal.specs.Verdicts.{contradicted, orElse, contradicts, appliesAtStart, stepsFrom, causalVerdict}
-use Rattle.causal.specs.Readings.{judged}
-use Rattle.causal.proofs.Faults.{then-contradicted}
-use Rattle.causal.proofs.States.{start-state}
+use Rattle.description.specs.Meaning.{stateAt}
+use Rattle.causal.specs.Verdicts.{contradicts, appliesAtStart, causalVerdict}
+use Rattle.causal.proofs.States.{first-at-start}
 use borrow.Author.Needs.{needs}
 use Rattle.causal.proofs.verdict.Statement.{statement}
 use Rattle.causal.proofs.verdict.Tie as tie
 
-first-contradiction-at-start-requires : tie.Need-first-contradiction-at-start-requires
-first-contradiction-at-start-requires c κs = search needs
+-- the law found is the one that the verdict names
+found : (c : tie.After-first-contradiction) → let a = c .before .before .args in let s = stateAt (a .d .fluents) (a .d .actions) (a .values .now) 0 in
+    placeOf (c .first-contradiction .result) ≡ first (contradicts (appliesAtStart s) s) 0 (lawsOf (a .d) (a .laws))
+found c =
+    let a = c .before .before .args in
+    c .first-contradiction .ensures ∙ first-at-start (a .d .fluents) (a .d .actions) (a .values .now) (lawsOf (a .d) (a .laws))
 
-contradicted-at-requires : tie.Need-contradicted-at-requires
-contradicted-at-requires c κs = search needs
+first-contradiction-requires : tie.Need-first-contradiction-requires
+first-contradiction-requires c κs = search needs
+
+enum-known-contradicting : tie.Need-enum-known-contradicting
+enum-known-contradicting c = search needs
+
+returns : tie.Need-returns
+unfolding causalVerdict
+returns c = rw (at-place (found (c .before .before .before)) (c .before .contradicting .given .1))
+
+enum-told : tie.Need-enum-told
+enum-told c = search needs
 
 steps-requires : tie.Need-steps-requires
 steps-requires c κs = search needs
 
-first-fault-requires : tie.Need-first-fault-requires
-first-fault-requires c κs = search needs
-
-returns : tie.Need-returns
+returns-2 : tie.Need-returns-2
 unfolding causalVerdict
-returns c =
-    let a = c .before .before .before .before .before .args in
-    let d = a .d in
-    let ls = lawsOf d (a .laws) in
-    let vs = a .values .now in
-    let k = c .before .before .before .first-contradiction-at-start in
-    let rest = stepsFrom (d .fluents) (d .actions) ls vs 0 (d .horizon) in
-    c .first-fault .ensures _ _ (c .before .before .contradicted-at .ensures) (c .before .steps .ensures)
-    ∙ ap judged (then-contradicted (placeOf (k .result)) 0 rest
-    ∙ ap (λ o. orElse o (contradicted 0) rest)
-    (k .ensures ∙ ap (λ s. first (contradicts (appliesAtStart s) s) 0 ls) (start-state (d .fluents) (d .actions) vs)))
+returns-2 c = rw (no-place (found (c .before .before .before)) (c .before .enum-told .given .1)) (c .steps .ensures)
 
 pub verdict-spec : {M : Type 1} → statement M
 verdict-spec =
     tie.close
     (tie.spec
-    first-contradiction-at-start-requires
-    contradicted-at-requires
+    first-contradiction-requires
+    enum-known-contradicting
+    returns
+    enum-told
     steps-requires
-    first-fault-requires
-    returns)
+    returns-2)

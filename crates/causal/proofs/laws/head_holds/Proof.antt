@@ -1,5 +1,9 @@
 -- `head_holds` meets its contract: false never holds.
 -- Assumes nothing.
+use mathlib.Core.Path.{_∙_, ap}
+use Rattle.description.specs.Meaning.{satisfies}
+use Rattle.causal.specs.Parts.{read}
+use Rattle.causal.proofs.States.{alone}
 use borrow.Author.Needs.{needs}
 use Rattle.causal.proofs.laws.head_holds.Statement.{statement}
 use Rattle.causal.proofs.laws.head_holds.Tie as tie
@@ -14,7 +18,7 @@ enum-told : tie.Need-enum-told
 enum-told c = search needs
 
 returns : tie.Need-returns
-returns c = rw (c .before .before .head .given .1) (c .satisfies .ensures)
+returns c = rw (c .before .before .head .given .1) (c .satisfies .ensures ∙ ap (λ s. satisfies s (c .before .before .head .given .0 .0)) (alone (read (c .before .before .before .before .before .args .state .now))))
 
 returns-2 : tie.Need-returns-2
 returns-2 c = search needs

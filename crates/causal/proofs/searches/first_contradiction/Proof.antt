@@ -6,19 +6,19 @@ use native.Mathlib.Omega.{arith}
 use lib.ListN.{length, take, drop}
 use Rattle.search.specs.Search.{first}
 use Rattle.search.proofs.Loops.{prefix-stop, prefix-go, prefix-done}
-use Rattle.causal.specs.Verdicts.{contradicts, appliesInStep}
-use Rattle.causal.specs.Parts.{read}
+use Rattle.causal.specs.Verdicts.{contradicts}
+use Rattle.causal.specs.Parts.{read, applies}
 use Rattle.causal.proofs.Lists.{take-least}
 use Rattle.causal.proofs.searches.first_contradiction.Statement.{statement}
 use Rattle.causal.proofs.searches.first_contradiction.Tie as tie
 
 abbrev Inv-loop : tie.InvT-loop
-Inv-loop count n old done new laws end number₀ number =
-    (end ≤ 64) × (length laws ≡ 64) × (first (contradicts (appliesInStep n (read old) (read done) (read new)) (read new)) number (drop number (take end laws))
-    ≡ first (contradicts (appliesInStep n (read old) (read done) (read new)) (read new)) 0 (take count laws))
+Inv-loop count start n old done new laws end number₀ number =
+    (end ≤ 64) × (length laws ≡ 64) × (first (contradicts (applies start n (read old) (read done) (read new)) (read new)) number (drop number (take end laws))
+    ≡ first (contradicts (applies start n (read old) (read done) (read new)) (read new)) 0 (take count laws))
 
 abbrev μ-loop : tie.MeasureT-loop
-μ-loop count n old done new laws end number₀ number = end - number
+μ-loop count start n old done new laws end number₀ number = end - number
 
 least-requires : tie.Need-least-requires Inv-loop μ-loop
 least-requires c κs = tt
@@ -34,14 +34,14 @@ mul-law c = omega arith
 array-copy-out-law : tie.Need-array-copy-out-law Inv-loop μ-loop
 array-copy-out-law c = omega arith
 
-contradicts-in-step-requires : tie.Need-contradicts-in-step-requires Inv-loop μ-loop
-contradicts-in-step-requires c κs = tt
+contradicts-requires : tie.Need-contradicts-requires Inv-loop μ-loop
+contradicts-requires c κs = tt
 
 returns : tie.Need-returns Inv-loop μ-loop
 returns c =
     let h = c .before .before .before .before in
     prefix-stop _ (h .before .before .before .before .before .args .t1) _ (h .loop .number) _ (c .before .before .before .loop-test .taken) (omega arith) (h .loop .inv .2)
-    (sym (c .before .contradicts-in-step .ensures) ∙ c .if1 .taken)
+    (sym (c .before .contradicts .ensures) ∙ c .if1 .taken)
 
 add-number : tie.Need-add-number Inv-loop μ-loop
 add-number c = omega arith
@@ -55,7 +55,7 @@ loop-again c =
       h .loop .inv .0,
       h .loop .inv .1,
       prefix-go _ (h .before .before .before .before .before .args .t1) _ (h .loop .number) _ (c .before .before .before .loop-test .taken) (omega arith) (h .loop .inv .2)
-          (sym (c .before .contradicts-in-step .ensures) ∙ c .if1 .left),
+          (sym (c .before .contradicts .ensures) ∙ c .if1 .left),
     )
 
 returns-2 : tie.Need-returns-2 Inv-loop μ-loop
@@ -71,7 +71,7 @@ first-contradiction-spec =
     loop-holds
     mul-law
     array-copy-out-law
-    contradicts-in-step-requires
+    contradicts-requires
     returns
     add-number
     loop-less

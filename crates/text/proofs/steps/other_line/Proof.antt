@@ -1,6 +1,7 @@
 -- `steps::other_line` meets its contract: the key decides.
 -- Assumes nothing.
 use borrow.Author.Tests.{eq-eqb, ne-eqb}
+use Rattle.text.proofs.Spelling.{spelled-length}
 use borrow.Author.Needs.{needs}
 use Rattle.text.proofs.steps.other_line.Statement.{statement}
 use Rattle.text.proofs.steps.other_line.Tie as tie
@@ -21,20 +22,20 @@ returns : tie.Need-returns
 returns c =
     (rw (eq-eqb _ _ (c .before .before .if1 .taken)) (c .horizon-line .ensures .0 _), c .horizon-line .ensures .1)
 
-fluent-line-requires : tie.Need-fluent-line-requires
-fluent-line-requires c κs = search needs
+name-line-requires : tie.Need-name-line-requires
+name-line-requires c κs = search needs
 
 returns-2 : tie.Need-returns-2
 returns-2 c =
-    (rw (ne-eqb _ _ (c .before .before .if1 .left), eq-eqb _ _ (c .before .if2 .taken)) (c .fluent-line .ensures .0), c .fluent-line .ensures .1)
+    (rw (ne-eqb _ _ (c .before .before .if1 .left), eq-eqb _ _ (c .before .if2 .taken)) (c .name-line .ensures .0), c .name-line .ensures .1)
 
-action-line-requires : tie.Need-action-line-requires
-action-line-requires c κs = search needs
+name-line-requires-2 : tie.Need-name-line-requires-2
+name-line-requires-2 c κs = search needs
 
 returns-3 : tie.Need-returns-3
 returns-3 c =
     let d = c .before .before in
-    (rw (ne-eqb _ _ (d .before .if1 .left), ne-eqb _ _ (d .if2 .left), eq-eqb _ _ (c .before .if3 .taken)) (c .action-line .ensures .0), c .action-line .ensures .1)
+    (rw (ne-eqb _ _ (d .before .if1 .left), ne-eqb _ _ (d .if2 .left), eq-eqb _ _ (c .before .if3 .taken), spelled-length) (c .name-line2 .ensures .0), c .name-line2 .ensures .1)
 
 law-line-requires : tie.Need-law-line-requires
 law-line-requires c κs = search needs
@@ -81,9 +82,9 @@ other-line-spec =
     part-horizon-line-end
     horizon-line-requires
     returns
-    fluent-line-requires
+    name-line-requires
     returns-2
-    action-line-requires
+    name-line-requires-2
     returns-3
     law-line-requires
     returns-4
