@@ -4,7 +4,8 @@
  * promise of its Rattle source (crates/huntyghai), for every input; nothing checks this header against that source.
  * A slice is a pointer and a length in elements. A length of 0 may come with any pointer; the parts of memory lent to one
  * call must not overlap where one of them is written to. Nothing is kept after a call and nothing is allocated; a call
- * needs some 400 KiB of stack.
+ * holds its arrays on the stack: on the largest recipe huntyghai_report and huntyghai_causal_reading ran in a stack of
+ * 112 KiB and not in one of 96 (measured, not proved).
  *
  * An answer is one number: its code is the answer modulo 256, and its value is the answer divided by 256.
  *

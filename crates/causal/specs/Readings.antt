@@ -10,7 +10,7 @@ use Rattle.search.specs.Search.{first}
 use Rattle.description.specs.declared.Law.{Law}
 use Rattle.description.specs.declared.Description.{Description}
 use Rattle.description.specs.Laws.{lawsOf}
-use Rattle.description.specs.Atoms.{atomCount}
+use Rattle.description.specs.Atoms.{atomCount, wrongLength}
 use Rattle.description.specs.Acceptance.{badRecord, badHorizon}
 use Rattle.causal.specs.Verdicts.{Causal, contradicted, uncaused, path, causalVerdict}
 use Rattle.causal.specs.declared.Reading.{Reading}
@@ -31,10 +31,6 @@ replyOf Path = judged path
 abbrev pub orRefuse : Option ℕ → ℕ → Reply → Reply
 orRefuse (some place) number next = refused number place
 orRefuse none number next = next
-
--- refusal 10: not the number of atoms, place their length
-abbrev pub wrongLength : ℕ → ℕ → Option ℕ
-wrongLength atoms count = cond (eqb count atoms) none (some count)
 
 -- refusal 11, here for values 0 and 3 too
 abbrev pub notOneValue : ℕ → Bool

@@ -1,6 +1,9 @@
 -- Atom numbers (01, "Atoms and values"), over n fluents and m actions.
 -- Assumes nothing.
+use mathlib.Core.Bool.{cond}
+use mathlib.Core.Option.{Option, none, some}
 use Prim.Native.Nat.{ℕ, _+_, _*_}
+use lib.Dec.{eqb}
 
 -- fluent f at time t, for t from 0 to T
 abbrev pub fluentAtom : ℕ → ℕ → ℕ → ℕ → ℕ
@@ -13,3 +16,7 @@ actionAtom n m t k = t * (n + m) + n + k
 -- how many atoms there are for horizon T
 abbrev pub atomCount : ℕ → ℕ → ℕ → ℕ
 atomCount n m T = T * (n + m) + n
+
+-- refusal 10 of a history: not as many values as atoms, place their number
+abbrev pub wrongLength : ℕ → ℕ → Option ℕ
+wrongLength atoms count = cond (eqb count atoms) none (some count)

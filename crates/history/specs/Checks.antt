@@ -1,6 +1,5 @@
 -- What the history check answers and leaves in the lent table: missing, or what the engine says of the words just written.
 -- Assumes nothing.
-use mathlib.Core.Bool.{Bool, true, false, cond}
 use mathlib.Core.List.{List}
 use mathlib.Core.Option.{Option, none, some}
 use Prim.Native.Nat.{ℕ}
@@ -11,7 +10,7 @@ use Rattle.answer_sets.specs.Verdicts.{Verdict, clash, broken, unfounded, passe
 use Rattle.answer_sets.specs.Answers as engine
 use Rattle.description.specs.declared.Law.{Law}
 use Rattle.description.specs.declared.Description.{Description}
-use Rattle.description.specs.Atoms.{atomCount}
+use Rattle.description.specs.Atoms.{wrongLength}
 use Rattle.translation.specs.Translated as translated
 use Rattle.history.specs.declared.Checked.{Checked}
 use Rattle.history.specs.declared.Checked.the-variants.{Refused, Missing, Clash, Broken, Unfounded, Passes}
@@ -38,10 +37,6 @@ orRefuse none number next = next
 abbrev pub orMissing : Option ℕ → Reply → Reply
 orMissing (some atom) next = missing atom
 orMissing none next = next
-
--- refusal 10: not the number of atoms, place their length
-abbrev pub wrongLength : ℕ → ℕ → Option ℕ
-wrongLength atoms count = cond (eqb count atoms) none (some count)
 
 abbrev pub ofEngine : engine.Reply → Reply
 ofEngine (engine.refused number place) = refused number place
