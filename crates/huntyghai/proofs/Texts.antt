@@ -13,7 +13,7 @@ use Rattle.causal.specs.Readings as causal
 use Rattle.text.specs.Descriptions.{Outcome, turned, read, described, descriptionOf}
 use Rattle.text.specs.Answers.{Reply, refused, behind, replied, recordOf, lawsLeft}
 use Rattle.text.specs.Histories.{Recorded, rejected, values, leftIn, HistoryReply, turnedDown, complete, historyReplied}
-use Rattle.lent_laws.specs.Gathered.{noLaws}
+use Rattle.law_runs.specs.Runs.{noLaws}
 use Rattle.inputs.specs.Inputs.{recordedIn}
 use Rattle.inputs.proofs.Known.{turned-down}
 use Rattle.report.specs.Output.{lawsRead}

@@ -37,7 +37,7 @@ pub extern "C" fn huntyghai_translate(text: &[u8], table: &mut [u16]) -> u64
     ensures { λ r. ⌜ r ≡ translatedText (now (text .entry)) (length (now (table .entry))) ⌝ }
     ensures { λ _. ⌜ now (table .exit) ≡ tableOfText (now (text .entry)) (now (table .entry)) ⌝ }
 {
-    let run = lent_laws::read_run(text, lent_laws::no_laws());
+    let run = held_laws::read_run(text, law_runs::no_laws());
     let read = run.read;
     let answer = read.answer;
     match answer {
@@ -65,7 +65,7 @@ pub extern "C" fn huntyghai_check_history(text: &[u8], values: &[u8], table: &mu
     ensures { λ r. ⌜ r ≡ checkedText (now (text .entry)) (now (values .entry)) (length (now (table .entry))) ⌝ }
     ensures { λ _. ⌜ now (table .exit) ≡ tableOfCheck (now (text .entry)) (now (values .entry)) (now (table .entry)) ⌝ }
 {
-    let run = lent_laws::read_run(text, lent_laws::no_laws());
+    let run = held_laws::read_run(text, law_runs::no_laws());
     let read = run.read;
     let answer = read.answer;
     match answer {

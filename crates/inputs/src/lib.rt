@@ -10,7 +10,7 @@ ghost use Rattle.description.specs.Atoms.{atomCount};
 ghost use Rattle.text.specs.Descriptions.{described};
 ghost use Rattle.text.specs.Answers.{recordOf, lawsLeft};
 ghost use Rattle.text.specs.Histories.{historyReplyOf, historyReplied, leftIn};
-ghost use Rattle.lent_laws.specs.Gathered.{noLaws};
+ghost use Rattle.law_runs.specs.Runs.{noLaws};
 ghost use Rattle.inputs.specs.Inputs.{movedUp, recordedIn};
 
 // Room for the values of the most atoms.
@@ -62,7 +62,7 @@ pub fn read_input(input: &[u8]) -> Input
     ensures { λ r. ⌜ drop (r .atoms) (r .values) ≡ replicate (1024 - r .atoms) 0 ⌝ }
     ensures { λ r. ⌜ (r .atoms ≤ 1024) × (length (r .values) ≡ 1024) ⌝ }
 {
-    let run = lent_laws::read_run(input, lent_laws::no_laws());
+    let run = held_laws::read_run(input, law_runs::no_laws());
     let read = run.read;
     let laws = run.laws;
     let answer = read.answer;

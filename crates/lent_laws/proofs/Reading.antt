@@ -19,8 +19,10 @@ use Rattle.text.specs.Lines.{horizonKey, fluentKey, actionKey, staticKey, dynam
 use Rattle.text.specs.Lists.{Listed, refused, codes, listOf}
 use Rattle.text.specs.Descriptions.{Due, horizonDue, firstFluentDue, fluentDue, actionDue, lawDue, ifDue, afterDue, Draft, allowed, Step, refuse, next, finish, horizonOf, horizonLine, isNew, headOf, begun, lawLine, withIf, ifLine, afterLine, endLine, byKey, lineStep, Outcome, turned, read, afterStep, afterFirst, linesFrom, blank, described}
 use Rattle.text.specs.Answers.{recordOf, lawsLeft}
-use Rattle.lent_laws.specs.Gathered.{past, noLaws, stored, gathered, scattered}
-use Rattle.lent_laws.proofs.Gathered.{none-stored, length-stored, scattered-is}
+use Rattle.description.specs.Laws.{noLaw}
+use Rattle.law_runs.specs.Runs.{noLaws}
+use Rattle.law_runs.specs.Internal.{stored, gathered, scattered}
+use Rattle.law_runs.proofs.Stored.{none-stored, length-stored, scattered-is}
 
 -- the laws begun and not yet counted where something is due
 abbrev open-laws : Due → ℕ
@@ -147,7 +149,7 @@ module _ (lent : ℕ) where
 
 gathered-64 : (ls : List Law) → length (gathered ls) ≡ 64
 unfolding noLaws
-gathered-64 ls = length-stored 64 ls noLaws ∙ length-replicate 64 past
+gathered-64 ls = length-stored 64 ls noLaws ∙ length-replicate 64 noLaw
 
 -- what was left in the gathered run, stored back into the run itself
 scattered-left : (ls : List Law) (o : Outcome) → Fits (min 64 (length ls)) o → scattered (recordOf o .laws) (lawsLeft o (gathered ls)) ls ≡ lawsLeft o ls

@@ -13,7 +13,7 @@ use Rattle.translation.specs.Translated.{outcome}
 use Rattle.text.specs.Descriptions.{Outcome, turned, read, described}
 use Rattle.text.specs.Answers.{recordOf, lawsLeft}
 use Rattle.text.specs.Histories.{Recorded, rejected, values, leftIn, HistoryReply, turnedDown, complete, historyReplied}
-use Rattle.lent_laws.specs.Gathered.{noLaws}
+use Rattle.law_runs.specs.Runs.{noLaws}
 use Rattle.inputs.specs.Inputs.{recordedIn}
 use Rattle.report.specs.Output.{refusal, room, afterOutcome, lawsRead, afterInput, output}
 use Rattle.report.proofs.Stores.{Wrote}

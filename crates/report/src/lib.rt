@@ -37,7 +37,7 @@ fn put_outcome(
         Translated::Refused(number, place) => answers::put_refusal(out, 0, number, place),
         Translated::Written(atoms, rules, words) => {
             let mut table = no_table();
-            let judged = lent_laws::judge(d, laws, values, &mut table);
+            let judged = held_laws::judge(d, laws, values, &mut table);
             let checked = judged.checked;
             let reading = judged.reading;
             let counts = Counts {

@@ -51,19 +51,19 @@ use Rattle.text.proofs.read_description.Symbol as core-def
 use Rattle.text.proofs.read_description.Symbol.{name as #core}
 use Rattle.text.proofs.read_description.Met as core-thm
 use Rattle.lent_laws.specs.declared.Read.{Read}
-use Rattle.lent_laws.specs.Gathered.{gathered, scattered}
+use Rattle.law_runs.specs.Internal.{gathered, scattered}
 use Rattle.lent_laws.proofs.Read as S
 use Rattle.lent_laws.proofs.Read.Laws as S′
 use Rattle.lent_laws.proofs.Reading.{left-stored}
-use Rattle.lent_laws.proofs.Walking.{walk-shows}
-use Rattle.lent_laws.proofs.Answers.{answers, both-said, and-said, says-both, ends-saying}
-use Rattle.lent_laws.proofs.Records.{Run, run-typed, run-makes}
+use Rattle.law_runs.proofs.Walking.{walk-shows}
+use Rattle.law_runs.proofs.Answers.{answers, both-said, and-said, says-both, ends-saying}
+use Rattle.law_runs.proofs.Records.{Run, run-typed, run-makes}
 use Rattle.lent_laws.proofs.Gathering.{parted, rejoined, Gather}
 use Rattle.lent_laws.proofs.Lending.{Lender, Loan, Kept, lends-shared, comes-back}
-use Rattle.lent_laws.proofs.gather as gather
-use Rattle.lent_laws.proofs.gather.Symbol as gather-def
-use Rattle.lent_laws.proofs.gather.Symbol.{name as #gather}
-use Rattle.lent_laws.proofs.gather.Met as gather-thm
+use Rattle.law_runs.proofs.gather as gather
+use Rattle.law_runs.proofs.gather.Symbol as gather-def
+use Rattle.law_runs.proofs.gather.Symbol.{name as #gather}
+use Rattle.law_runs.proofs.gather.Met as gather-thm
 use Rattle.lent_laws.proofs.run_of as run-of
 use Rattle.lent_laws.proofs.run_of.Symbol as run-of-def
 use Rattle.lent_laws.proofs.run_of.Symbol.{name as #run-of}
@@ -72,10 +72,10 @@ use Rattle.lent_laws.proofs.count_of as count-of
 use Rattle.lent_laws.proofs.count_of.Symbol as count-of-def
 use Rattle.lent_laws.proofs.count_of.Symbol.{name as #count-of}
 use Rattle.lent_laws.proofs.count_of.Met as count-of-thm
-use Rattle.lent_laws.proofs.scatter as scatter
-use Rattle.lent_laws.proofs.scatter.Symbol as scatter-def
-use Rattle.lent_laws.proofs.scatter.Symbol.{name as #scatter}
-use Rattle.lent_laws.proofs.scatter.Met as scatter-thm
+use Rattle.law_runs.proofs.scatter as scatter
+use Rattle.law_runs.proofs.scatter.Symbol as scatter-def
+use Rattle.law_runs.proofs.scatter.Symbol.{name as #scatter}
+use Rattle.law_runs.proofs.scatter.Met as scatter-thm
 use Rattle.lent_laws.proofs.answered as answered
 use Rattle.lent_laws.proofs.answered.Symbol as answered-def
 use Rattle.lent_laws.proofs.answered.Symbol.{name as #answered}
@@ -292,10 +292,10 @@ read-description-spec 𝓤 H 𝓜 𝓖 𝓡 =
     (tables 𝓤 H 𝓜 𝓡 code.env .C) (tables 𝓤 H 𝓜 𝓡 code.env .Λ) #self code.function (code.unfolded 𝓤 H 𝓜 𝓡)
     (meets 𝓤 H (𝓖 .A) (givenOf 𝓤 H 𝓜 𝓖) (𝓜 .mem) (𝓡 .run) (tablesOf 𝓤 H 𝓜 (tables 𝓤 H 𝓜 𝓡 code.env))
     (record {
-      to-gather = cited 𝓤 H (Gather 𝓤 H (𝓖 .A) (𝓜 .mem) (𝓡 .run)) 𝓜 𝓡 code.env #gather gather-def.routine code.calls-lent-laws·gather (gather-thm.met 𝓤 H 𝓜 𝓖 𝓡);
+      to-gather = cited 𝓤 H (Gather 𝓤 H (𝓖 .A) (𝓜 .mem) (𝓡 .run)) 𝓜 𝓡 code.env #gather gather-def.routine code.calls-law-runs·gather (gather-thm.met 𝓤 H 𝓜 𝓖 𝓡);
       to-core = cited 𝓤 H (Core 𝓤 H (𝓖 .A) (𝓜 .mem) (𝓡 .run)) 𝓜 𝓡 code.env #core core-def.routine code.calls-text·read-description (core-thm.met 𝓤 H 𝓜 𝓖 𝓡);
       to-run = cited 𝓤 H (RunOf 𝓤 H (𝓖 .A) (𝓜 .mem) (𝓡 .run)) 𝓜 𝓡 code.env #run-of run-of-def.routine code.calls-lent-laws·run-of (run-of-thm.met 𝓤 H 𝓜 𝓖 𝓡);
       to-count = cited 𝓤 H (CountOf 𝓤 H (𝓖 .A) (𝓜 .mem) (𝓡 .run)) 𝓜 𝓡 code.env #count-of count-of-def.routine code.calls-lent-laws·count-of (count-of-thm.met 𝓤 H 𝓜 𝓖 𝓡);
-      to-scatter = cited 𝓤 H (Scatter 𝓤 H (𝓖 .A) (𝓜 .mem) (𝓡 .run)) 𝓜 𝓡 code.env #scatter scatter-def.routine code.calls-lent-laws·scatter (scatter-thm.met 𝓤 H 𝓜 𝓖 𝓡);
+      to-scatter = cited 𝓤 H (Scatter 𝓤 H (𝓖 .A) (𝓜 .mem) (𝓡 .run)) 𝓜 𝓡 code.env #scatter scatter-def.routine code.calls-law-runs·scatter (scatter-thm.met 𝓤 H 𝓜 𝓖 𝓡);
       to-answered = cited 𝓤 H (Answered 𝓤 H (𝓖 .A) (𝓜 .mem) (𝓡 .run)) 𝓜 𝓡 code.env #answered answered-def.routine code.calls-lent-laws·answered (answered-thm.met 𝓤 H 𝓜 𝓖 𝓡);
     }))
