@@ -19,7 +19,7 @@ use Rattle.history.specs.Checks as history
 use Rattle.history.proofs.Checked.{the-type}
 use Rattle.causal.specs.Readings as causal
 use Rattle.answer_sets.specs.Verdicts.{clash, broken, unfounded, passes}
-use Rattle.report.specs.Writing.{line, decimal, answerWord, missingWord, atWord}
+use Rattle.report.specs.Writing.{outputLine, decimal, answerWord, missingWord, atWord}
 use Rattle.report.specs.Output.{noCausal, verdictLines, readingLines, checkedLines, room, afterOutcome}
 
 pub counts-front : (input counts : List ℕ) (r : Checked) (reply : causal.Reply) → OneOf (1 ∷ 2 ∷ 3 ∷ 4 ∷ 5 ∷ []) (tagOf the-type r)
@@ -27,9 +27,9 @@ pub counts-front : (input counts : List ℕ) (r : Checked) (reply : causal.Reply
 counts-front input counts (Refused number place) reply h =
     absurd (⊎-elim (λ z. omega arith) (⊎-elim (λ z. omega arith) (⊎-elim (λ z. omega arith) (⊎-elim (λ z. omega arith) (λ z. omega arith)))) h)
 counts-front input counts (Missing a) reply h =
-    append-assoc (counts ++ line answerWord missingWord) (line atWord (decimal a)) noCausal
-    ∙ append-assoc counts (line answerWord missingWord) (line atWord (decimal a) ++ noCausal)
-    ∙ ap (λ xs. counts ++ xs) (sym (append-assoc (line answerWord missingWord) (line atWord (decimal a)) noCausal))
+    append-assoc (counts ++ outputLine answerWord missingWord) (outputLine atWord (decimal a)) noCausal
+    ∙ append-assoc counts (outputLine answerWord missingWord) (outputLine atWord (decimal a) ++ noCausal)
+    ∙ ap (λ xs. counts ++ xs) (sym (append-assoc (outputLine answerWord missingWord) (outputLine atWord (decimal a)) noCausal))
 counts-front input counts (Clash a) reply h = append-assoc counts (verdictLines (clash a)) noCausal
 counts-front input counts (Broken k) reply h = append-assoc counts (verdictLines (broken k)) (readingLines input reply)
 counts-front input counts (Unfounded k) reply h = append-assoc counts (verdictLines (unfounded k)) (readingLines input reply)

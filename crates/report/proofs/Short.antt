@@ -24,7 +24,7 @@ use Rattle.text.specs.Histories.{Recorded, rejected, values}
 use Rattle.text.specs.Shown.{fluentName, shownBy, shownFluent}
 use Rattle.inputs.specs.Inputs.{recordedIn}
 use Rattle.inputs.proofs.Drafts.{Short, chosen, TakenIn, taken}
-use Rattle.report.specs.Writing.{line, placesIn, decimal, horizonWord, atomsWord, rulesWord, wordsWord, answerWord, atWord, causalWord, timeWord, itemWord, refusedWord, placeWord}
+use Rattle.report.specs.Writing.{outputLine, placesIn, decimal, horizonWord, atomsWord, rulesWord, wordsWord, answerWord, atWord, causalWord, timeWord, itemWord, refusedWord, placeWord}
 use Rattle.report.specs.Writing.{passesWord, missingWord, clashWord, brokenWord, unfoundedWord, noneWord, pathWord, contradictedWord, uncausedWord}
 use Rattle.report.specs.Output.{refusal, verdictLines, causalLines, noCausal, readingLines, causalAfter, countLines, checkedLines, room, afterOutcome, lawsRead, afterInput, output}
 
@@ -44,26 +44,26 @@ decimal-short n = omega (arith, digits-long (placesIn 19 n) n, places-few 19 n)
 
 -- lines
 
-line-long : (key value : List ℕ) → length (line key value) ≡ length key + length value + 2
+line-long : (key value : List ℕ) → length (outputLine key value) ≡ length key + length value + 2
 line-long key value =
     let a = length-append (key ++ (61 ∷ []) ++ value) (10 ∷ []) in
     let b = length-append (key ++ (61 ∷ [])) value in
     let c = length-append key (61 ∷ []) in
     omega arith
 
-number-short : (key : List ℕ) (n : ℕ) → length (line key (decimal n)) ≤ length key + 22
+number-short : (key : List ℕ) (n : ℕ) → length (outputLine key (decimal n)) ≤ length key + 22
 number-short key n = omega (arith, line-long key (decimal n), decimal-short n)
 
 refusal-short : (number place : ℕ) → length (refusal number place) ≤ 400
 refusal-short number place =
-    omega (arith, length-append (line refusedWord (decimal number)) (line placeWord (decimal place)), number-short refusedWord number, number-short placeWord place)
+    omega (arith, length-append (outputLine refusedWord (decimal number)) (outputLine placeWord (decimal place)), number-short refusedWord number, number-short placeWord place)
 
 counts-short : (T atoms rules words : ℕ) → length (countLines T atoms rules words) ≤ 120
 counts-short T atoms rules words =
-    let a = line horizonWord (decimal T) in
-    let b = line atomsWord (decimal atoms) in
-    let c = line rulesWord (decimal rules) in
-    let d = line wordsWord (decimal words) in
+    let a = outputLine horizonWord (decimal T) in
+    let b = outputLine atomsWord (decimal atoms) in
+    let c = outputLine rulesWord (decimal rules) in
+    let d = outputLine wordsWord (decimal words) in
     omega (
       arith,
       length-append (a ++ b ++ c) d,
@@ -75,12 +75,12 @@ counts-short T atoms rules words =
       number-short wordsWord words,
     )
 
-two-short : (word : List ℕ) (n : ℕ) → length word ≤ 20 → length (line answerWord word ++ line atWord (decimal n)) ≤ 60
+two-short : (word : List ℕ) (n : ℕ) → length word ≤ 20 → length (outputLine answerWord word ++ outputLine atWord (decimal n)) ≤ 60
 two-short word n short =
-    omega (arith, length-append (line answerWord word) (line atWord (decimal n)), line-long answerWord word, number-short atWord n)
+    omega (arith, length-append (outputLine answerWord word) (outputLine atWord (decimal n)), line-long answerWord word, number-short atWord n)
 
 verdict-short : (v : Verdict) → length (verdictLines v) ≤ 60
-verdict-short passes = omega (arith, length-append (line answerWord passesWord) (line atWord []), line-long answerWord passesWord, line-long atWord [])
+verdict-short passes = omega (arith, length-append (outputLine answerWord passesWord) (outputLine atWord []), line-long answerWord passesWord, line-long atWord [])
 verdict-short (clash a) = two-short clashWord a (omega arith)
 verdict-short (broken r) = two-short brokenWord r (omega arith)
 verdict-short (unfounded c) = two-short unfoundedWord c (omega arith)
@@ -99,11 +99,11 @@ unfolding shownFluent
 shown-short input f = name-short (described 64 input) input f (taken input)
 
 three-short : (word time item : List ℕ) → length word ≤ 20 → length time ≤ 20 → length item ≤ 20
-    → length (line causalWord word ++ line timeWord time ++ line itemWord item) ≤ 100
+    → length (outputLine causalWord word ++ outputLine timeWord time ++ outputLine itemWord item) ≤ 100
 three-short word time item a b c =
-    let x = line causalWord word in
-    let y = line timeWord time in
-    let z = line itemWord item in
+    let x = outputLine causalWord word in
+    let y = outputLine timeWord time in
+    let z = outputLine itemWord item in
     omega (arith, length-append (x ++ y) z, length-append x y, line-long causalWord word, line-long timeWord time, line-long itemWord item)
 
 causal-short : (input : List ℕ) (v : Causal) → length (causalLines input v) ≤ 100
@@ -129,8 +129,8 @@ after-short input passes r = reading-short input r
 checked-short : (input counts : List ℕ) (c : history.Reply) (r : causal.Reply) → length counts ≤ 120 → length (checkedLines input counts c r) ≤ 400
 checked-short input counts (history.refused number place) r h = refusal-short number place
 checked-short input counts (history.missing a) r h =
-    let x = line answerWord missingWord in
-    let y = line atWord (decimal a) in
+    let x = outputLine answerWord missingWord in
+    let y = outputLine atWord (decimal a) in
     omega
     (arith, length-append (counts ++ x ++ y) noCausal, length-append (counts ++ x) y, length-append counts x, line-long answerWord missingWord, number-short atWord a, none-short)
 checked-short input counts (history.judged v) r h =

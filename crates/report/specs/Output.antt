@@ -14,29 +14,29 @@ use Rattle.text.specs.Answers.{recordOf}
 use Rattle.text.specs.Histories.{Recorded, rejected, values}
 use Rattle.inputs.specs.Inputs.{recordedIn}
 use Rattle.text.specs.Shown.{shownFluent}
-use Rattle.report.specs.Writing.{line, decimal, horizonWord, atomsWord, rulesWord, wordsWord, answerWord, atWord, causalWord, timeWord, itemWord, refusedWord, placeWord}
+use Rattle.report.specs.Writing.{outputLine, decimal, horizonWord, atomsWord, rulesWord, wordsWord, answerWord, atWord, causalWord, timeWord, itemWord, refusedWord, placeWord}
 use Rattle.report.specs.Writing.{passesWord, missingWord, clashWord, brokenWord, unfoundedWord, noneWord, pathWord, contradictedWord, uncausedWord}
 
 -- a refusal prints its number and place only
 abbrev pub refusal : ℕ → ℕ → List ℕ
-refusal number place = line refusedWord (decimal number) ++ line placeWord (decimal place)
+refusal number place = outputLine refusedWord (decimal number) ++ outputLine placeWord (decimal place)
 
 -- the verdict and its number, which is empty for passes
 abbrev pub verdictLines : Verdict → List ℕ
-verdictLines passes = line answerWord passesWord ++ line atWord []
-verdictLines (clash a) = line answerWord clashWord ++ line atWord (decimal a)
-verdictLines (broken r) = line answerWord brokenWord ++ line atWord (decimal r)
-verdictLines (unfounded c) = line answerWord unfoundedWord ++ line atWord (decimal c)
+verdictLines passes = outputLine answerWord passesWord ++ outputLine atWord []
+verdictLines (clash a) = outputLine answerWord clashWord ++ outputLine atWord (decimal a)
+verdictLines (broken r) = outputLine answerWord brokenWord ++ outputLine atWord (decimal r)
+verdictLines (unfounded c) = outputLine answerWord unfoundedWord ++ outputLine atWord (decimal c)
 
 -- the causal verdict, its time and its item: a law's number or a fluent's name as declared
 abbrev pub causalLines : List ℕ → Causal → List ℕ
-causalLines input path = line causalWord pathWord ++ line timeWord [] ++ line itemWord []
-causalLines input (contradicted t l) = line causalWord contradictedWord ++ line timeWord (decimal t) ++ line itemWord (decimal l)
-causalLines input (uncaused t f) = line causalWord uncausedWord ++ line timeWord (decimal t) ++ line itemWord (shownFluent input f)
+causalLines input path = outputLine causalWord pathWord ++ outputLine timeWord [] ++ outputLine itemWord []
+causalLines input (contradicted t l) = outputLine causalWord contradictedWord ++ outputLine timeWord (decimal t) ++ outputLine itemWord (decimal l)
+causalLines input (uncaused t f) = outputLine causalWord uncausedWord ++ outputLine timeWord (decimal t) ++ outputLine itemWord (shownFluent input f)
 
 -- no causal verdict after missing or clash
 abbrev pub noCausal : List ℕ
-noCausal = line causalWord noneWord ++ line timeWord [] ++ line itemWord []
+noCausal = outputLine causalWord noneWord ++ outputLine timeWord [] ++ outputLine itemWord []
 
 -- the reading of an accepted history that has one value for each atom is never a refusal
 abbrev pub readingLines : List ℕ → causal.Reply → List ℕ
@@ -51,12 +51,12 @@ causalAfter input passes reply = readingLines input reply
 
 abbrev pub countLines : ℕ → ℕ → ℕ → ℕ → List ℕ
 countLines T atoms rules words =
-    line horizonWord (decimal T) ++ line atomsWord (decimal atoms) ++ line rulesWord (decimal rules) ++ line wordsWord (decimal words)
+    outputLine horizonWord (decimal T) ++ outputLine atomsWord (decimal atoms) ++ outputLine rulesWord (decimal rules) ++ outputLine wordsWord (decimal words)
 
 -- the nine lines, or a refusal
 abbrev pub checkedLines : List ℕ → List ℕ → history.Reply → causal.Reply → List ℕ
 checkedLines input counts (history.refused number place) reply = refusal number place
-checkedLines input counts (history.missing a) reply = counts ++ line answerWord missingWord ++ line atWord (decimal a) ++ noCausal
+checkedLines input counts (history.missing a) reply = counts ++ outputLine answerWord missingWord ++ outputLine atWord (decimal a) ++ noCausal
 checkedLines input counts (history.judged v) reply = counts ++ verdictLines v ++ causalAfter input v reply
 
 -- room for the largest table

@@ -1,4 +1,4 @@
--- The outputs that 01 prints.
+-- What is printed for the full recipe, for M1, M2 and M4, and for an input with an empty line behind its end.
 -- Assumes nothing.
 use mathlib.Core.Path.{_≡_, refl}
 use mathlib.Core.List.{List, [], _∷_, _++_}
@@ -21,9 +21,9 @@ use Rattle.text.specs.Histories as histories
 use Rattle.text.specs.Shown.{shownFluent}
 use Rattle.text.specs.Examples.{recipeText, historyText}
 use Rattle.inputs.specs.Inputs.{recordedIn}
 use Rattle.report.specs.Writing.{decimal}
 use Rattle.report.specs.Output.{output}
-use Rattle.report.specs.Examples.{passedOutput, m1Text, m1Output, m2Text, m2Output, m4Text, m4Output, refusedOutput}
+use Rattle.report_examples.specs.Examples.{passedOutput, m1Text, m1Output, m2Text, m2Output, m4Text, m4Output, refusedOutput}
 
 pub outputs : (output (recipeText ++ historyText) ≡ passedOutput)
     × (output (recipeText ++ m1Text) ≡ m1Output)
