@@ -1,4 +1,5 @@
--- Answers as numbers: a code, and 256 times a value (include/huntyghai.h has the same table).
+-- Answers as numbers: a code, and 256 times a value (include/huntyghai.h has the same table). A refusal's code is its number, 1 to
+-- 63; every other answer has a code above those.
 -- Assumes nothing.
 use Prim.Native.Nat.{ℕ, _+_, _*_, _%_}
 use Rattle.answer_sets.specs.Verdicts.{Verdict, clash, broken, unfounded, passes}
@@ -18,10 +19,10 @@ unfoldable pub pair : ℕ → ℕ → ℕ
 pair high low = high % 65536 * 65536 + low % 65536
 
 abbrev pub verdictCode : Verdict → ℕ
-verdictCode passes = coded 16 0
-verdictCode (clash atom) = coded 17 atom
-verdictCode (broken rule) = coded 18 rule
-verdictCode (unfounded code) = coded 19 code
+verdictCode passes = coded 64 0
+verdictCode (clash atom) = coded 65 atom
+verdictCode (broken rule) = coded 66 rule
+verdictCode (unfounded code) = coded 67 code
 
 abbrev pub answerCode : engine.Reply → ℕ
 answerCode (engine.refused number place) = coded number place
@@ -29,13 +30,13 @@ answerCode (engine.judged v) = verdictCode v
 
 abbrev pub checkedCode : history.Reply → ℕ
 checkedCode (history.refused number place) = coded number place
-checkedCode (history.missing atom) = coded 20 atom
+checkedCode (history.missing atom) = coded 68 atom
 checkedCode (history.judged v) = verdictCode v
 
 abbrev pub causalCode : Causal → ℕ
-causalCode path = coded 32 0
-causalCode (contradicted time law) = coded 33 (pair time law)
-causalCode (uncaused time fluent) = coded 34 (pair time fluent)
+causalCode path = coded 80 0
+causalCode (contradicted time law) = coded 81 (pair time law)
+causalCode (uncaused time fluent) = coded 82 (pair time fluent)
 
 abbrev pub readingCode : causal.Reply → ℕ
 readingCode (causal.refused number place) = coded number place
@@ -43,8 +44,8 @@ readingCode (causal.judged v) = causalCode v
 
 abbrev pub outcomeCode : translated.Outcome → ℕ
 outcomeCode (translated.refused number place) = coded number place
-outcomeCode (translated.written atoms rules words) = coded 48 (words % 65536 * 4294967296 + pair rules atoms)
+outcomeCode (translated.written atoms rules words) = coded 96 (words % 65536 * 4294967296 + pair rules atoms)
 
 abbrev pub historyCode : HistoryReply → ℕ
 historyCode (turnedDown number place) = coded number place
-historyCode complete = coded 64 0
+historyCode complete = coded 112 0

@@ -1,4 +1,4 @@
-// Answers as numbers.
+// Answers as numbers. Codes 1 to 63 are the refusals of that number; every other answer has a code above them.
 use answer_sets::Answer;
 use causal::Reading;
 use history::Checked;
@@ -33,10 +33,10 @@ pub(crate) fn of_answer(answer: Answer) -> u64
 {
     match answer {
         Answer::Refused(k, place) => number(k, place),
-        Answer::Clash(atom) => number(17, atom),
-        Answer::Broken(rule) => number(18, rule),
-        Answer::Unfounded(code) => number(19, code),
-        Answer::Passes => number(16, 0),
+        Answer::Clash(atom) => number(65, atom),
+        Answer::Broken(rule) => number(66, rule),
+        Answer::Unfounded(code) => number(67, code),
+        Answer::Passes => number(64, 0),
     }
 }
 
@@ -45,11 +45,11 @@ pub(crate) fn of_checked(checked: Checked) -> u64
 {
     match checked {
         Checked::Refused(k, place) => number(k, place),
-        Checked::Missing(atom) => number(20, atom),
-        Checked::Clash(atom) => number(17, atom),
-        Checked::Broken(rule) => number(18, rule),
-        Checked::Unfounded(code) => number(19, code),
-        Checked::Passes => number(16, 0),
+        Checked::Missing(atom) => number(68, atom),
+        Checked::Clash(atom) => number(65, atom),
+        Checked::Broken(rule) => number(66, rule),
+        Checked::Unfounded(code) => number(67, code),
+        Checked::Passes => number(64, 0),
     }
 }
 
@@ -58,9 +58,9 @@ pub(crate) fn of_reading(reading: Reading) -> u64
 {
     match reading {
         Reading::Refused(k, place) => number(k, place),
-        Reading::Contradicted(time, law) => number(33, both(time, law)),
-        Reading::Uncaused(time, fluent) => number(34, both(time, fluent)),
-        Reading::Path => number(32, 0),
+        Reading::Contradicted(time, law) => number(81, both(time, law)),
+        Reading::Uncaused(time, fluent) => number(82, both(time, fluent)),
+        Reading::Path => number(80, 0),
     }
 }
 
@@ -70,7 +70,7 @@ pub(crate) fn of_translated(translated: Translated) -> u64
     match translated {
         Translated::Refused(k, place) => number(k, place),
         Translated::Written(atoms, rules, words) => {
-            number(48, words % 65536 * 4294967296 + both(rules, atoms))
+            number(96, words % 65536 * 4294967296 + both(rules, atoms))
         }
     }
 }
@@ -80,6 +80,6 @@ pub(crate) fn of_history(said: HistoryAnswer) -> u64
 {
     match said {
         HistoryAnswer::Refused(k, place) => number(k, place),
-        HistoryAnswer::Complete => number(64, 0),
+        HistoryAnswer::Complete => number(112, 0),
     }
 }
