@@ -12,11 +12,12 @@ use lib.Dec.{eqb, ltb}
 use lib.ListN.{length, getD, List·getD-eq-default}
 use borrow.Author.Tests.{ltb-true, ltb-false, le-ltb}
 use Rattle.search.specs.Search.{Each, Lowest, Nowhere}
+use Rattle.search.specs.Replies.{Reply, refused, answered}
 use Rattle.answer_sets.specs.Literals.{setOf, holdsTrue, holdsFalse}
 use Rattle.answer_sets.specs.AnswerSets.{reduct, AnswerSet, literalHeaded, IsLeastClosed}
 use Rattle.answer_sets.specs.Verdicts.{Verdict, clash, broken, unfounded, passes, rounds, verdict}
 use Rattle.answer_sets.specs.Words.{rulesOf, badRule}
-use Rattle.answer_sets.specs.Answers.{Reply, refused, judged, tooManyValues, badValue, answer}
+use Rattle.answer_sets.specs.Answers.{tooManyValues, badValue, answer}
 use Rattle.answer_sets.specs.Examples.{program11, answerSets11, allValues, isPass, passing}
 use Rattle.search.proofs.Tests.{true-or-false, not-both, none-first, each-at, each-map}
 use Rattle.search.proofs.Lists.{chosen-iff, tuples-all}
@@ -42,28 +43,28 @@ setOf-below vs c e = ⊎-elim (λ t. omega (arith, ltb-true (c / 2) (length vs) 
     past f = let out : getD vs (c / 2) 0 ≡ 0 = List·getD-eq-default vs 0 (ltb-false (c / 2) (length vs) f) in
         absurd (not-both (rw out at e) (neither (eqb (c % 2) 0)))
 
-pub accepted-judged : (vs ws : List ℕ) → Accepted vs ws → answer vs ws ≡ judged (verdict (length vs) (rulesOf ws) (setOf vs))
+pub accepted-judged : (vs ws : List ℕ) → Accepted vs ws → answer vs ws ≡ answered (verdict (length vs) (rulesOf ws) (setOf vs))
 unfolding answer
 accepted-judged vs ws h = rw (h .0, h .1, h .2)
 
 module _ (vs ws : List ℕ) (accepted : Accepted vs ws) where
-  judges-iff : (v : Verdict) → answer vs ws ≡ judged v ↔ verdict (length vs) (rulesOf ws) (setOf vs) ≡ v
+  judges-iff : (v : Verdict) → answer vs ws ≡ answered v ↔ verdict (length vs) (rulesOf ws) (setOf vs) ≡ v
   judges-iff v = let e = accepted-judged vs ws accepted in (λ a. cc, λ a. cc)
 
   heads-below : HeadsBelow (2 * length vs) (rulesOf ws)
   heads-below = codes-heads (2 * length vs) (rulesOf ws) (accepted-below (length vs) ws (accepted .2))
 
-  pub passes-exactly : answer vs ws ≡ judged passes ↔ AnswerSet (rulesOf ws) (setOf vs)
+  pub passes-exactly : answer vs ws ≡ answered passes ↔ AnswerSet (rulesOf ws) (setOf vs)
   passes-exactly = Iff·trans (judges-iff passes) (passes-iff (length vs) (rulesOf ws) (setOf vs) heads-below (setOf-below vs))
 
-  pub clash-exactly : (a : ℕ) → answer vs ws ≡ judged (clash a) ↔ Lowest (Clashing (setOf vs)) (length vs) a
+  pub clash-exactly : (a : ℕ) → answer vs ws ≡ answered (clash a) ↔ Lowest (Clashing (setOf vs)) (length vs) a
   clash-exactly a = Iff·trans (judges-iff (clash a)) (clash-iff (length vs) (rulesOf ws) (setOf vs) a)
 
-  pub broken-exactly : (r : ℕ) → answer vs ws ≡ judged (broken r)
+  pub broken-exactly : (r : ℕ) → answer vs ws ≡ answered (broken r)
       ↔ (Nowhere (Clashing (setOf vs)) (length vs) × Lowest (BrokenAt (rulesOf ws) (setOf vs)) (length (rulesOf ws)) r)
   broken-exactly r = Iff·trans (judges-iff (broken r)) (broken-iff (length vs) (rulesOf ws) (setOf vs) r)
 
-  pub unfounded-exactly : (c : ℕ) → answer vs ws ≡ judged (unfounded c)
+  pub unfounded-exactly : (c : ℕ) → answer vs ws ≡ answered (unfounded c)
       ↔ (Nowhere (Clashing (setOf vs)) (length vs)
       × Nowhere (BrokenAt (rulesOf ws) (setOf vs)) (length (rulesOf ws))
       × Lowest (Unfounded (rulesOf ws) (setOf vs)) (2 * length vs) c)
@@ -82,11 +83,11 @@ byte (suc (suc zero)) b = List·Memᴰ·tail (List·Memᴰ·tail (List·Memᴰ·
 byte (suc (suc (suc zero))) b = List·Memᴰ·tail (List·Memᴰ·tail (List·Memᴰ·tail (List·Memᴰ·head refl)))
 byte (suc (suc (suc (suc v)))) b = absurd (omega arith)
 
-isPass-iff : (r : Reply) → isPass r ≡ true ↔ r ≡ judged passes
-isPass-iff (judged passes) = (λ e. refl, λ e. refl)
-isPass-iff (judged (clash a)) = (λ e. cc, λ e. cc)
-isPass-iff (judged (broken r)) = (λ e. cc, λ e. cc)
-isPass-iff (judged (unfounded c)) = (λ e. cc, λ e. cc)
+isPass-iff : (r : Reply Verdict) → isPass r ≡ true ↔ r ≡ answered passes
+isPass-iff (answered passes) = (λ e. refl, λ e. refl)
+isPass-iff (answered (clash a)) = (λ e. cc, λ e. cc)
+isPass-iff (answered (broken r)) = (λ e. cc, λ e. cc)
+isPass-iff (answered (unfounded c)) = (λ e. cc, λ e. cc)
 isPass-iff (refused k p) = (λ e. cc, λ e. cc)
 
 accepted11 : (vs : List ℕ) → length vs ≡ 3 → Each (λ v. v ≤ 3) vs → Accepted vs program11
