@@ -3,11 +3,12 @@
 use mathlib.Core.Path.{_≡_, refl}
 use mathlib.Core.List.{_++_}
 use lib.ListN.{length, replicate}
+use Rattle.search.specs.Replies.{refused, answered}
 use Rattle.answer_sets.specs.Literals.{complement}
 use Rattle.answer_sets.specs.Words.{words}
 use Rattle.description.specs.Acceptance.{badRecord, badHorizon}
 use Rattle.translation.specs.Rules.{translation}
-use Rattle.translation.specs.Translated.{refused, written, outcome, tableAfter}
+use Rattle.translation.specs.Translated.{written, outcome, tableAfter}
 use Rattle.translation.specs.Examples.{recipe, recipeTable, door, doorTable1, doorTable2, water, waterTable1, waterTable2, description, largest}
 use Rattle.translation.proofs.Counts.{rule-count, word-count}
 
@@ -16,7 +17,7 @@ unfolding translation complement
 recipe-table = refl
 
 -- 5 atoms, 12 rules, 53 words
-pub recipe-counts : outcome (description 2 1 6 1) recipe 6 (length recipeTable) ≡ written 5 12 53
+pub recipe-counts : outcome (description 2 1 6 1) recipe 6 (length recipeTable) ≡ answered (written 5 12 53)
 unfolding outcome badRecord badHorizon translation complement
 recipe-counts = refl
 
@@ -36,7 +37,7 @@ unfolding translation complement
 water-tables = (refl, refl)
 
 -- the largest table needs 30,912 words, and one fewer are refused
-pub largest-taken : outcome (description 24 8 64 30) largest 64 30912 ≡ written 984 2448 30912
+pub largest-taken : outcome (description 24 8 64 30) largest 64 30912 ≡ answered (written 984 2448 30912)
 unfolding outcome badRecord badHorizon
 largest-taken = rw (word-count 24 8 30 largest, rule-count 24 8 30 largest)
 
