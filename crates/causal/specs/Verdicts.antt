@@ -3,10 +3,10 @@
 -- Assumes nothing.
 use mathlib.Core.Bool.{Bool, true, false, not, cond, _&&_, _||_}
 use mathlib.Core.List.{List, [], _∷_}
-use mathlib.Core.Option.{Option, none, some}
 use Prim.Native.Nat.{ℕ, zero, suc, _+_, _*_}
 use lib.Dec.{eqb}
 use Rattle.search.specs.Search.{first, range}
+use Rattle.search.specs.Replies.{orElse}
 use Rattle.description.specs.declared.Head.{Head}
 use Rattle.description.specs.declared.Head.the-variants.{Lit, False}
 use Rattle.description.specs.declared.Kind.{Kind}
@@ -40,11 +40,6 @@ headIs False d = false
 abbrev pub someCause : (Law → Bool) → ℕ → List Law → Bool
 someCause applies c [] = false
 someCause applies c (l ∷ ls) = (applies l && headIs (l .head) c) || someCause applies c ls
-
--- the fault at the place found, else what comes next
-abbrev pub orElse : Option ℕ → (ℕ → Causal) → Causal → Causal
-orElse (some k) fault next = fault k
-orElse none fault next = next
 
 -- a law applies while its head does not hold in s′
 abbrev pub contradicts : (Law → Bool) → Interpretation → Law → Bool
