@@ -1,6 +1,5 @@
 -- The engine's theory, and the laws that its functions' proofs cite.
 pub mod Sets
-pub mod Complements
 pub mod Least
 pub mod Supported
 pub mod FirstFault

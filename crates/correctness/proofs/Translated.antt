@@ -19,7 +19,7 @@ use Rattle.answer_sets.specs.Rules.{Head, lit, falsum, Rule}
 use Rattle.answer_sets.specs.AnswerSets.{reduct, HeadIn, Closed, Consistent, AnswerSet}
 use Rattle.answer_sets.specs.Verdicts.{applies, headIn, round}
 use Rattle.answer_sets.specs.Verdicts.{headIs as ruleHeadIs}
-use Rattle.answer_sets.proofs.Complements.{complement-even}
+use Rattle.translation.proofs.Complements.{complement-even}
 use Rattle.answer_sets.proofs.Least.{LiteralIn, reduct-closed, round-iff}
 use Rattle.answer_sets.proofs.Supported.{Supported, LowerParts, Tight, round-cases, tight-answer-set-iff}
 use Rattle.answer_sets.proofs.Theorems.{setOf-below}

@@ -2,12 +2,12 @@
 -- Assumes nothing.
 use mathlib.Core.Path.{_≡_, refl}
 use Rattle.search.specs.Search.{Each}
-use Rattle.answer_sets.specs.Literals.{complement, setOf, holdsTrue, holdsFalse}
+use Rattle.answer_sets.specs.Literals.{setOf, holdsTrue, holdsFalse}
 use Rattle.answer_sets.specs.Verdicts.{verdict}
 use Rattle.answer_sets.specs.Words.{rulesOf, badRule}
 use Rattle.answer_sets.specs.Answers as engine
 use Rattle.description.specs.Acceptance.{badRecord, badHorizon}
-use Rattle.translation.specs.Rules.{translation}
+use Rattle.translation.specs.Rules.{complement, translation}
 use Rattle.translation.specs.Translated as translated
 use Rattle.history.specs.Checks as history
 use Rattle.causal.specs.Verdicts.{causalVerdict}

@@ -9,13 +9,12 @@ use native.Mathlib.Omega.{arith}
 use lib.Dec.{eqb, ltb}
 use lib.ListN.{length, length-take}
 use borrow.Author.Tests.{ltb-true, eqb-true, eqb-false, eq-eqb, ne-eqb}
-use Rattle.answer_sets.specs.Literals.{complement}
 use Rattle.answer_sets.specs.Rules.{Rule}
 use Rattle.search.specs.Search.{Each, range}
 use Rattle.answer_sets.specs.Words.{words}
 use Rattle.search.proofs.Tests.{each-map}
 use Rattle.search.proofs.Lists.{each-mapped}
-use Rattle.answer_sets.proofs.Complements.{complement-below}
+use Rattle.translation.proofs.Complements.{complement-below}
 use Rattle.answer_sets.proofs.Least.{HeadBelow}
 use Rattle.answer_sets.proofs.Decoding.{RuleBelow, CodesBelow}
 use Rattle.description.specs.declared.Head as described
@@ -28,7 +27,7 @@ use Rattle.description.specs.Atoms.{actionAtom, atomCount}
 use Rattle.description.specs.Acceptance.{codesBelow, lawFits}
 use Rattle.description.proofs.Fits as fits
 use Rattle.description.proofs.Laws.{AllFit, fits-if, fits-after}
-use Rattle.translation.specs.Rules.{atTime, headAt, complementsAt, literalsAt, staticRule, dynamicRule, staticRules, dynamicRules, perLaw}
+use Rattle.translation.specs.Rules.{complement, atTime, headAt, complementsAt, literalsAt, staticRule, dynamicRule, staticRules, dynamicRules, perLaw}
 use Rattle.translation.specs.Rules.{choices, actionAtoms, choiceAtoms, translation}
 use Rattle.translation.proofs.RuleByRule.{AtStart, AtChoice, stepRule, each-rule}
 use Rattle.translation.proofs.Counts.{sumLaws, statics, dynamics, statics-dynamics, lawWordsOf, rule-count, word-count}

@@ -4,10 +4,9 @@ use mathlib.Core.Path.{_≡_, refl}
 use mathlib.Core.List.{_++_}
 use lib.ListN.{length, replicate}
 use Rattle.search.specs.Replies.{refused, answered}
-use Rattle.answer_sets.specs.Literals.{complement}
 use Rattle.answer_sets.specs.Words.{words}
 use Rattle.description.specs.Acceptance.{badRecord, badHorizon}
-use Rattle.translation.specs.Rules.{translation}
+use Rattle.translation.specs.Rules.{complement, translation}
 use Rattle.translation.specs.Translated.{written, outcome, tableAfter}
 use Rattle.translation.specs.Examples.{recipe, recipeTable, door, doorTable1, doorTable2, water, waterTable1, waterTable2, description, largest}
 use Rattle.translation.proofs.Counts.{rule-count, word-count}
