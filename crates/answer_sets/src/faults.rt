@@ -15,7 +15,7 @@ ghost use Rattle.answer_sets.specs.Literals.{setOf};
 ghost use Rattle.answer_sets.specs.Verdicts.{verdict, bothValues, isBroken, isUnfounded};
 ghost use Rattle.answer_sets.specs.Words.{rulesOf, badRule, ruleAt, ruleSize};
 ghost use Rattle.answer_sets.specs.Answers.{replyOf};
-ghost use Rattle.answer_sets.specs.Parts.{marked, Sound};
+ghost use Rattle.answer_sets.specs.Internal.{marked, Sound};
 
 // Whether an atom has both values.
 fn both_values(x: &[bool], atom: usize) -> bool

@@ -17,8 +17,13 @@ use Rattle.causal.specs.Verdicts.{Causal, contradicted, uncaused, path, 
 use Rattle.causal.specs.declared.Reading.{Reading}
 use Rattle.causal.specs.declared.Reading.the-variants.{Refused, Contradicted, Uncaused, Path}
 use Rattle.causal.specs.Readings.{replyOf}
-use Rattle.causal.specs.Parts.{firstFault}
 use Rattle.causal.proofs.Reading.{the-type}
+
+-- a verdict's fault, else what the next one says
+abbrev firstFault : Causal → Causal → Causal
+firstFault (contradicted time law) next = contradicted time law
+firstFault (uncaused time fluent) next = uncaused time fluent
+firstFault path next = next
 
 -- a verdict that is a fault
 pub kept : (r : Reading) → OneOf (0 ∷ 1 ∷ 2 ∷ []) (tagOf the-type r) → (x y : Causal) → replyOf r ≡ answered x → replyOf r ≡ answered (firstFault x y)

@@ -5,6 +5,7 @@ use mathlib.Core.Bool.{Bool, true, false, not, cond, _&&_, _||_}
 use mathlib.Core.List.{List, [], _∷_}
 use Prim.Native.Nat.{ℕ, zero, suc, _+_, _*_}
 use lib.Dec.{eqb}
+use lib.ListN.{getD}
 use Rattle.search.specs.Search.{first, range}
 use Rattle.search.specs.Replies.{orElse}
 use Rattle.description.specs.declared.Head.{Head}
@@ -19,6 +20,10 @@ pub data Causal : Type 0 where
   contradicted : ℕ → ℕ → Causal
   uncaused : ℕ → ℕ → Causal
   path : Causal
+
+-- part of a set's values as an interpretation: value 1 is true, any other false, and so is one past the end
+abbrev pub read : List ℕ → Interpretation
+read vs i = eqb (getD vs i 0) 1
 
 -- a static law applies in a state if its if-list holds there
 abbrev pub appliesAtStart : Interpretation → Law → Bool

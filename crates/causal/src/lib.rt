@@ -14,8 +14,7 @@ ghost use Rattle.search.specs.Replies.{answered};
 ghost use Rattle.description.specs.Laws.{lawsOf};
 ghost use Rattle.description.specs.Atoms.{atomCount};
 ghost use Rattle.description.specs.Meaning.{stateAt, actionAt};
-ghost use Rattle.causal.specs.Verdicts.{path, stepVerdict, stepsFrom, causalVerdict};
-ghost use Rattle.causal.specs.Parts.{read};
+ghost use Rattle.causal.specs.Verdicts.{read, path, stepVerdict, stepsFrom, causalVerdict};
 ghost use Rattle.causal.specs.Readings.{replyOf, reading};
 
 // A refusal's number and place, or the verdict with its time and the law or the fluent that it names.
