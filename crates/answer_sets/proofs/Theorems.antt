@@ -1,31 +1,28 @@
 -- What the engine's answers mean, on value bytes and words: it passes exactly the answer sets, its rounds reach the least
--- closed set, each fault is the lowest of its kind; and the answer sets of program (11).
+-- closed set, and each fault is the lowest of its kind.
 -- Assumes nothing.
 use mathlib.Core.Path.{_≡_, refl}
 use mathlib.Core.Logic.{_↔_, ⊎-elim, Iff·trans}
 use mathlib.Core.Bool.{Bool, true, false, cond}
-use mathlib.Core.List.{List, [], _∷_, _++_, map, List·Memᴰ, List·Memᴰ·head, List·Memᴰ·tail, List·Memᴰ·not-nil, List·Memᴰ·cases-cons, Memᴰ·append-left, Memᴰ·append-right, Memᴰ·map}
+use mathlib.Core.List.{List}
 use mathlib.Core.Option.{none}
-use Prim.Native.Nat.{ℕ, zero, suc, _*_, _/_, _%_, _≤_, _<_}
+use Prim.Native.Nat.{ℕ, _*_, _/_, _%_, _<_}
 use native.Mathlib.Omega.{arith}
 use lib.Dec.{eqb, ltb}
 use lib.ListN.{length, getD, List·getD-eq-default}
-use borrow.Author.Tests.{ltb-true, ltb-false, le-ltb}
-use Rattle.search.specs.Search.{Each, Lowest, Nowhere}
-use Rattle.search.specs.Replies.{Reply, refused, answered}
+use borrow.Author.Tests.{ltb-true, ltb-false}
+use Rattle.search.specs.Search.{Lowest, Nowhere}
+use Rattle.search.specs.Replies.{answered}
 use Rattle.answer_sets.specs.Literals.{setOf, holdsTrue, holdsFalse}
 use Rattle.answer_sets.specs.AnswerSets.{reduct, AnswerSet, literalHeaded, IsLeastClosed}
 use Rattle.answer_sets.specs.Verdicts.{Verdict, clash, broken, unfounded, passes, rounds, verdict}
 use Rattle.answer_sets.specs.Words.{rulesOf, badRule}
 use Rattle.answer_sets.specs.Answers.{tooManyValues, badValue, answer}
-use Rattle.answer_sets.specs.Examples.{program11, answerSets11, allValues, isPass, passing}
-use Rattle.search.proofs.Tests.{true-or-false, not-both, none-first, each-at, each-map}
-use Rattle.search.proofs.Lists.{chosen-iff, tuples-all}
+use Rattle.search.proofs.Tests.{true-or-false, not-both}
 use Rattle.answer_sets.proofs.Least.{HeadsBelow, Below, least-closed}
 use Rattle.answer_sets.proofs.FirstFault.{Clashing, BrokenAt, Unfounded, clash-iff, broken-iff, unfounded-iff}
 use Rattle.answer_sets.proofs.Passes.{passes-iff}
 use Rattle.answer_sets.proofs.Decoding.{accepted-below, codes-heads}
-use Rattle.answer_sets.proofs.Examples.{program11-passing}
 
 -- no refusal holds
 abbrev pub Accepted : List ℕ → List ℕ → Type 0
@@ -72,39 +69,3 @@ module _ (vs ws : List ℕ) (accepted : Accepted vs ws) where
 
   pub rounds-least : IsLeastClosed (literalHeaded (reduct (rulesOf ws) (setOf vs))) (rounds (2 * length vs) (rulesOf ws) (setOf vs))
   rounds-least = least-closed (length vs) (rulesOf ws) (setOf vs) heads-below
-
--- Program (11)
-
--- a value byte is one of four
-byte : (v : ℕ) → v ≤ 3 → List·Memᴰ v (0 ∷ 1 ∷ 2 ∷ 3 ∷ [])
-byte zero b = List·Memᴰ·head refl
-byte (suc zero) b = List·Memᴰ·tail (List·Memᴰ·head refl)
-byte (suc (suc zero)) b = List·Memᴰ·tail (List·Memᴰ·tail (List·Memᴰ·head refl))
-byte (suc (suc (suc zero))) b = List·Memᴰ·tail (List·Memᴰ·tail (List·Memᴰ·tail (List·Memᴰ·head refl)))
-byte (suc (suc (suc (suc v)))) b = absurd (omega arith)
-
-isPass-iff : (r : Reply Verdict) → isPass r ≡ true ↔ r ≡ answered passes
-isPass-iff (answered passes) = (λ e. refl, λ e. refl)
-isPass-iff (answered (clash a)) = (λ e. cc, λ e. cc)
-isPass-iff (answered (broken r)) = (λ e. cc, λ e. cc)
-isPass-iff (answered (unfounded c)) = (λ e. cc, λ e. cc)
-isPass-iff (refused k p) = (λ e. cc, λ e. cc)
-
-accepted11 : (vs : List ℕ) → length vs ≡ 3 → Each (λ v. v ≤ 3) vs → Accepted vs program11
-unfolding badRule
-accepted11 vs e h = (
-  rw e refl,
-  none-first (ltb 3) 0 0 vs (λ i b. le-ltb 3 (getD vs i 0) (each-at (λ v. v ≤ 3) 0 vs .0 h i b)),
-  rw e refl,
-)
-
-pub program11-answer-sets : (vs : List ℕ) → length vs ≡ 3 → Each (λ v. v ≤ 3) vs
-    → AnswerSet (rulesOf program11) (setOf vs) ↔ List·Memᴰ vs answerSets11
-program11-answer-sets vs e h =
-    (λ a. rw program11-passing at (listed .1 (tuples-all _ 3 vs e (each-map byte vs h), pass .1 a)), λ m. pass .0 (listed .0 (rw program11-passing m) .1))
-  where
-    listed : List·Memᴰ vs (passing program11 (allValues 3)) ↔ (List·Memᴰ vs (allValues 3) × (isPass (answer vs program11) ≡ true))
-    listed = chosen-iff (λ us. isPass (answer us program11)) (allValues 3) vs
-
-    pass : isPass (answer vs program11) ≡ true ↔ AnswerSet (rulesOf program11) (setOf vs)
-    pass = Iff·trans (isPass-iff (answer vs program11)) (passes-exactly vs program11 (accepted11 vs e h))

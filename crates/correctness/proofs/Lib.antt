@@ -4,5 +4,3 @@ pub mod Reading
 pub mod Values
 pub mod Translated
 pub mod Demand3
-pub mod Worked
-pub mod Transitions

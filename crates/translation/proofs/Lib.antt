@@ -7,4 +7,3 @@ pub mod Sums
 pub mod Writing
 pub mod Turns
 pub mod Outcomes
-pub mod Examples

@@ -12,7 +12,7 @@ use Rattle.translation.specs.Translated as translated
 use Rattle.history.specs.Checks as history
 use Rattle.causal.specs.Verdicts.{causalVerdict}
 use Rattle.causal.specs.Readings as causal
-use Rattle.correctness.specs.Worked.{Holds, worked}
+use Rattle.worked_examples.specs.Worked.{Holds, worked}
 
 pub worked-examples : Each Holds worked
 unfolding engine.answer verdict rulesOf badRule setOf holdsTrue holdsFalse complement badRecord badHorizon translation translated.outcome history.checked causalVerdict causal.reading

@@ -18,11 +18,11 @@ use Rattle.description.specs.Acceptance.{badHorizon}
 use Rattle.description.specs.Examples.{recipe, recipeLaws, doorLaws, waterLaws}
 use Rattle.translation.specs.Translated as translated
 use Rattle.translation.specs.Translated.{Written, written}
-use Rattle.translation.specs.Examples.{recipeTable}
 use Rattle.history.specs.Checks as history
 use Rattle.history.specs.Checks.{Finding, missing, judged}
 use Rattle.causal.specs.Verdicts.{Causal, contradicted, uncaused, path, causalVerdict}
 use Rattle.causal.specs.Readings as causal
+use Rattle.worked_examples.specs.Tables.{recipeTable}
 
 -- a state, an action and a resulting state as values, 1 true and 2 false
 abbrev pub doorTransitions : List (List ℕ)

@@ -13,9 +13,9 @@ use Rattle.description.specs.declared.Law.{Law}
 use Rattle.description.specs.Meaning.{Path}
 use Rattle.description.specs.Examples.{doorLaws, waterLaws}
 use Rattle.causal.specs.Verdicts.{Causal, contradicted, uncaused, path, causalVerdict}
 use Rattle.correctness.specs.Demand3.{OneValue}
-use Rattle.correctness.specs.Worked.{isPath, paths, doorTransitions, waterTransitions}
+use Rattle.worked_examples.specs.Worked.{isPath, paths, doorTransitions, waterTransitions}
 use Rattle.correctness.proofs.Reading.{causal-iff}
 
 is-path-iff : (v : Causal) → isPath v ≡ true ↔ v ≡ path
 is-path-iff path = (λ e. refl, λ e. refl)
