@@ -29,10 +29,10 @@ use Rattle.description.specs.Atoms.{atomCount}
 use Rattle.description.specs.Acceptance.{badRecord, badHorizon}
 use Rattle.description.proofs.Laws.{accepted-law}
 use Rattle.translation.specs.Translated.{written, rulesFor, tableFor, outcome}
-use Rattle.translation.proofs.Bounds.{codes-below}
 use Rattle.translation.proofs.Outcomes.{accepted-written, accepted-short}
+use Rattle.translation_bounds.proofs.Bounds.{codes-below}
+use Rattle.translation_bounds.proofs.Tables.{few-atoms, table-accepted}
 use Rattle.history.specs.Checks as history
-use Rattle.history.proofs.Judging.{few-atoms, table-accepted, engine-judges}
 use Rattle.causal.specs.Verdicts.{path, causalVerdict}
 use Rattle.causal.specs.Readings as causal
 use Rattle.correctness.specs.Demand3.{OneValue, PathOf, Demand3}

@@ -1,4 +1,5 @@
 -- The theorems that need several layers.
+pub mod Supported
 pub mod Explained
 pub mod Reading
 pub mod Values

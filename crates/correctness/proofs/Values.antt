@@ -15,7 +15,7 @@ use Rattle.search.specs.Search.{Each, all}
 use Rattle.search.proofs.Tests.{true-or-false, each-map, each-at}
 use Rattle.search.proofs.Lists.{all-mapped}
 use Rattle.answer_sets.specs.Literals.{holdsTrue, holdsFalse, setOf}
-use Rattle.translation.proofs.Complements.{complement-even, complement-odd, complement-below}
+use Rattle.translation_bounds.proofs.Complements.{complement-even, complement-odd, complement-below}
 use Rattle.description.specs.Atoms.{atomCount}
 use Rattle.description.specs.Meaning.{Interpretation, satisfies, holds, together, stateAt, actionAt}
 use Rattle.correctness.specs.Demand3.{OneValue}

@@ -133,15 +133,6 @@ rule-count n m T ls =
       length-choiceAtoms n m T,
     )
 
--- each law is static or dynamic
-pub statics-dynamics : (ls : List Law) → statics ls + dynamics ls ≡ length ls
-statics-dynamics [] = refl
-statics-dynamics (l ∷ ls) = omega (arith, one (l .kind), statics-dynamics ls)
-  where
-    one : (k : Kind) → staticOf k + dynamicOf k ≡ 1
-    one Static = refl
-    one Dynamic = refl
-
 -- Words
 
 -- the words of one law's rules
