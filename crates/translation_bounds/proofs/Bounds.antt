@@ -1,21 +1,17 @@
 -- The translation of an accepted description is within the engine's limits: its rules, its words, and its codes.
 -- Assumes nothing.
 use mathlib.Core.Path.{_≡_, refl}
-use mathlib.Core.Bool.{Bool, true, false, and-eq-true-iff}
-use mathlib.Core.List.{List, [], _∷_, _++_, map}
-use Prim.Native.Nat.{ℕ, zero, suc, _+_, _*_, _/_, _%_, _≤_, _<_}
+use mathlib.Core.Bool.{true}
+use mathlib.Core.List.{List, [], _∷_}
+use Prim.Native.Nat.{ℕ, suc, _+_, _*_, _≤_, _<_}
 use native.Mathlib.Nat.{mul-le-mul, mul-le-mul-left, mul-le-mul-right, suc-mul}
 use native.Mathlib.Omega.{arith}
-use lib.Dec.{eqb, ltb}
 use lib.ListN.{length, length-take}
-use borrow.Author.Tests.{ltb-true, eqb-true, eqb-false, eq-eqb, ne-eqb}
-use Rattle.answer_sets.specs.Literals.{complement}
-use Rattle.answer_sets.specs.Rules.{Rule}
-use Rattle.search.specs.Search.{Each, range}
+use Rattle.search.specs.Search.{Each}
 use Rattle.answer_sets.specs.Words.{words}
 use Rattle.search.proofs.Tests.{each-map}
 use Rattle.search.proofs.Lists.{each-mapped}
-use Rattle.answer_sets.proofs.Complements.{complement-below}
+use Rattle.translation_bounds.proofs.Complements.{complement-below}
 use Rattle.answer_sets.proofs.Least.{HeadBelow}
 use Rattle.answer_sets.proofs.Decoding.{RuleBelow, CodesBelow}
 use Rattle.description.specs.declared.Head as described
@@ -25,15 +21,23 @@ use Rattle.description.specs.declared.Kind.the-variants.{Static, Dynamic}
 use Rattle.description.specs.declared.Law.{Law}
 use Rattle.description.specs.Laws.{ifList, afterList}
 use Rattle.description.specs.Atoms.{actionAtom, atomCount}
-use Rattle.description.specs.Acceptance.{codesBelow, lawFits}
+use Rattle.description.specs.Acceptance.{lawFits}
 use Rattle.description.proofs.Fits as fits
 use Rattle.description.proofs.Laws.{AllFit, fits-if, fits-after}
-use Rattle.translation.specs.Rules.{atTime, headAt, complementsAt, literalsAt, staticRule, dynamicRule, staticRules, dynamicRules, perLaw}
-use Rattle.translation.specs.Rules.{choices, actionAtoms, choiceAtoms, translation}
-use Rattle.translation.proofs.RuleByRule.{AtStart, AtChoice, stepRule, each-rule}
-use Rattle.translation.proofs.Counts.{sumLaws, statics, dynamics, statics-dynamics, lawWordsOf, rule-count, word-count}
+use Rattle.translation.specs.Rules.{complement, atTime, headAt, complementsAt, literalsAt, translation}
+use Rattle.translation_bounds.proofs.RuleByRule.{AtStart, AtChoice, stepRule, each-rule}
+use Rattle.translation.proofs.Counts.{sumLaws, staticOf, dynamicOf, statics, dynamics, lawWordsOf, rule-count, word-count}
 
 -- Counts
+
+-- each law is static or dynamic
+statics-dynamics : (ls : List Law) → statics ls + dynamics ls ≡ length ls
+statics-dynamics [] = refl
+statics-dynamics (l ∷ ls) = omega (arith, one (l .kind), statics-dynamics ls)
+  where
+    one : (k : Kind) → staticOf k + dynamicOf k ≡ 1
+    one Static = refl
+    one Dynamic = refl
 
 -- a sum over laws that fit, each of which gives at most b
 sum-bound : (n m b : ℕ) (g : Kind → Law → ℕ) → ((l : Law) → lawFits n m l ≡ true → g (l .kind) l ≤ b)

@@ -8,41 +8,21 @@ use mathlib.Core.Option.{Option, none, some}
 use Prim.Native.Nat.{ℕ}
 use lib.ListN.{length}
 use Rattle.search.specs.Search.{Each, chosen, tuples}
-use Rattle.answer_sets.specs.Verdicts.{clash, broken, unfounded, passes}
+use Rattle.search.specs.Replies.{Reply, refused, answered}
+use Rattle.answer_sets.specs.Verdicts.{Verdict, clash, broken, unfounded, passes}
 use Rattle.answer_sets.specs.Answers as engine
 use Rattle.answer_sets.specs.Examples as engine-examples
-use Rattle.description.specs.declared.Head.the-variants.{Lit}
-use Rattle.description.specs.declared.Kind.the-variants.{Static, Dynamic}
 use Rattle.description.specs.declared.Law.{Law}
 use Rattle.description.specs.declared.Description.{Description}
 use Rattle.description.specs.Acceptance.{badHorizon}
+use Rattle.description.specs.Examples.{recipe, recipeLaws, doorLaws, waterLaws}
 use Rattle.translation.specs.Translated as translated
-use Rattle.translation.specs.Examples.{recipeTable}
+use Rattle.translation.specs.Translated.{Written, written}
 use Rattle.history.specs.Checks as history
+use Rattle.history.specs.Checks.{Finding, missing, judged}
 use Rattle.causal.specs.Verdicts.{Causal, contradicted, uncaused, path, causalVerdict}
 use Rattle.causal.specs.Readings as causal
-use Rattle.text.specs.Descriptions.{lawOf, Draft, described, turned, read}
-use Rattle.text.specs.Histories as histories
-use Rattle.text.specs.Examples.{recipeText, historyText, recipeLaws, recipeDraft}
-
--- 01's full recipe
-abbrev pub recipe : Description
-recipe = record { fluents = 2; actions = 1; laws = 6; horizon = 1 }
-
--- 000's (3): Closed is fluent 0, OpenDoor action 0
-abbrev pub door : List Law
-door = lawOf Static (Lit 0) (0 ∷ []) [] ∷ lawOf Dynamic (Lit 1) [] (2 ∷ []) ∷ []
-
--- 000's (4): InWater is fluent 0, Wet fluent 1, PutInWater action 0
-abbrev pub water : List Law
-water =
-    lawOf Dynamic (Lit 0) [] (4 ∷ [])
-    ∷ lawOf Static (Lit 2) (0 ∷ []) []
-    ∷ lawOf Dynamic (Lit 0) (0 ∷ []) (0 ∷ [])
-    ∷ lawOf Dynamic (Lit 1) (1 ∷ []) (1 ∷ [])
-    ∷ lawOf Dynamic (Lit 2) (2 ∷ []) (2 ∷ [])
-    ∷ lawOf Dynamic (Lit 3) (3 ∷ []) (3 ∷ [])
-    ∷ []
+use Rattle.worked_examples.specs.Tables.{recipeTable}
 
 -- a state, an action and a resulting state as values, 1 true and 2 false
 abbrev pub doorTransitions : List (List ℕ)
@@ -69,13 +49,11 @@ paths n m T ls vss = chosen (λ vs. isPath (causalVerdict n m T ls vs)) vss
 
 -- a worked example: what a definition says of something
 pub data Example : Type 0 where
-  engineSays : List ℕ → List ℕ → engine.Reply → Example
-  translates : Description → List Law → ℕ → translated.Outcome → List ℕ → Example
-  historySays : Description → List Law → List ℕ → history.Reply → Example
-  causalSays : Description → List Law → List ℕ → causal.Reply → Example
+  engineSays : List ℕ → List ℕ → Reply Verdict → Example
+  translates : Description → List Law → ℕ → Reply Written → List ℕ → Example
+  historySays : Description → List Law → List ℕ → Reply Finding → Example
+  causalSays : Description → List Law → List ℕ → Reply Causal → Example
   horizonTaken : ℕ → Option ℕ → Example
-  reads : List ℕ → Draft → List ℕ → ℕ → Example
-  readsHistory : List ℕ → List ℕ → ℕ → List ℕ → Example
   pathsAre : ℕ → ℕ → ℕ → List Law → List (List ℕ) → List (List ℕ) → Example
 
 abbrev pub Holds : Example → Type 0
@@ -84,8 +62,6 @@ Holds (translates d ls room outcome ws) = (translated.outcome d ls (length ls) r
 Holds (historySays d ls vs reply) = history.checked d ls (length ls) vs 53 ≡ reply
 Holds (causalSays d ls vs reply) = causal.reading d ls (length ls) vs ≡ reply
 Holds (horizonTaken T place) = badHorizon T ≡ place
-Holds (reads text draft rest lines) = described 64 text ≡ read draft rest lines
-Holds (readsHistory description text room vs) = histories.history description text room ≡ histories.values vs
 Holds (pathsAre n m T ls vss expected) = paths n m T ls vss ≡ expected
 
 -- an engine example of the crate below
@@ -93,33 +69,31 @@ abbrev pub fromEngine : engine-examples.Example → Example
 fromEngine e = engineSays (e .values) (e .table) (e .reply)
 
 -- a history of the full recipe with both verdicts; the causal reading refuses values 0 and 3 by 11
-abbrev pub ofRecipe : List ℕ → history.Reply → causal.Reply → List Example
+abbrev pub ofRecipe : List ℕ → Reply Finding → Reply Causal → List Example
 ofRecipe vs answer reading = historySays recipe recipeLaws vs answer ∷ causalSays recipe recipeLaws vs reading ∷ []
 
 abbrev pub worked : List Example
 worked =
-    -- the full recipe: its text, its record and values, its table, its verdicts
-    (reads (recipeText ++ historyText) recipeDraft historyText 23 ∷ [])
-    ++ (readsHistory (recipeText ++ historyText) historyText 5 (2 ∷ 2 ∷ 1 ∷ 2 ∷ 1 ∷ []) ∷ [])
-    ++ (translates recipe recipeLaws 53 (translated.written 5 12 53) recipeTable ∷ [])
-    ++ (translates recipe recipeLaws 52 (translated.refused 9 53) recipeTable ∷ [])
-    ++ ofRecipe (2 ∷ 2 ∷ 1 ∷ 2 ∷ 1 ∷ []) (history.judged passes) (causal.judged path)
+    -- the full recipe: its table, its verdicts
+    (translates recipe recipeLaws 53 (answered (written 5 12 53)) recipeTable ∷ [])
+    ++ (translates recipe recipeLaws 52 (refused 9 53) recipeTable ∷ [])
+    ++ ofRecipe (2 ∷ 2 ∷ 1 ∷ 2 ∷ 1 ∷ []) (answered (judged passes)) (answered path)
     -- M1
-    ++ ofRecipe (1 ∷ 2 ∷ 1 ∷ 1 ∷ 1 ∷ []) (history.judged (broken 1)) (causal.judged (contradicted 1 1))
+    ++ ofRecipe (1 ∷ 2 ∷ 1 ∷ 1 ∷ 1 ∷ []) (answered (judged (broken 1))) (answered (contradicted 1 1))
     -- M2
-    ++ ofRecipe (2 ∷ 2 ∷ 2 ∷ 2 ∷ 1 ∷ []) (history.judged (unfounded 8)) (causal.judged (uncaused 1 1))
+    ++ ofRecipe (2 ∷ 2 ∷ 2 ∷ 2 ∷ 1 ∷ []) (answered (judged (unfounded 8))) (answered (uncaused 1 1))
     -- M3
-    ++ ofRecipe (1 ∷ 2 ∷ 2 ∷ 2 ∷ 2 ∷ []) (history.judged (unfounded 7)) (causal.judged (uncaused 1 0))
+    ++ ofRecipe (1 ∷ 2 ∷ 2 ∷ 2 ∷ 2 ∷ []) (answered (judged (unfounded 7))) (answered (uncaused 1 0))
     -- M4
-    ++ ofRecipe (2 ∷ 0 ∷ 1 ∷ 2 ∷ 1 ∷ []) (history.missing 1) (causal.refused 11 1)
+    ++ ofRecipe (2 ∷ 0 ∷ 1 ∷ 2 ∷ 1 ∷ []) (answered (missing 1)) (refused 11 1)
     -- M5
-    ++ ofRecipe (3 ∷ 2 ∷ 1 ∷ 2 ∷ 1 ∷ []) (history.judged (clash 0)) (causal.refused 11 0)
+    ++ ofRecipe (3 ∷ 2 ∷ 1 ∷ 2 ∷ 1 ∷ []) (answered (judged (clash 0))) (refused 11 0)
     -- M6 to M10, and the engine's other examples
     ++ map fromEngine engine-examples.examples
     -- horizons at the limits
     ++ (horizonTaken 0 (some 0) ∷ horizonTaken 1 none ∷ horizonTaken 30 none ∷ horizonTaken 31 (some 0) ∷ [])
     -- (3) has 2 states and exactly 4 explained transitions, (4) has 3 and 6
-    ++ (pathsAre 1 1 0 door (tuples (1 ∷ 2 ∷ []) 1) ((1 ∷ []) ∷ (2 ∷ []) ∷ []) ∷ [])
-    ++ (pathsAre 1 1 1 door (tuples (1 ∷ 2 ∷ []) 3) doorTransitions ∷ [])
-    ++ (pathsAre 2 1 0 water (tuples (1 ∷ 2 ∷ []) 2) ((1 ∷ 1 ∷ []) ∷ (2 ∷ 1 ∷ []) ∷ (2 ∷ 2 ∷ []) ∷ []) ∷ [])
-    ++ (pathsAre 2 1 1 water (tuples (1 ∷ 2 ∷ []) 5) waterTransitions ∷ [])
+    ++ (pathsAre 1 1 0 doorLaws (tuples (1 ∷ 2 ∷ []) 1) ((1 ∷ []) ∷ (2 ∷ []) ∷ []) ∷ [])
+    ++ (pathsAre 1 1 1 doorLaws (tuples (1 ∷ 2 ∷ []) 3) doorTransitions ∷ [])
+    ++ (pathsAre 2 1 0 waterLaws (tuples (1 ∷ 2 ∷ []) 2) ((1 ∷ 1 ∷ []) ∷ (2 ∷ 1 ∷ []) ∷ (2 ∷ 2 ∷ []) ∷ []) ∷ [])
+    ++ (pathsAre 2 1 1 waterLaws (tuples (1 ∷ 2 ∷ []) 5) waterTransitions ∷ [])

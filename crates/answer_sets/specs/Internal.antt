@@ -1,4 +1,4 @@
--- What the engine's own functions promise each other.
+-- Internal: what the crate's own functions promise each other. No public promise rests on it; a reader may pass it over.
 -- Assumes nothing.
 use mathlib.Core.Path.{_≡_}
 use mathlib.Core.Bool.{Bool, true, false, not, _&&_}

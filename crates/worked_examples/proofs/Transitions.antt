@@ -11,10 +11,11 @@ use Rattle.search.proofs.Tests.{each-map}
 use Rattle.search.proofs.Lists.{chosen-iff, tuples-all}
 use Rattle.description.specs.declared.Law.{Law}
 use Rattle.description.specs.Meaning.{Path}
+use Rattle.description.specs.Examples.{doorLaws, waterLaws}
 use Rattle.causal.specs.Verdicts.{Causal, contradicted, uncaused, path, causalVerdict}
 use Rattle.correctness.specs.Demand3.{OneValue}
-use Rattle.correctness.specs.Worked.{isPath, paths, door, doorTransitions, water, waterTransitions}
+use Rattle.worked_examples.specs.Worked.{isPath, paths, doorTransitions, waterTransitions}
 use Rattle.correctness.proofs.Reading.{causal-iff}
 
 is-path-iff : (v : Causal) → isPath v ≡ true ↔ v ≡ path
 is-path-iff path = (λ e. refl, λ e. refl)
@@ -39,16 +40,16 @@ listed n m T k ls vs size one = (
     passes : isPath (causalVerdict n m T ls vs) ≡ true ↔ Path n m T ls vs
     passes = Iff·trans (is-path-iff (causalVerdict n m T ls vs)) (causal-iff n m T ls vs)
 
-door-listed : paths 1 1 1 door (tuples (1 ∷ 2 ∷ []) 3) ≡ doorTransitions
+door-listed : paths 1 1 1 doorLaws (tuples (1 ∷ 2 ∷ []) 3) ≡ doorTransitions
 unfolding causalVerdict
 door-listed = refl
 
-water-listed : paths 2 1 1 water (tuples (1 ∷ 2 ∷ []) 5) ≡ waterTransitions
+water-listed : paths 2 1 1 waterLaws (tuples (1 ∷ 2 ∷ []) 5) ≡ waterTransitions
 unfolding causalVerdict
 water-listed = refl
 
-pub door-transitions : (vs : List ℕ) → length vs ≡ 3 → Each OneValue vs → Path 1 1 1 door vs ↔ List·Memᴰ vs doorTransitions
-door-transitions vs size one = rw door-listed at (listed 1 1 1 3 door vs size one)
+pub door-transitions : (vs : List ℕ) → length vs ≡ 3 → Each OneValue vs → Path 1 1 1 doorLaws vs ↔ List·Memᴰ vs doorTransitions
+door-transitions vs size one = rw door-listed at (listed 1 1 1 3 doorLaws vs size one)
 
-pub water-transitions : (vs : List ℕ) → length vs ≡ 5 → Each OneValue vs → Path 2 1 1 water vs ↔ List·Memᴰ vs waterTransitions
-water-transitions vs size one = rw water-listed at (listed 2 1 1 5 water vs size one)
+pub water-transitions : (vs : List ℕ) → length vs ≡ 5 → Each OneValue vs → Path 2 1 1 waterLaws vs ↔ List·Memᴰ vs waterTransitions
+water-transitions vs size one = rw water-listed at (listed 2 1 1 5 waterLaws vs size one)
