@@ -9,20 +9,21 @@ use lib.ListN.{length, take, drop, length-take, length-drop, take-append-drop}
 use Rattle.description.specs.declared.Law.{Law}
 use Rattle.description_reader.specs.declared.states.Reading.{Reading}
 use Rattle.description_reader.specs.declared.descriptions.Ending.{Ending}
-use Rattle.description_reader.specs.Descriptions.{turned, read, descriptionOf}
-use Rattle.description_reader.specs.Answers.{refused, behind, replied, lawsLeft}
+use Rattle.search.specs.Replies.{refused, answered}
+use Rattle.description_reader.specs.Descriptions.{read, descriptionOf}
+use Rattle.description_reader.specs.Answers.{behind, replied, lawsLeft}
 use Rattle.description_reader.specs.Shown.{actionName}
-use Rattle.description_reader.specs.Internal.{draftOf, outcomeOf, Ended, Limits}
+use Rattle.description_reader.specs.Internal.{draftOf, takenOf, Ended, Limits}
 use Rattle.text.proofs.Spelling.{spelled-length, spelled-past}
 use Rattle.description_reader.proofs.Stepping.{sound-64}
 
 module _ (text : List ℕ) (e : Ending) where
-  pub ends-refused : 0 < e .state .refused → outcomeOf text e ≡ turned (e .state .refused) (e .line)
-  unfolding outcomeOf
+  pub ends-refused : 0 < e .state .refused → takenOf text e ≡ refused (e .state .refused) (e .line)
+  unfolding takenOf
   ends-refused h = rw (ne-eqb (e .state .refused) 0 (λ z. absurd (omega arith)))
 
-  pub ends-read : e .state .refused ≤ 0 → outcomeOf text e ≡ read (draftOf text (e .state .reading)) (drop (e .at) text) (e .line)
-  unfolding outcomeOf
+  pub ends-read : e .state .refused ≤ 0 → takenOf text e ≡ answered (read (draftOf text (e .state .reading)) (drop (e .at) text) (e .line))
+  unfolding takenOf
   ends-read h = rw (eq-eqb (e .state .refused) 0 (omega arith))
 
 -- a description that was read
@@ -31,7 +32,7 @@ module _ (text : List ℕ) (e : Ending) (laws : List Law) (ended : Ended laws te
   taken =
       omega (arith, length-take (e .state .reading .run .count) (e .state .reading .run .laws), ended .sound .held, sound-64 (ended .sound))
 
-  pub read-reply : behind (e .at) (e .line) ≡ replied text (read (draftOf text (e .state .reading)) (drop (e .at) text) (e .line))
+  pub read-reply : answered (behind (e .at) (e .line)) ≡ replied text (answered (read (draftOf text (e .state .reading)) (drop (e .at) text) (e .line)))
   read-reply =
       let at : length text - length (drop (e .at) text) ≡ e .at = omega (arith, length-drop (e .at) text, ended .within) in
       rw at
@@ -40,7 +41,7 @@ module _ (text : List ℕ) (e : Ending) (laws : List Law) (ended : Ended laws te
       ≡ descriptionOf (draftOf text (e .state .reading))
   read-record = rw (spelled-length, taken)
 
-  pub read-laws : e .state .reading .run .laws ≡ lawsLeft (read (draftOf text (e .state .reading)) (drop (e .at) text) (e .line)) laws
+  pub read-laws : e .state .reading .run .laws ≡ lawsLeft (answered (read (draftOf text (e .state .reading)) (drop (e .at) text) (e .line))) laws
   read-laws = rw (taken, ← ended .follows) (sym (take-append-drop (e .state .reading .run .count) (e .state .reading .run .laws)))
 
 -- no action has a number of 8 or more

@@ -11,7 +11,8 @@ use Rattle.search.proofs.Tests.{and-iff}
 use lib.Dec.{eqb, leb}
 use lib.ListN.{length, getD}
 use Rattle.text.specs.Bytes.{isDigit}
-use Rattle.description_reader.specs.LineSteps.{inHorizon, horizonOf, fluentDue, actionDue, lawDue, allowed, Draft, refuse, finish, endLine}
+use Rattle.description_reader.specs.LineSteps as step
+use Rattle.description_reader.specs.LineSteps.{inHorizon, horizonOf, fluentDue, actionDue, lawDue, allowed, Draft, finish, endLine}
 use Rattle.description_reader.specs.Internal.{twoDigits}
 
 pub horizon-one : (xs : List ℕ) → length xs ≡ 1 → horizonOf xs ≡ cond (isDigit (getD xs 0 0)) (inHorizon (getD xs 0 0 - 48)) none
@@ -41,7 +42,7 @@ allowed-action k = simp or-assoc
 pub allowed-fluent : (k : ℕ) → allowed fluentDue k ≡ (eqb k 1 || (eqb k 2 || allowed lawDue k))
 allowed-fluent k = simp or-assoc
 
-pub end-bytes : (d : Draft) (xs : List ℕ) → 0 < length xs → refuse 2 ≡ endLine d xs
+pub end-bytes : (d : Draft) (xs : List ℕ) → 0 < length xs → step.refused 2 ≡ endLine d xs
 end-bytes d [] h = absurd (omega arith)
 end-bytes d (x ∷ xs) h = refl
 

@@ -16,14 +16,17 @@ use Rattle.description.specs.declared.Law.{Law}
 use Rattle.text.specs.Bytes.{newline, equalsSign, Cut, cutAt, cut}
 use Rattle.text.specs.Lines.{Line, keyed, valued, ended, keyNumber, firstLine}
 use Rattle.description_reader.specs.LineSteps.{Due, horizonDue, firstFluentDue, fluentDue, actionDue, lawDue, ifDue, afterDue, Draft, allowed}
-use Rattle.description_reader.specs.LineSteps.{Step, refuse, next, finish, lineStep}
-use Rattle.description_reader.specs.Descriptions.{Outcome, turned, afterStep, afterFirst, linesFrom, described}
+use Rattle.description_reader.specs.LineSteps as step
+use Rattle.description_reader.specs.LineSteps.{Step, next, finish, lineStep}
+use Rattle.search.specs.Replies.{Reply, refused}
+use Rattle.description_reader.specs.Descriptions.{Taken, afterStep, afterFirst, linesFrom, described}
 use Rattle.text.specs.declared.lines.LineAt.{LineAt}
 use Rattle.description_reader.specs.declared.states.Reading.{Reading}
 use Rattle.description_reader.specs.declared.states.State.{State}
-use Rattle.text.specs.Lists.{Listed, refused, codes, listFrom, listOf}
+use Rattle.text.specs.Lists as lists
+use Rattle.text.specs.Lists.{Listed, codes, listFrom, listOf}
 use Rattle.text.specs.Internal.{lineOf, spelled, itemsAt}
-use Rattle.description_reader.specs.Internal.{dueOf, draftOf, stepOf, stepWith, isListKey, itemsFrom, highFor, outcomeOf, blankState, Sound}
+use Rattle.description_reader.specs.Internal.{dueOf, draftOf, stepOf, stepWith, isListKey, itemsFrom, highFor, takenOf, blankState, Sound}
 use Rattle.text.proofs.Cutting.{first-inside}
 use Rattle.text.proofs.Spelling.{spelled-length}
 use Rattle.text.proofs.Items.{items-start, items-end, items-none}
@@ -52,7 +55,7 @@ shorter text l e = ended-rest text (first (eqb newline) 0 text) l refl e
 module _ (k m lent line : ℕ) where
   after-step : (s : Step) (rest : List ℕ) → ((due : Due) (d : Draft) → linesFrom k lent (suc line) due d rest ≡ linesFrom m lent (suc line) due d rest)
       → afterStep s line rest (λ due d r. linesFrom k lent (suc line) due d r) ≡ afterStep s line rest (λ due d r. linesFrom m lent (suc line) due d r)
-  after-step (refuse j) rest h = refl
+  after-step (step.refused j) rest h = refl
   after-step (next due d) rest h = h due d
   after-step (finish d) rest h = refl
 
@@ -84,7 +87,7 @@ module _ (k : ℕ) (h : 10 ≤ k) where
   allowed-none ifDue = not-key 5 (omega arith)
   allowed-none afterDue = not-key 6 (omega arith)
 
-  none-step : (lent : ℕ) (due : Due) (d : Draft) (value : List ℕ) → lineStep lent due d k value ≡ refuse 2
+  none-step : (lent : ℕ) (due : Due) (d : Draft) (value : List ℕ) → lineStep lent due d k value ≡ step.refused 2
   unfolding lineStep
   none-step lent due d value = rw (allowed-none due)
 
@@ -147,11 +150,11 @@ module _ (text : List ℕ) (lent : ℕ) (due : Due) (r : Reading) (key : ℕ) (l
   pub step-whole : Whole
   step-whole = step-by (allowed due key) refl
 
--- a list that is refused refuses its line
+-- a list that is lists.refused refuses its line
 module _ (lent : ℕ) (due : Due) (d : Draft) (key : ℕ) (list : List ℕ) (names : List (List ℕ)) (high k : ℕ)
-    (no : lineList names high due key list ≡ refused k) where
+    (no : lineList names high due key list ≡ lists.refused k) where
   with-key : (b : Bool) → eqb key 5 ≡ b → (allowed due key && isListKey key) ≡ true
-      → stepWith lent due d key list (refused k) ≡ refuse k
+      → stepWith lent due d key list (lists.refused k) ≡ step.refused k
   unfolding stepWith
   with-key true e is = rw (and-iff (allowed due key) (isListKey key) .0 is .0, e)
   with-key false e is =
@@ -159,18 +162,18 @@ module _ (lent : ℕ) (due : Due) (d : Draft) (key : ℕ) (list : List ℕ) (nam
       let six : eqb key 6 ≡ true = rw e at (t .1) in
       rw (t .0, e, six)
 
-  with-list : (b : Bool) → (allowed due key && isListKey key) ≡ b → stepWith lent due d key list (refused k) ≡ refuse k
+  with-list : (b : Bool) → (allowed due key && isListKey key) ≡ b → stepWith lent due d key list (lists.refused k) ≡ step.refused k
   with-list true e = with-key (eqb key 5) refl e
   with-list false e =
       let none = list-none names high due key list e in
       let z : _≡_ {A = ℕ} 0 1 = cc in
       absurd (omega arith)
 
-  step-refused : stepWith lent due d key list (lineList names high due key list) ≡ refuse k
+  step-refused : stepWith lent due d key list (lineList names high due key list) ≡ step.refused k
   step-refused = rw no (with-list (allowed due key && isListKey key) refl)
 
 -- the lines left from a place on
-abbrev pub leftAt : List ℕ → ℕ → State → ℕ → ℕ → Outcome
+abbrev pub leftAt : List ℕ → ℕ → State → ℕ → ℕ → Reply Taken
 leftAt text lent s at line = linesFrom (suc (length (drop at text))) lent line (dueOf (s .due)) (draftOf text (s .reading)) (drop at text)
 
 pub left-start : (text : List ℕ) (lent : ℕ) (laws : List Law) → length text ≤ 65535 → leftAt text lent (blankState laws) 0 1 ≡ described lent text
@@ -178,7 +181,7 @@ unfolding described spelled
 left-start text lent laws h = rw (le-ltb 65535 (length text) h)
 
 -- what a state's step makes of the lines left
-abbrev pub Onward : List ℕ → ℕ → ℕ → ℕ → Step → ℕ → Outcome
+abbrev pub Onward : List ℕ → ℕ → ℕ → ℕ → Step → ℕ → Reply Taken
 Onward text lent at line s behind = afterStep s line (drop behind text) (λ due d rest. linesFrom (length (drop at text)) lent (suc line) due d rest)
 
 module _ (text : List ℕ) (lent : ℕ) (s : State) (at line : ℕ) (l : LineAt) (is : lineOf text l ≡ firstLine (drop at text)) where
@@ -193,29 +196,29 @@ module _ (text : List ℕ) (lent : ℕ) (s : State) (at line : ℕ) (l : LineAt)
       ≡ Onward text lent at line (lineStep lent (dueOf (s .due)) (draftOf text (s .reading)) (l .key) (take (l .to - l .from) (drop (l .from) text))) (l .next)
   line-turn = keyed-turn (ltb (l .key) 10) refl
 
--- an ending that is refused, and one where the reader stops
-outcome-by : (text : List ℕ) (s : State) (line at k : ℕ) (b : Bool) → eqb (s .refused) 0 ≡ b → stepOf text s ≡ refuse k
-    → outcomeOf text (record { state = s; line = line; at = at }) ≡ turned k line
-unfolding stepOf outcomeOf
+-- an ending that is lists.refused, and one where the reader stops
+outcome-by : (text : List ℕ) (s : State) (line at k : ℕ) (b : Bool) → eqb (s .refused) 0 ≡ b → stepOf text s ≡ step.refused k
+    → takenOf text (record { state = s; line = line; at = at }) ≡ refused k line
+unfolding stepOf takenOf
 outcome-by text s line at k true e h = go (s .ended) refl
   where
-    go : (b : Bool) → s .ended ≡ b → outcomeOf text (record { state = s; line = line; at = at }) ≡ turned k line
+    go : (b : Bool) → s .ended ≡ b → takenOf text (record { state = s; line = line; at = at }) ≡ refused k line
     go true f = let z : _≡_ {A = ℕ} 0 1 = cc in absurd (omega arith)
     go false f = let z : _≡_ {A = ℕ} 0 1 = cc in absurd (omega arith)
 outcome-by text s line at k false e h =
-    let r : refuse (s .refused) ≡ refuse k = rw e at h in
+    let r : step.refused (s .refused) ≡ step.refused k = rw e at h in
     let q : s .refused ≡ k = cc in
     rw (e, q)
 
-pub outcome-refused : (text : List ℕ) (s : State) (line at k : ℕ) → stepOf text s ≡ refuse k
-    → outcomeOf text (record { state = s; line = line; at = at }) ≡ turned k line
+pub outcome-refused : (text : List ℕ) (s : State) (line at k : ℕ) → stepOf text s ≡ step.refused k
+    → takenOf text (record { state = s; line = line; at = at }) ≡ refused k line
 outcome-refused text s line at k h = outcome-by text s line at k (eqb (s .refused) 0) refl h
 
 -- the reader stops
 module _ (text : List ℕ) (lent at line : ℕ) (s : State) (behind : ℕ) where
   stop-by : (b : Bool) → eqb (s .refused) 0 ≡ b → (ltb 0 (s .refused) || s .ended) ≡ true
-      → Onward text lent at line (stepOf text s) behind ≡ outcomeOf text (record { state = s; line = line; at = behind })
-  unfolding stepOf outcomeOf
+      → Onward text lent at line (stepOf text s) behind ≡ takenOf text (record { state = s; line = line; at = behind })
+  unfolding stepOf takenOf
   stop-by true e h =
       let zero-refused : s .refused ≡ 0 = eqb-true (s .refused) 0 e in
       let last : s .ended ≡ true = rw zero-refused at h in
@@ -223,7 +226,7 @@ module _ (text : List ℕ) (lent at line : ℕ) (s : State) (behind : ℕ) where
   stop-by false e h = rw e
 
   pub stop-outcome : (ltb 0 (s .refused) || s .ended) ≡ true
-      → Onward text lent at line (stepOf text s) behind ≡ outcomeOf text (record { state = s; line = line; at = behind })
+      → Onward text lent at line (stepOf text s) behind ≡ takenOf text (record { state = s; line = line; at = behind })
   stop-outcome h = stop-by (eqb (s .refused) 0) refl h
 
 or-false : (a b : Bool) → (a || b) ≡ false → (a ≡ false) × (b ≡ false)
@@ -262,10 +265,10 @@ abbrev pub listHere : List ℕ → State → LineAt → Listed
 listHere text s l =
     lineList (spelled text (s .reading .names)) (highFor (l .key) (s .reading)) (dueOf (s .due)) (l .key) (take (l .to - l .from) (drop (l .from) text))
 
--- the line at a place, its list read or refused
+-- the line at a place, its list read or lists.refused
 module _ (text : List ℕ) (lent : ℕ) (s : State) (at line : ℕ) (l : LineAt) (is : lineOf text l ≡ firstLine (drop at text)) where
-  pub turned-left : (k : ℕ) → listHere text s l ≡ refused k → leftAt text lent s at line ≡ turned k line
-  turned-left k fails =
+  pub refused-left : (k : ℕ) → listHere text s l ≡ lists.refused k → leftAt text lent s at line ≡ refused k line
+  refused-left k fails =
       let value = take (l .to - l .from) (drop (l .from) text) in
       line-turn text lent s at line l is
       ∙ ap (λ step. Onward text lent at line step (l .next))

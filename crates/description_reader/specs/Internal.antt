@@ -17,12 +17,15 @@ use Rattle.description_reader.specs.declared.states.Due.the-variants as 
 use Rattle.description_reader.specs.declared.codes.Codes.{Codes}
 use Rattle.text.specs.Bytes.{isDigit}
 use Rattle.text.specs.Lines.{ifKey, afterKey}
-use Rattle.text.specs.Lists.{Listed, refused, codes, added}
+use Rattle.text.specs.Lists as lists
+use Rattle.text.specs.Lists.{Listed, codes, added}
 use Rattle.text.specs.Internal.{spelled}
 use Rattle.description_reader.specs.LineSteps.{Due, horizonDue, firstFluentDue, fluentDue, actionDue, lawDue, ifDue, afterDue, Draft, allowed}
-use Rattle.description_reader.specs.LineSteps.{Step, refuse, next, finish, inHorizon, ifLine, afterLine, byKey}
+use Rattle.description_reader.specs.LineSteps as step
+use Rattle.description_reader.specs.LineSteps.{Step, next, finish, inHorizon, ifLine, afterLine, byKey}
 use Rattle.description.specs.Laws.{padded, noLaw}
-use Rattle.description_reader.specs.Descriptions.{Outcome, turned, read}
+use Rattle.search.specs.Replies.{Reply, refused, answered}
+use Rattle.description_reader.specs.Descriptions.{Taken, read}
 
 -- a list's codes so far, or its refusal
 abbrev pub noCodes : Codes
@@ -33,11 +36,11 @@ pub record Padded (l : Codes) : Type 0 where
   pub padding : l .codes ≡ padded (take (l .count) (l .codes))
 
 unfoldable pub listedOf : Codes → Listed
-listedOf l = cond (eqb (l .refused) 0) (codes (take (l .count) (l .codes))) (refused (l .refused))
+listedOf l = cond (eqb (l .refused) 0) (codes (take (l .count) (l .codes))) (lists.refused (l .refused))
 
 -- one more item behind those of a list: refusal 5 of a seventh, then 6
 unfoldable pub oneMore : List ℕ → Option ℕ → Listed
-oneMore done code = cond (ltb (length done) 6) (added done code codes) (refused 5)
+oneMore done code = cond (ltb (length done) 6) (added done code codes) (lists.refused 5)
 
 abbrev pub twoDigits : ℕ → ℕ → Option ℕ
 twoDigits a b = cond (isDigit a && isDigit b && not (eqb a 48)) (inHorizon (10 * (a - 48) + (b - 48))) none
@@ -66,7 +69,7 @@ unfoldable pub stepOf : List ℕ → State → Step
 stepOf text s =
     cond (eqb (s .refused) 0)
     (cond (s .ended) (finish (draftOf text (s .reading))) (next (dueOf (s .due)) (draftOf text (s .reading))))
-    (refuse (s .refused))
+    (step.refused (s .refused))
 
 -- a law that is being read has a place in the run
 abbrev pub HasRoom : Due → ℕ → Type 0
@@ -105,7 +108,7 @@ unfoldable pub stepWith : ℕ → Due → Draft → ℕ → List ℕ → Listed 
 stepWith lent due d key value list =
     cond (allowed due key)
     (cond (eqb key ifKey) (ifLine d list) (cond (eqb key afterKey) (afterLine d list) (byKey lent d key value)))
-    (refuse 2)
+    (step.refused 2)
 
 -- a reading with one more law
 pub record Pushed (s r : Reading) : Type 0 where
@@ -143,9 +146,9 @@ unfoldable pub highFor : ℕ → Reading → ℕ
 highFor key r = cond (eqb key afterKey) (r .names .count) (r .fluents)
 
 -- what the reader's ending stands for
-unfoldable pub outcomeOf : List ℕ → Ending → Outcome
-outcomeOf text e =
-    cond (eqb (e .state .refused) 0) (read (draftOf text (e .state .reading)) (drop (e .at) text) (e .line)) (turned (e .state .refused) (e .line))
+unfoldable pub takenOf : List ℕ → Ending → Reply Taken
+takenOf text e =
+    cond (eqb (e .state .refused) 0) (answered (read (draftOf text (e .state .reading)) (drop (e .at) text) (e .line))) (refused (e .state .refused) (e .line))
 
 pub record Ended (old : List Law) (text : List ℕ) (e : Ending) : Type 0 where
   pub sound : Sound (dueOf (e .state .due)) (e .state .reading)

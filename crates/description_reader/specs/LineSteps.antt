@@ -15,7 +15,8 @@ use Rattle.description.specs.Laws.{padded, lawOf}
 use Rattle.text.specs.Bytes.{isDigit, same}
 use Rattle.text.specs.Lines.{horizonKey, fluentKey, actionKey, staticKey, dynamicKey, ifKey, afterKey, endKey}
 use Rattle.text.specs.Names.{falseBytes, isNew, literal}
-use Rattle.text.specs.Lists.{Listed, refused, codes, listOf}
+use Rattle.text.specs.Lists as lists
+use Rattle.text.specs.Lists.{Listed, codes, listOf}
 
 -- what is due: the horizon, the first fluent, a further fluent or what follows, an action or what follows, a law or the end,
 -- an if-list, an after-list
@@ -42,7 +43,7 @@ allowed afterDue k = eqb k afterKey
 
 -- what a line comes to: a refusal's number, what is due next, or the end of the description
 pub data Step : Type 0 where
-  refuse : ℕ → Step
+  refused : ℕ → Step
   next : Due → Draft → Step
   finish : Draft → Step
 
@@ -57,7 +58,7 @@ horizonOf (a ∷ b ∷ []) = cond (isDigit a && isDigit b && not (eqb a 48)) (in
 horizonOf (a ∷ b ∷ c ∷ bs) = none
 
 abbrev pub horizonLine : Draft → Option ℕ → Step
-horizonLine d none = refuse 3
+horizonLine d none = refused 3
 horizonLine d (some T) =
     next firstFluentDue (record { horizon = T; fluents = d .fluents; names = d .names; laws = d .laws; law = d .law })
 
@@ -67,8 +68,8 @@ nameLine fits due fluents d value =
     cond fits
     (cond (isNew (d .names) value)
     (next due (record { horizon = d .horizon; fluents = fluents; names = d .names ++ (value ∷ []); laws = d .laws; law = d .law }))
-    (refuse 4))
-    (refuse 5)
+    (refused 4))
+    (refused 5)
 
 abbrev pub fluentLine : Draft → List ℕ → Step
 fluentLine d value = nameLine (ltb (d .fluents) 24) fluentDue (suc (d .fluents)) d value
@@ -85,14 +86,14 @@ unfoldable pub headOf : List (List ℕ) → ℕ → List ℕ → Option Head
 headOf names fluents value = cond (same value falseBytes) (some False) (litHead (literal names 0 fluents value))
 
 abbrev pub begun : Draft → Kind → Option Head → Step
-begun d kind none = refuse 6
+begun d kind none = refused 6
 begun d kind (some h) =
     next ifDue (record { horizon = d .horizon; fluents = d .fluents; names = d .names; laws = d .laws; law = lawOf kind h [] [] })
 
 -- a new law, of at most 64 and of those lent: 5 before its head's spelling
 abbrev pub lawLine : ℕ → Draft → Kind → List ℕ → Step
 lawLine lent d kind value =
-    cond (ltb (length (d .laws)) (min 64 lent)) (begun d kind (headOf (d .names) (d .fluents) value)) (refuse 5)
+    cond (ltb (length (d .laws)) (min 64 lent)) (begun d kind (headOf (d .names) (d .fluents) value)) (refused 5)
 
 -- a law is whole behind its if-list if it is static, else behind its after-list
 abbrev pub whole : Draft → Law → Draft
@@ -105,7 +106,7 @@ withIf d Dynamic cs =
     (record { horizon = d .horizon; fluents = d .fluents; names = d .names; laws = d .laws; law = lawOf Dynamic (d .law .head) cs [] })
 
 abbrev pub ifLine : Draft → Listed → Step
-ifLine d (refused k) = refuse k
+ifLine d (lists.refused k) = refused k
 ifLine d (codes cs) = withIf d (d .law .kind) cs
 
 abbrev pub withAfter : Law → List ℕ → Law
@@ -120,12 +121,12 @@ withAfter l cs =
     }
 
 abbrev pub afterLine : Draft → Listed → Step
-afterLine d (refused k) = refuse k
+afterLine d (lists.refused k) = refused k
 afterLine d (codes cs) = next lawDue (whole d (withAfter (d .law) cs))
 
 abbrev pub endLine : Draft → List ℕ → Step
 endLine d [] = finish d
-endLine d (b ∷ bs) = refuse 2
+endLine d (b ∷ bs) = refused 2
 
 -- a line whose key is allowed, by its key; a fluent literal's place is below the number of fluents
 abbrev pub byKey : ℕ → Draft → ℕ → List ℕ → Step
@@ -139,4 +140,4 @@ byKey lent d key value =
     (cond (eqb key afterKey) (afterLine d (listOf (d .names) 0 (length (d .names)) 6 value)) (endLine d value)))))))
 
 unfoldable pub lineStep : ℕ → Due → Draft → ℕ → List ℕ → Step
-lineStep lent due d key value = cond (allowed due key) (byKey lent d key value) (refuse 2)
+lineStep lent due d key value = cond (allowed due key) (byKey lent d key value) (refused 2)

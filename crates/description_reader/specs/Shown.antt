@@ -6,7 +6,8 @@ use Prim.Native.Nat.{ℕ, _+_}
 use lib.Dec.{ltb}
 use lib.ListN.{length, getD}
 use Rattle.description_reader.specs.LineSteps.{Draft}
-use Rattle.description_reader.specs.Descriptions.{Outcome, turned, read, described}
+use Rattle.search.specs.Replies.{Reply, refused, answered}
+use Rattle.description_reader.specs.Descriptions.{Taken, read, described}
 
 abbrev pub fluentName : Draft → ℕ → List ℕ
 fluentName d f = cond (ltb f (d .fluents)) (getD (d .names) f []) []
@@ -16,9 +17,9 @@ abbrev pub actionName : Draft → ℕ → List ℕ
 actionName d k = getD (d .names) (d .fluents + k) []
 
 -- and so does every number in a text that is refused
-abbrev pub shownBy : (Draft → ℕ → List ℕ) → Outcome → ℕ → List ℕ
-shownBy name (turned k place) i = []
-shownBy name (read d rest line) i = name d i
+abbrev pub shownBy : (Draft → ℕ → List ℕ) → Reply Taken → ℕ → List ℕ
+shownBy name (refused k place) i = []
+shownBy name (answered (read d rest line)) i = name d i
 
 unfoldable pub shownFluent : List ℕ → ℕ → List ℕ
 shownFluent text f = shownBy fluentName (described 64 text) f

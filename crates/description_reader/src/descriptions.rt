@@ -16,7 +16,7 @@ ghost use mathlib.Core.Path.{_≡_};
 ghost use Prim.Native.Nat.{_≤_, _<_};
 ghost use lib.ListN.{length};
 ghost use Rattle.description_reader.specs.Descriptions.{described};
-ghost use Rattle.description_reader.specs.Internal.{dueOf, blankState, itemsFrom, highFor, outcomeOf, Ended, Limits};
+ghost use Rattle.description_reader.specs.Internal.{dueOf, blankState, itemsFrom, highFor, takenOf, Ended, Limits};
 
 // Where the reader stopped: its state, the line, and the place behind the line.
 pub struct Ending {
@@ -85,7 +85,7 @@ fn sort_end(reading: Reading, key: usize) -> usize
 // Reads line by line to the end line or to the first bad line; laws are counted up to those lent.
 fn read_lines(text: &[u8], laws: [Law; 64], lent: usize) -> Ending
     requires { ⌜ length (now text) ≤ 65535 ⌝ }
-    ensures { λ r. ⌜ outcomeOf (now (text .entry)) r ≡ described lent (now (text .entry)) ⌝ }
+    ensures { λ r. ⌜ takenOf (now (text .entry)) r ≡ described lent (now (text .entry)) ⌝ }
     ensures { λ r. ⌜ Ended laws (now (text .entry)) r ⌝ }
 {
     let mut state = begun(laws);
@@ -124,7 +124,7 @@ fn read_lines(text: &[u8], laws: [Law; 64], lent: usize) -> Ending
 
 // Reads a description of at most 65,535 bytes.
 pub(crate) fn read(text: &[u8], laws: [Law; 64], lent: usize) -> Ending
-    ensures { λ r. ⌜ outcomeOf (now (text .entry)) r ≡ described lent (now (text .entry)) ⌝ }
+    ensures { λ r. ⌜ takenOf (now (text .entry)) r ≡ described lent (now (text .entry)) ⌝ }
     ensures { λ r. ⌜ Ended laws (now (text .entry)) r ⌝ }
 {
     if 65535 < text.len() {
@@ -146,7 +146,7 @@ fn no_laws() -> [Law; 64] {
 
 // Reads a description where no law run counts, for its names.
 pub fn read_alone(text: &[u8]) -> Ending
-    ensures { λ r. ⌜ outcomeOf (now (text .entry)) r ≡ described 64 (now (text .entry)) ⌝ }
+    ensures { λ r. ⌜ takenOf (now (text .entry)) r ≡ described 64 (now (text .entry)) ⌝ }
     ensures { λ r. ⌜ Limits (r .state .reading) ⌝ }
 {
     read(text, no_laws(), 64)

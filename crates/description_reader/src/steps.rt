@@ -20,7 +20,8 @@ ghost use Prim.Native.Nat.{ℕ, suc, _+_, _-_, _≤_, _<_};
 ghost use lib.ListN.{length, take, drop};
 ghost use Rattle.text.specs.Lists.{codes};
 ghost use Rattle.text.specs.Internal.{spelled};
-ghost use Rattle.description_reader.specs.LineSteps.{actionDue, fluentDue, horizonOf, refuse, horizonLine, nameLine, lawLine};
+ghost use Rattle.description_reader.specs.LineSteps as step;
+ghost use Rattle.description_reader.specs.LineSteps.{actionDue, fluentDue, horizonOf, horizonLine, nameLine, lawLine};
 ghost use Rattle.description_reader.specs.LineSteps.{begun, whole, ifLine, afterLine, endLine, byKey};
 ghost use Rattle.description.specs.Laws.{lawOf};
 ghost use Rattle.description_reader.specs.Internal.{dueOf, draftOf, stepOf, stepWith, hasPlace, Sound, Goes, Padded, Pushed};
@@ -28,7 +29,7 @@ ghost use Rattle.description_reader.specs.Internal.{dueOf, draftOf, step
 // A line that is refused.
 pub(crate) fn refused(state: State, number: u8) -> State
     requires { ⌜ (0 < number) × Sound (dueOf (state .due)) (state .reading) ⌝ }
-    ensures { λ r. ⌜ ((text : List ℕ) → stepOf text r ≡ refuse number) ⌝ }
+    ensures { λ r. ⌜ ((text : List ℕ) → stepOf text r ≡ step.refused number) ⌝ }
     ensures { λ r. ⌜ Goes state r ⌝ }
 {
     let mut next = state;

@@ -1,4 +1,4 @@
--- Values marked with literals, and the lines of a history.
+-- Values marked with literals, and the lines of a readHistory.
 -- Assumes nothing.
 use mathlib.Core.Path.{_≡_, refl, sym, _∙_, ap}
 use mathlib.Core.Bool.{Bool, true, false, cond}
@@ -11,13 +11,15 @@ use borrow.Author.Tests.{eq-eqb, ne-eqb, lt-ltb, ltb-true, ltb-false}
 use lib.Dec.{eqb, ltb}
 use lib.ListN.{length, getD, take, set, length-take}
 use lib.Seq.{take-set-lt, take-set-le, set-out, getD-take}
+use Rattle.search.specs.Replies.{Reply, refused, answered}
 use Rattle.text.specs.Lines.{Line, keyed, firstLine}
 use Rattle.text.specs.Internal.{keyIn, itemAt, nextAt, itemsAt}
 use Rattle.text.proofs.Items.{items-next, items-end, items-start, items-none}
-use Rattle.text.specs.Lists.{Listed, refused, codes, items, listFrom, listOf}
+use Rattle.text.specs.Lists as lists
+use Rattle.text.specs.Lists.{Listed, codes, items, listFrom, listOf}
 use Rattle.text.specs.Names.{literal}
 use Rattle.description_reader.specs.LineSteps.{Draft}
-use Rattle.history_reader.specs.Histories.{withTrue, withFalse, marked, Recorded, rejected, values, endLine, listed, listLine, actLine, most, statesFrom}
+use Rattle.history_reader.specs.Histories.{withTrue, withFalse, marked, historyEnd, listed, listLine, actLine, most, statesFrom}
 use Rattle.history_reader.specs.Internal.{recordFrom, isState, keyAt, placeFrom}
 
 -- one literal after others
@@ -26,7 +28,7 @@ marked-more base vs [] c = refl
 marked-more base vs (x ∷ done) c =
     marked-more base (set vs (base + x / 2) (cond (eqb (x % 2) 0) (withTrue (getD vs (base + x / 2) 0)) (withFalse (getD vs (base + x / 2) 0)))) done c
 
--- the first n values of an array
+-- the first n answered of an array
 module _ (xs : List ℕ) (n base c : ℕ) where
   marked-by : (b : Bool) → ltb (base + c / 2) n ≡ b
       → take n (set xs (base + c / 2) (cond (eqb (c % 2) 0) (withTrue (getD xs (base + c / 2) 0)) (withFalse (getD xs (base + c / 2) 0))))
@@ -46,14 +48,14 @@ module _ (xs : List ℕ) (n base c : ℕ) where
   marked-outside h = sym (set-out (take n xs) (base + c / 2) _ (omega (arith, length-take n xs)))
 
 -- a line of literals with what follows it
-list-line : (d : Draft) (key low high : ℕ) (o : Option Line) (line base : ℕ) (vs : List ℕ) (f g : List ℕ → List ℕ → Recorded)
+list-line : (d : Draft) (key low high : ℕ) (o : Option Line) (line base : ℕ) (vs : List ℕ) (f g : List ℕ → List ℕ → Reply (List ℕ))
     → ((ws rest : List ℕ) → f ws rest ≡ g ws rest) → listLine d key low high o line base vs f ≡ listLine d key low high o line base vs g
 list-line d key low high none line base vs f g h = refl
 list-line d key low high (some l) line base vs f g h = go (eqb (l .key) key) (listOf (d .names) low high most (l .value))
   where
     go : (b : Bool) (list : Listed)
-        → cond b (listed list line base vs (λ ws. f ws (l .rest))) (rejected 2 line) ≡ cond b (listed list line base vs (λ ws. g ws (l .rest))) (rejected 2 line)
-    go true (refused k) = refl
+        → cond b (listed list line base vs (λ ws. f ws (l .rest))) (refused 2 line) ≡ cond b (listed list line base vs (λ ws. g ws (l .rest))) (refused 2 line)
+    go true (lists.refused k) = refl
     go true (codes cs) = h (marked base vs cs) (l .rest)
     go false list = refl
 
@@ -87,23 +89,23 @@ states-lines (suc k) d t line vs text e =
 
 -- the end line: another key, a value, bytes behind it, or whole
 module _ (line : ℕ) (vs : List ℕ) where
-  pub end-other : (k : ℕ) (value rest : List ℕ) → (k ≡ 9 → ⊥) → rejected 2 line ≡ endLine (keyed (keyIn k) value rest) line vs
+  pub end-other : (k : ℕ) (value rest : List ℕ) → (k ≡ 9 → ⊥) → refused 2 line ≡ historyEnd (keyed (keyIn k) value rest) line vs
   end-other k value rest h = go (ltb k 10)
     where
-      go : (b : Bool) → rejected 2 line ≡ endLine (keyed (cond b (some k) none) value rest) line vs
+      go : (b : Bool) → refused 2 line ≡ historyEnd (keyed (cond b (some k) none) value rest) line vs
       go true = rw (ne-eqb k 9 h)
       go false = refl
 
-  pub end-valued : (value rest : List ℕ) → 0 < length value → rejected 2 line ≡ endLine (keyed (keyIn 9) value rest) line vs
+  pub end-valued : (value rest : List ℕ) → 0 < length value → refused 2 line ≡ historyEnd (keyed (keyIn 9) value rest) line vs
   end-valued [] rest h = absurd (omega arith)
   end-valued (b ∷ bs) rest h = refl
 
-  pub end-more : (value rest : List ℕ) → length value ≤ 0 → 0 < length rest → rejected 7 (suc line) ≡ endLine (keyed (keyIn 9) value rest) line vs
+  pub end-more : (value rest : List ℕ) → length value ≤ 0 → 0 < length rest → refused 7 (suc line) ≡ historyEnd (keyed (keyIn 9) value rest) line vs
   end-more [] [] h g = absurd (omega arith)
   end-more [] (b ∷ bs) h g = refl
   end-more (b ∷ bs) rest h g = absurd (omega arith)
 
-  pub end-whole : (value rest : List ℕ) → length value ≤ 0 → length rest ≤ 0 → values vs ≡ endLine (keyed (keyIn 9) value rest) line vs
+  pub end-whole : (value rest : List ℕ) → length value ≤ 0 → length rest ≤ 0 → answered vs ≡ historyEnd (keyed (keyIn 9) value rest) line vs
   end-whole [] [] h g = refl
   end-whole [] (b ∷ bs) h g = absurd (omega arith)
   end-whole (b ∷ bs) rest h g = absurd (omega arith)
@@ -118,7 +120,7 @@ module _ (names : List (List ℕ)) (low high : ℕ) (list : List ℕ) (i : ℕ) 
       → listFrom names low high most (done ++ (c ∷ [])) (itemsAt list next) ≡ R
   item-marked c next e f = rw f (rw (lt-ltb (length done) most few, e) at unrolled)
 
-  pub item-refused : literal names low high (itemAt list i) ≡ none → R ≡ refused 6
+  pub item-refused : literal names low high (itemAt list i) ≡ none → R ≡ lists.refused 6
   item-refused e = sym (rw (lt-ltb (length done) most few, e) at unrolled)
 
 pub list-done : (names : List (List ℕ)) (low high : ℕ) (list : List ℕ) (i : ℕ) (done : List ℕ) {R : Listed} → length list < i
@@ -139,11 +141,11 @@ list-all names low high list i e = rw e (go (ltb 0 (length list)) refl)
         rw (past, items-none list (ltb-false 0 (length list) f))
 
 -- a line with another key, and one with the key that is due
-module _ (d : Draft) (key low high line base : ℕ) (vs : List ℕ) (go : List ℕ → List ℕ → Recorded) (value rest : List ℕ) where
-  pub line-other : (k : ℕ) → (k ≡ key → ⊥) → rejected 2 line ≡ listLine d key low high (keyed (keyIn k) value rest) line base vs go
+module _ (d : Draft) (key low high line base : ℕ) (vs : List ℕ) (go : List ℕ → List ℕ → Reply (List ℕ)) (value rest : List ℕ) where
+  pub line-other : (k : ℕ) → (k ≡ key → ⊥) → refused 2 line ≡ listLine d key low high (keyed (keyIn k) value rest) line base vs go
   line-other k h = by (ltb k 10)
     where
-      by : (b : Bool) → rejected 2 line ≡ listLine d key low high (keyed (cond b (some k) none) value rest) line base vs go
+      by : (b : Bool) → refused 2 line ≡ listLine d key low high (keyed (cond b (some k) none) value rest) line base vs go
       by true = rw (ne-eqb k key h)
       by false = refl
 
@@ -158,7 +160,7 @@ key-below line = go (isState line)
     go true = omega arith
     go false = omega arith
 
--- where a time's values begin
+-- where a time's answered begin
 pub base-bound : (count line : ℕ) (t : ℕ) → (line - 1) / 2 ≤ t → count ≤ 32 → (line - 1) / 2 * count ≤ t * 32
 base-bound count line t h few =
     omega (arith, mul-le-mul-left ((line - 1) / 2) few)

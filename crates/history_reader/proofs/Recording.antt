@@ -1,4 +1,4 @@
--- The loops of the history reader: a line's items mark the values, and one line after another is read.
+-- The loops of the readHistory reader: a line's items mark the values, and one line after another is read.
 -- Assumes nothing.
 use mathlib.Core.Path.{_≡_, refl, sym, _∙_, ap}
 use mathlib.Core.Bool.{Bool, true, false, cond}
@@ -18,15 +18,17 @@ use Rattle.history_reader.specs.declared.histories.EndAt.{EndAt}
 use Rattle.history_reader.specs.declared.histories.Lines.{Lines}
 use Rattle.history_reader.specs.declared.histories.Record.{Record}
 use Rattle.history_reader.specs.declared.histories.Wanted.{Wanted}
+use Rattle.search.specs.Replies.{Reply, refused, answered}
 use Rattle.text.specs.Lines.{Line, firstLine}
 use Rattle.text.specs.Names.{literal}
-use Rattle.text.specs.Lists.{Listed, refused, codes, listFrom, listOf}
+use Rattle.text.specs.Lists as lists
+use Rattle.text.specs.Lists.{Listed, codes, listFrom, listOf}
 use Rattle.description_reader.specs.LineSteps.{Draft}
 use Rattle.description_reader.specs.Descriptions.{read}
-use Rattle.history_reader.specs.Histories.{marked, Recorded, rejected, values, endLine, listed, listLine, most, statesFrom, afterDescription}
+use Rattle.history_reader.specs.Histories.{marked, historyEnd, listed, listLine, most, statesFrom, byNames}
 use Rattle.text.specs.Internal.{lineOf, spelled, itemAt, nextAt, itemsAt}
 use Rattle.description_reader.specs.Internal.{draftOf}
-use Rattle.history_reader.specs.Internal.{recordFrom, isState, keyAt, lowAt, highAt, baseAt, wantedAt, placeFrom, leftOf, endingOf, recordOf, atomsOf}
+use Rattle.history_reader.specs.Internal.{recordFrom, isState, keyAt, lowAt, highAt, baseAt, wantedAt, placeFrom, leftOf, endingOf, valuesRead, atomsOf}
 use Rattle.description_reader.specs.Internal.{Limits}
 use Rattle.text.proofs.Spelling.{spelled-length}
 use Rattle.text.proofs.Items.{next-later}
@@ -55,7 +57,7 @@ marked-one names w list start i old new m inside short c next e f more one =
 
 -- one line of literals
 module _ (names-text text : List ℕ) (r : Reading) (m line at : ℕ) (vs : List ℕ) (l : LineAt) (is : lineOf text l ≡ firstLine (drop at text)) where
-  abbrev Here : Recorded
+  abbrev Here : Reply (List ℕ)
   Here = recordFrom (suc m) (draftOf names-text r) line vs (drop at text)
 
   -- the line, with the count of names
@@ -65,7 +67,7 @@ module _ (names-text text : List ℕ) (r : Reading) (m line at : ℕ) (vs : List
       (λ ws rest. recordFrom m (draftOf names-text r) (suc line) ws rest)
   counted o e = rw (spelled-length names-text (r .names), is)
 
-  pub turn-other : (l .key ≡ keyAt line → ⊥) → Here ≡ rejected 2 line
+  pub turn-other : (l .key ≡ keyAt line → ⊥) → Here ≡ refused 2 line
   unfolding lineOf
   turn-other h =
       counted (lineOf text l) refl
@@ -81,8 +83,8 @@ module _ (names-text text : List ℕ) (r : Reading) (m line at : ℕ) (vs : List
         (λ ws rest. recordFrom m (draftOf names-text r) (suc line) ws rest)
         (take (l .to - l .from) (drop (l .from) text)) (drop (l .next) text) (l .key) same (key-below line))
 
-    pub turn-refused : listOf (spelled names-text (r .names)) (lowAt (r .fluents) line) (highAt (r .fluents) (r .names .count) line) most (take (l .to - l .from) (drop (l .from) text)) ≡ refused 6
-        → Here ≡ rejected 6 line
+    pub turn-refused : listOf (spelled names-text (r .names)) (lowAt (r .fluents) line) (highAt (r .fluents) (r .names .count) line) most (take (l .to - l .from) (drop (l .from) text)) ≡ lists.refused 6
+        → Here ≡ refused 6 line
     turn-refused e = due ∙ rw e
 
     pub turn-read : (done : List ℕ)
@@ -93,10 +95,10 @@ module _ (names-text text : List ℕ) (r : Reading) (m line at : ℕ) (vs : List
 -- the same, as the loops find it: w is what the line must be
 module _ (names-text text : List ℕ) (r : Reading) (m line at : ℕ) (old : List ℕ) (l : LineAt) (is : lineOf text l ≡ firstLine (drop at text))
     (w : Wanted) (is-due : w ≡ wantedAt (r .fluents) (r .names .count) line) where
-  abbrev Left : ℕ → Recorded
+  abbrev Left : ℕ → Reply (List ℕ)
   Left n = recordFrom (suc m) (draftOf names-text r) line (take n old) (drop at text)
 
-  pub line-wrong : (l .key ≡ w .key → ⊥) → (n : ℕ) → Left n ≡ rejected 2 line
+  pub line-wrong : (l .key ≡ w .key → ⊥) → (n : ℕ) → Left n ≡ refused 2 line
   line-wrong h n = turn-other names-text text r m line at (take n old) l is (λ e. h (e ∙ sym (ap (λ v. v .key) is-due)))
 
   module _ (same : l .key ≡ w .key) (start i : ℕ) (new : List ℕ)
@@ -121,7 +123,7 @@ module _ (names-text text : List ℕ) (r : Reading) (m line at : ℕ) (old : Lis
 
     pub line-refused : i ≤ length (take (l .to - l .from) (drop (l .from) text)) → length (take (l .to - l .from) (drop (l .from) text)) ≤ 65535
         → literal (spelled names-text (r .names)) (w .low) (w .high) (itemAt (take (l .to - l .from) (drop (l .from) text)) i) ≡ none
-        → (n : ℕ) → Left n ≡ rejected 6 line
+        → (n : ℕ) → Left n ≡ refused 6 line
     line-refused inside short e n =
         let value = take (l .to - l .from) (drop (l .from) text) in
         let names = spelled names-text (r .names) in
@@ -179,32 +181,32 @@ copy-done old new i h g =
 
 -- a record of the lines
 module _ (text : List ℕ) (n : ℕ) (r : Lines) where
-  pub record-refused : 0 < r .refused → recordOf n (record { values = r .values; refused = r .refused; line = r .line }) ≡ leftOf text n r
-  unfolding recordOf leftOf
+  pub record-refused : 0 < r .refused → valuesRead n (record { values = r .values; refused = r .refused; line = r .line }) ≡ leftOf text n r
+  unfolding valuesRead leftOf
   record-refused h = rw (ne-eqb (r .refused) 0 (λ e. absurd (omega arith)))
 
-  pub record-ended : r .refused ≤ 0 → (e : EndAt) → endingOf e (take n (r .values)) ≡ endLine (firstLine (drop (r .at) text)) (r .line) (take n (r .values))
-      → recordOf n (record { values = r .values; refused = e .refused; line = e .line }) ≡ leftOf text n r
-  unfolding recordOf leftOf endingOf
+  pub record-ended : r .refused ≤ 0 → (e : EndAt) → endingOf e (take n (r .values)) ≡ historyEnd (firstLine (drop (r .at) text)) (r .line) (take n (r .values))
+      → valuesRead n (record { values = r .values; refused = e .refused; line = e .line }) ≡ leftOf text n r
+  unfolding valuesRead leftOf endingOf
   record-ended h e is = rw (eq-eqb (r .refused) 0 (omega arith)) is
 
 -- what a record answers
-pub record-turned : (n : ℕ) (r : Record) → 0 < r .refused → recordOf n r ≡ rejected (r .refused) (r .line)
-unfolding recordOf
-record-turned n r h = rw (ne-eqb (r .refused) 0 (λ e. absurd (omega arith)))
+pub record-refuses : (n : ℕ) (r : Record) → 0 < r .refused → valuesRead n r ≡ refused (r .refused) (r .line)
+unfolding valuesRead
+record-refuses n r h = rw (ne-eqb (r .refused) 0 (λ e. absurd (omega arith)))
 
-pub record-values : (n : ℕ) (r : Record) → r .refused ≤ 0 → recordOf n r ≡ values (take n (r .values))
-unfolding recordOf
+pub record-values : (n : ℕ) (r : Record) → r .refused ≤ 0 → valuesRead n r ≡ answered (take n (r .values))
+unfolding valuesRead
 record-values n r h = rw (eq-eqb (r .refused) 0 (omega arith))
 
--- a history behind a description that was read: 10, then 1, then its lines
+-- a readHistory behind a description that was read: 10, then 1, then its lines
 module _ (names-text : List ℕ) (r : Reading) (rest : List ℕ) (line : ℕ) (text : List ℕ) (room : ℕ) where
-  pub history-room : (room ≡ atomsOf r → ⊥) → afterDescription (read (draftOf names-text r) rest line) text room ≡ rejected 10 room
+  pub history-room : (room ≡ atomsOf r → ⊥) → byNames (answered (read (draftOf names-text r) rest line)) text room ≡ refused 10 room
   history-room h = rw (spelled-length names-text (r .names), ne-eqb room (atomsOf r) h)
 
-  pub history-long : room ≡ atomsOf r → 65535 < length text → afterDescription (read (draftOf names-text r) rest line) text room ≡ rejected 1 0
+  pub history-long : room ≡ atomsOf r → 65535 < length text → byNames (answered (read (draftOf names-text r) rest line)) text room ≡ refused 1 0
   history-long e h = rw (spelled-length names-text (r .names), eq-eqb room (atomsOf r) e, lt-ltb 65535 (length text) h)
 
   pub history-lines : room ≡ atomsOf r → length text ≤ 65535
-      → afterDescription (read (draftOf names-text r) rest line) text room ≡ statesFrom (r .horizon) (draftOf names-text r) 0 1 (replicate room 0) text
+      → byNames (answered (read (draftOf names-text r) rest line)) text room ≡ statesFrom (r .horizon) (draftOf names-text r) 0 1 (replicate room 0) text
   history-lines e h = rw (spelled-length names-text (r .names), eq-eqb room (atomsOf r) e, le-ltb 65535 (length text) h, e)

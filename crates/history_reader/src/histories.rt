@@ -10,9 +10,9 @@ ghost use Prim.Native.Nat.{ℕ, _+_, _≤_, _<_};
 ghost use lib.Dec.{eqb};
 ghost use lib.ListN.{length, take, drop, replicate};
 ghost use Rattle.text.specs.Lines.{firstLine};
-ghost use Rattle.history_reader.specs.Histories.{withTrue, withFalse, marked, endLine, statesFrom};
+ghost use Rattle.history_reader.specs.Histories.{withTrue, withFalse, marked, historyEnd, statesFrom};
 ghost use Rattle.description_reader.specs.Internal.{draftOf};
-ghost use Rattle.history_reader.specs.Internal.{endingOf, wantedAt, placeFrom, leftOf, LinesFit, recordOf, atomsOf};
+ghost use Rattle.history_reader.specs.Internal.{endingOf, wantedAt, placeFrom, leftOf, LinesFit, valuesRead, atomsOf};
 ghost use Rattle.description_reader.specs.Internal.{Limits};
 
 // A value byte with one more literal of its atom.
@@ -55,7 +55,7 @@ struct EndAt {
 // The end line: 2 where it is lacking or has a value, 7 where bytes remain behind it.
 fn end_at(text: &[u8], at: usize, line: usize) -> EndAt
     requires { ⌜ line < 100 ⌝ }
-    ensures { λ r. ⌜ ((vs : List ℕ) → endingOf r vs ≡ endLine (firstLine (drop at (now (text .entry)))) line vs) ⌝ }
+    ensures { λ r. ⌜ ((vs : List ℕ) → endingOf r vs ≡ historyEnd (firstLine (drop at (now (text .entry)))) line vs) ⌝ }
 {
     let l = lines::line_at(text, at);
     if l.key != lines::END {
@@ -184,7 +184,7 @@ pub(crate) struct Record {
 // Reads a history of at most 65,535 bytes by the names of the description.
 pub(crate) fn read(description: &[u8], text: &[u8], reading: Reading) -> Record
     requires { ⌜ (length (now text) ≤ 65535) × Limits reading ⌝ }
-    ensures { λ r. ⌜ ((n : ℕ) → n ≤ 1024 → recordOf n r ≡ statesFrom (reading .horizon) (draftOf (now (description .entry)) reading) 0 1 (replicate n 0) (now (text .entry))) ⌝ }
+    ensures { λ r. ⌜ ((n : ℕ) → n ≤ 1024 → valuesRead n r ≡ statesFrom (reading .horizon) (draftOf (now (description .entry)) reading) 0 1 (replicate n 0) (now (text .entry))) ⌝ }
 {
     let found = read_lines(description, text, reading);
     let values = found.values;

@@ -4,7 +4,7 @@ mod histories;
 use description_reader::descriptions;
 ghost use mathlib.Core.Path.{_≡_};
 ghost use lib.ListN.{length};
-ghost use Rattle.history_reader.specs.Histories.{history, leftIn, historyReplyOf, historyReplied};
+ghost use Rattle.history_reader.specs.Histories.{readHistory, valuesLeft, historyReplyOf, historyReplied};
 
 // The refusal's number and place, or that the whole history is read.
 pub enum HistoryAnswer {
@@ -14,8 +14,8 @@ pub enum HistoryAnswer {
 
 // Reads a history's text by the names of its description's text, and leaves its values; on a refusal the buffer stays as it was.
 pub fn read_history(description: &[u8], text: &[u8], values: &mut [u8]) -> HistoryAnswer
-    ensures { λ r. ⌜ historyReplyOf r ≡ historyReplied (history (now (description .entry)) (now (text .entry)) (length (now (values .entry)))) ⌝ }
-    ensures { λ r. ⌜ now (values .exit) ≡ leftIn (history (now (description .entry)) (now (text .entry)) (length (now (values .entry)))) (now (values .entry)) ⌝ }
+    ensures { λ r. ⌜ historyReplyOf r ≡ historyReplied (readHistory (now (description .entry)) (now (text .entry)) (length (now (values .entry)))) ⌝ }
+    ensures { λ r. ⌜ now (values .exit) ≡ valuesLeft (readHistory (now (description .entry)) (now (text .entry)) (length (now (values .entry)))) (now (values .entry)) ⌝ }
 {
     let end = descriptions::read_alone(description);
     let state = end.state;

@@ -10,10 +10,11 @@ use borrow.Author.Tests.{ltb-true, ltb-false}
 use lib.Dec.{ltb}
 use lib.ListN.{length, getD, drop, length-append, List·getD-append, List·getD-eq-default}
 use lib.Seq.{getD-append-add}
+use Rattle.search.specs.Replies.{refused, answered}
 use Rattle.description.specs.declared.Law.{Law}
 use Rattle.written_form.specs.Writable.{Writable, linesWritten, draftWritten}
 use Rattle.text.specs.Names.{isName}
-use Rattle.description_reader.specs.Descriptions.{turned, read, described}
+use Rattle.description_reader.specs.Descriptions.{read, described}
 use Rattle.description_reader.specs.Answers.{behind, replied, recordOf, lawsLeft}
 use Rattle.description_reader.specs.Shown.{fluentName, actionName, shownBy, shownFluent, shownAction}
 use Rattle.written_form.specs.Writing.{descriptionText}
@@ -62,21 +63,21 @@ shown-in-front xs ys i = go (ltb i (length xs)) refl
 
 module _ (lent T : ℕ) (fluents actions : List (List ℕ)) (ls : List Law) (w : Writable lent T fluents actions ls) (more : List ℕ)
     (few : length more ≤ 45535) where
-  is-read : described lent (descriptionText T fluents actions ls ++ more) ≡ read (draftWritten T fluents actions ls) more (linesWritten fluents actions ls)
+  is-read : described lent (descriptionText T fluents actions ls ++ more) ≡ answered (read (draftWritten T fluents actions ls) more (linesWritten fluents actions ls))
   is-read = read-written lent T fluents actions ls w more few
 
   -- no refusal
-  pub reader-accepts : (k place : ℕ) → described lent (descriptionText T fluents actions ls ++ more) ≡ turned k place → ⊥
+  pub reader-accepts : (k place : ℕ) → described lent (descriptionText T fluents actions ls ++ more) ≡ refused k place → ⊥
   reader-accepts k place e =
       let is = is-read in
       let z : _≡_ {A = ℕ} 0 1 = cc in omega arith
 
   -- the description takes its own bytes and lines
   pub reply-written : replied (descriptionText T fluents actions ls ++ more) (described lent (descriptionText T fluents actions ls ++ more))
-      ≡ behind (length (descriptionText T fluents actions ls)) (linesWritten fluents actions ls)
+      ≡ answered (behind (length (descriptionText T fluents actions ls)) (linesWritten fluents actions ls))
   reply-written =
       ap (replied (descriptionText T fluents actions ls ++ more)) is-read
-      ∙ ap (λ n. behind n (linesWritten fluents actions ls)) (omega (arith, length-append (descriptionText T fluents actions ls) more))
+      ∙ ap (λ n. answered (behind n (linesWritten fluents actions ls))) (omega (arith, length-append (descriptionText T fluents actions ls) more))
 
   pub record-written : recordOf (described lent (descriptionText T fluents actions ls ++ more))
       ≡ record { fluents = length fluents; actions = length actions; laws = length ls; horizon = T }
@@ -87,7 +88,7 @@ module _ (lent T : ℕ) (fluents actions : List (List ℕ)) (ls : List Law) (w :
   pub laws-written : (old : List Law) → lawsLeft (described lent (descriptionText T fluents actions ls ++ more)) old ≡ ls ++ drop (length ls) old
   laws-written old = ap (λ o. lawsLeft o old) is-read
 
-  is-shown : described 64 (descriptionText T fluents actions ls ++ more) ≡ read (draftWritten T fluents actions ls) more (linesWritten fluents actions ls)
+  is-shown : described 64 (descriptionText T fluents actions ls ++ more) ≡ answered (read (draftWritten T fluents actions ls) more (linesWritten fluents actions ls))
   is-shown = read-written 64 T fluents actions ls (any-lent lent 64 T fluents actions ls (w .few-laws) w) more few
 
   -- a number that nothing declares shows the empty name

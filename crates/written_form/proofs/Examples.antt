@@ -1,28 +1,29 @@
--- The full recipe: its text is read to its record and values, and is the one written for them; it meets the conditions of the
+-- The full recipe: its text is read to its record and answered, and is the one written for them; it meets the conditions of the
 -- round trip.
 -- Assumes nothing.
 use mathlib.Core.Path.{_≡_, refl}
 use mathlib.Core.List.{List, [], _∷_, _++_}
 use Prim.Native.Nat.{ℕ}
 use native.Mathlib.Omega.{arith}
+use Rattle.search.specs.Replies.{answered}
 use Rattle.text.specs.Bytes.{cut}
 use Rattle.text.specs.Lines.{keyNumber, firstLine}
 use Rattle.text.specs.Names.{isName, literal}
 use Rattle.text.specs.Lists.{items, listOf}
-use Rattle.description_reader.specs.Descriptions.{Outcome, read, described}
+use Rattle.description_reader.specs.Descriptions.{read, described}
 use Rattle.description_reader.specs.LineSteps.{horizonOf, headOf, lineStep}
-use Rattle.history_reader.specs.Histories.{values, history}
+use Rattle.history_reader.specs.Histories.{readHistory}
 use Rattle.written_form.specs.Writing.{descriptionText}
 use Rattle.written_form.specs.Writable.{Writable}
 use Rattle.written_form.specs.HistoryWriting.{valuesText}
 use Rattle.written_form.specs.Examples.{recipeText, historyText, recipeFluents, recipeActions, recipeLaws, recipeDraft}
 
-pub recipe-read : described 64 (recipeText ++ historyText) ≡ read recipeDraft historyText 23
+pub recipe-read : described 64 (recipeText ++ historyText) ≡ answered (read recipeDraft historyText 23)
 unfolding described lineStep horizonOf headOf listOf items literal isName firstLine keyNumber cut
 recipe-read = refl
 
-pub history-read : history (recipeText ++ historyText) historyText 5 ≡ values (2 ∷ 2 ∷ 1 ∷ 2 ∷ 1 ∷ [])
-unfolding history described lineStep horizonOf headOf listOf items literal isName firstLine keyNumber cut
+pub history-read : readHistory (recipeText ++ historyText) historyText 5 ≡ answered (2 ∷ 2 ∷ 1 ∷ 2 ∷ 1 ∷ [])
+unfolding readHistory described lineStep horizonOf headOf listOf items literal isName firstLine keyNumber cut
 history-read = refl
 
 pub recipe-written : descriptionText 1 recipeFluents recipeActions recipeLaws ≡ recipeText

@@ -1,4 +1,4 @@
--- Every written history is read back to its values.
+-- Every written readHistory is read back to its answered.
 -- Assumes nothing.
 use mathlib.Core.Path.{_≡_, refl, sym, ap, _∙_}
 use mathlib.Core.List.{List, [], _++_, append-nil, append-assoc}
@@ -8,14 +8,15 @@ use borrow.Author.Tests.{le-ltb, eq-eqb}
 use lib.ListN.{length, getD, take, drop, replicate, length-append, length-take, length-drop, take-append-drop, drop-of-length-le}
 use lib.Seq.{take-all}
 use Rattle.search.proofs.Tests.{each-map, each-append}
+use Rattle.search.specs.Replies.{Reply, answered}
 use Rattle.description.specs.Atoms.{atomCount}
 use Rattle.description.specs.declared.Law.{Law}
 use Rattle.written_form.specs.Writable.{Writable, draftWritten, AreNames, Distinct}
 use Rattle.text.specs.Lines.{keys, stateKey, actKey, endKey, firstLine}
 use Rattle.text.specs.Lists.{Listed}
 use Rattle.description_reader.specs.LineSteps.{Draft}
-use Rattle.history_reader.specs.Histories.{Recorded, values, marked, most, listed, listLine, stateLine, actLine, endLine, statesFrom, afterDescription, history}
-use Rattle.written_form.specs.Writing.{line, listText, descriptionText}
+use Rattle.history_reader.specs.Histories.{marked, most, listed, listLine, stateLine, actLine, historyEnd, statesFrom, byNames, readHistory}
+use Rattle.written_form.specs.Writing.{lineText, listText, descriptionText}
 use Rattle.written_form.specs.HistoryWriting.{codesFrom, stepsText, valuesText}
 use Rattle.written_form.proofs.WrittenLines.{first-line}
 use Rattle.written_form.proofs.WrittenLists.{list-size, list-lacks-newline, list-read}
@@ -31,11 +32,11 @@ values-split n vs h =
 
 module _ (d : Draft) (m : ℕ) (are : AreNames (d .names)) (distinct : Distinct (d .names)) (size : length (d .names) ≡ d .fluents + m)
     (small : length (d .names) ≤ 32) where
-  -- one line: the values of the places from low on, as many as there are of a sort
-  line-read : (key low high base l : ℕ) (p vs rest : List ℕ) (go : List ℕ → List ℕ → Recorded) → key < 10 → length p ≡ base + low
+  -- one line: the answered of the places from low on, as many as there are of a sort
+  line-read : (key low high base l : ℕ) (p vs rest : List ℕ) (go : List ℕ → List ℕ → Reply (List ℕ)) → key < 10 → length p ≡ base + low
       → low ≤ high → high ≤ length (d .names) → Values vs
       → let ws = take (high - low) vs in
-      listLine d key low high (firstLine (line key (listText (d .names) (codesFrom low ws)) ++ rest)) l base (p ++ replicate (length vs) 0) go
+      listLine d key low high (firstLine (lineText key (listText (d .names) (codesFrom low ws)) ++ rest)) l base (p ++ replicate (length vs) 0) go
       ≡ go (p ++ ws ++ replicate (length (drop (high - low) vs)) 0) rest
   line-read key low high base l p vs rest go known there within held vals =
       let names = d .names in
@@ -53,33 +54,33 @@ module _ (d : Draft) (m : ℕ) (are : AreNames (d .names)) (distinct : Distinct 
       ∙ ap (λ (all : List ℕ). go (marked base (p ++ replicate (length all) 0) (codesFrom low ws)) rest) (sym (take-append-drop (high - low) vs))
       ∙ ap (λ vs′. go vs′ rest) (mark-values base low p ws ys there part)
 
-  end-read : (vs : List ℕ) (l : ℕ) → endLine (firstLine (line endKey [])) l vs ≡ values vs
-  end-read vs l = ap (λ first. endLine first l vs) (first-line endKey [] [] (omega arith) tt)
+  end-read : (vs : List ℕ) (l : ℕ) → historyEnd (firstLine (lineText endKey [])) l vs ≡ answered vs
+  end-read vs l = ap (λ first. historyEnd first l vs) (first-line endKey [] [] (omega arith) tt)
 
-  state-read : (t l : ℕ) (p vs rest : List ℕ) (go : List ℕ → List ℕ → Recorded) → length p ≡ t * length (d .names) → Values vs
-      → stateLine d (firstLine (line stateKey (listText (d .names) (codesFrom 0 (take (d .fluents) vs))) ++ rest)) l t (p ++ replicate (length vs) 0) go
+  state-read : (t l : ℕ) (p vs rest : List ℕ) (go : List ℕ → List ℕ → Reply (List ℕ)) → length p ≡ t * length (d .names) → Values vs
+      → stateLine d (firstLine (lineText stateKey (listText (d .names) (codesFrom 0 (take (d .fluents) vs))) ++ rest)) l t (p ++ replicate (length vs) 0) go
       ≡ go (p ++ take (d .fluents) vs ++ replicate (length (drop (d .fluents) vs)) 0) rest
   state-read t l p vs rest go there vals =
       let width : d .fluents - 0 ≡ d .fluents = omega arith in
       rw width at (line-read stateKey 0 (d .fluents) (t * length (d .names)) l p vs rest go (omega arith) (omega arith) (omega arith) (omega arith) vals)
 
-  act-read : (t l : ℕ) (p vs rest : List ℕ) (go : List ℕ → List ℕ → Recorded) → length p ≡ t * length (d .names) + d .fluents → Values vs
-      → actLine d (firstLine (line actKey (listText (d .names) (codesFrom (d .fluents) (take m vs))) ++ rest)) l t (p ++ replicate (length vs) 0) go
+  act-read : (t l : ℕ) (p vs rest : List ℕ) (go : List ℕ → List ℕ → Reply (List ℕ)) → length p ≡ t * length (d .names) + d .fluents → Values vs
+      → actLine d (firstLine (lineText actKey (listText (d .names) (codesFrom (d .fluents) (take m vs))) ++ rest)) l t (p ++ replicate (length vs) 0) go
       ≡ go (p ++ take m vs ++ replicate (length (drop m vs)) 0) rest
   act-read t l p vs rest go there vals =
       let width : length (d .names) - d .fluents ≡ m = omega arith in
       rw width at (line-read actKey (d .fluents) (length (d .names)) (t * length (d .names)) l p vs rest go (omega arith) there (omega arith) (omega arith) vals)
 
   steps-read : (k t l : ℕ) (p vs : List ℕ) → length p ≡ t * length (d .names) → length vs ≡ atomCount (d .fluents) m k → Values vs
-      → statesFrom k d t l (p ++ replicate (length vs) 0) (stepsText (d .names) (d .fluents) m k vs) ≡ values (p ++ vs)
+      → statesFrom k d t l (p ++ replicate (length vs) 0) (stepsText (d .names) (d .fluents) m k vs) ≡ answered (p ++ vs)
   steps-read zero t l p vs there count vals =
       let n = d .fluents in
       let whole : length vs ≤ n = omega arith in
       let all = take-all n vs whole in
       let nothing = drop-of-length-le vs {i = n} whole in
-      state-read t l p vs (line endKey []) (λ vs′ rest. endLine (firstLine rest) (suc l) vs′) there vals
+      state-read t l p vs (lineText endKey []) (λ vs′ rest. historyEnd (firstLine rest) (suc l) vs′) there vals
       ∙ end-read (p ++ take n vs ++ replicate (length (drop n vs)) 0) (suc l)
-      ∙ ap values (rw (all, nothing) (append-nil (p ++ vs)))
+      ∙ ap answered (rw (all, nothing) (append-nil (p ++ vs)))
   steps-read (suc k) t l p vs there count vals =
       let n = d .fluents in
       let fs = take n vs in
@@ -93,16 +94,16 @@ module _ (d : Draft) (m : ℕ) (are : AreNames (d .names)) (distinct : Distinct 
       let behind = values-split n vs vals .1 in
       let there′ = length-append p fs in
       let there″ = length-append (p ++ fs) acts in
-      state-read t l p vs (line actKey (listText (d .names) (codesFrom n acts)) ++ stepsText (d .names) n m k zs)
+      state-read t l p vs (lineText actKey (listText (d .names) (codesFrom n acts)) ++ stepsText (d .names) n m k zs)
       (λ vs′ rest. actLine d (firstLine rest) (suc l) t vs′ (λ vs″ rest′. statesFrom k d (suc t) (suc (suc l)) vs″ rest′)) there vals
       ∙ act-read t (suc l) (p ++ fs) ys (stepsText (d .names) n m k zs) (λ vs″ rest′. statesFrom k d (suc t) (suc (suc l)) vs″ rest′) (omega arith) behind
       ∙ steps-read k (suc t) (suc (suc l)) (p ++ fs ++ acts) zs (omega arith) (omega arith) (values-split m ys behind .1)
-      ∙ ap values (append-assoc (p ++ fs) acts zs ∙ rw (take-append-drop m ys) (append-assoc p fs ys ∙ rw (take-append-drop n vs)))
+      ∙ ap answered (append-assoc (p ++ fs) acts zs ∙ rw (take-append-drop m ys) (append-assoc p fs ys ∙ rw (take-append-drop n vs)))
 
--- the size of a written history
+-- the size of a written readHistory
 module _ (names : List (List ℕ)) (are : AreNames names) (n m : ℕ) (size : length names ≡ n + m) (few-fluents : n ≤ 24) (few-actions : m ≤ 8) where
   part-size : (key low width : ℕ) (vs : List ℕ) → length (getD keys key []) ≤ 5 → low + width ≤ length names → Values vs
-      → length (line key (listText names (codesFrom low (take width vs)))) ≤ 7 + 36 * width
+      → length (lineText key (listText names (codesFrom low (take width vs)))) ≤ 7 + 36 * width
   part-size key low width vs short held vals =
       let ws = take width vs in
       let took = length-take width vs in
@@ -115,13 +116,13 @@ module _ (names : List (List ℕ)) (are : AreNames names) (n m : ℕ) (size : le
       omega (
         arith,
         part-size stateKey 0 n vs (omega arith) (omega arith) vals,
-        length-append (line stateKey (listText names (codesFrom 0 (take n vs)))) (line endKey []),
+        length-append (lineText stateKey (listText names (codesFrom 0 (take n vs)))) (lineText endKey []),
       )
   steps-size (suc k) vs vals =
       let ys = drop n vs in
       let behind = values-split n vs vals .1 in
-      let state = line stateKey (listText names (codesFrom 0 (take n vs))) in
-      let act = line actKey (listText names (codesFrom n (take m ys))) in
+      let state = lineText stateKey (listText names (codesFrom 0 (take n vs))) in
+      let act = lineText actKey (listText names (codesFrom n (take m ys))) in
       let rest = stepsText names n m k (drop m ys) in
       omega (
         arith,
@@ -140,15 +141,15 @@ module _ (lent T : ℕ) (fluents actions : List (List ℕ)) (ls : List Law) (w :
       (w .few-actions) T vs vals in
       omega (arith, w .horizon-to)
 
-  -- the values are read back from the history by the names of the description, whatever follows that
+  -- the answered are read back from the readHistory by the names of the description, whatever follows that
   pub history-written : length vs ≡ atomCount (length fluents) (length actions) T → (more : List ℕ) → length more ≤ 45535
-      → history (descriptionText T fluents actions ls ++ more) (valuesText T fluents actions vs) (length vs) ≡ values vs
-  unfolding history valuesText
+      → readHistory (descriptionText T fluents actions ls ++ more) (valuesText T fluents actions vs) (length vs) ≡ answered vs
+  unfolding readHistory valuesText
   history-written count more few =
       let text = valuesText T fluents actions vs in
       let d = draftWritten T fluents actions ls in
       let names = length-append fluents actions in
       let width : length (fluents ++ actions) - length fluents ≡ length actions = omega arith in
-      ap (λ o. afterDescription o text (length vs)) (read-written 64 T fluents actions ls (any-lent lent 64 T fluents actions ls (w .few-laws) w) more few)
+      ap (λ o. byNames o text (length vs)) (read-written 64 T fluents actions ls (any-lent lent 64 T fluents actions ls (w .few-laws) w) more few)
       ∙ rw (width, ← count, eq-eqb (length vs) (length vs) refl, le-ltb 65535 (length text) (omega (arith, history-size)))
       (steps-read d (length actions) (w .are-names) (w .distinct) names (omega (arith, w .few-fluents, w .few-actions)) T 0 1 [] vs (omega arith) count vals)

@@ -10,6 +10,7 @@ use borrow.Author.Tests.{le-ltb}
 use lib.ListN.{length, length-append}
 use Rattle.search.specs.Search.{Each}
 use Rattle.search.proofs.Tests.{each-map, each-append}
+use Rattle.search.specs.Replies.{answered}
 use Rattle.description.specs.declared.Head.{Head}
 use Rattle.description.specs.declared.Head.the-variants.{Lit, False}
 use Rattle.description.specs.declared.Kind.{Kind}
@@ -25,11 +26,11 @@ use Rattle.text.specs.Lists.{codes}
 use Rattle.description_reader.specs.LineSteps.{Due, horizonDue, firstFluentDue, fluentDue, actionDue, lawDue, ifDue, afterDue, Draft, allowed, next, ifLine, lineStep}
 use Rattle.description.specs.Laws.{noLaw, lawOf}
 use Rattle.description_reader.specs.Descriptions.{blank, read, linesFrom, described}
-use Rattle.written_form.specs.Writing.{line, decimal, listText, headText, lawText, lawsText, namesText, descriptionText}
+use Rattle.written_form.specs.Writing.{lineText, horizonText, listText, headText, lawText, lawsText, namesText, descriptionText}
 use Rattle.written_form.proofs.WrittenLines.{Lacks}
 use Rattle.written_form.proofs.WrittenNames.{distinct-front, name-lacks, undeclared, literal-lacks, head-read}
 use Rattle.written_form.proofs.WrittenLists.{codes-in, list-lacks-newline, list-read}
-use Rattle.written_form.proofs.WrittenSteps.{decimal-clean, horizon-step, fluent-step, action-step, static-step, dynamic-step, if-step, after-step, Passes, nothing-passes, line-passes, then, ends}
+use Rattle.written_form.proofs.WrittenSteps.{horizon-clean, horizon-step, fluent-step, action-step, static-step, dynamic-step, if-step, after-step, Passes, nothing-passes, line-passes, then, ends}
 use Rattle.written_form.proofs.Written.{Bounded, written-laws}
 use Rattle.written_form.proofs.WrittenSizes.{description-size}
 
@@ -59,7 +60,7 @@ module _ (lent key : ℕ) (known : key < 10) (later : Due) (may-later : allowed 
       → Distinct (done ++ xs) → Passes lent (length xs) (namesText key xs) due (at done) (dueBehind due later xs) (at (done ++ xs))
   names-pass [] done due may few are distinct = rw (append-nil done) (nothing-passes due (at done))
   names-pass (x ∷ xs) done due may few are distinct =
-      let here : Passes lent 1 (line key x) due (at done) later (at (done ++ (x ∷ []))) =
+      let here : Passes lent 1 (lineText key x) due (at done) later (at (done ++ (x ∷ []))) =
       line-passes due (at done) key x known (name-lacks newline refl x (are .0))
       (step due done x may (omega arith) (are .0) (undeclared done x xs distinct)) in
       let shape = append-assoc done (x ∷ []) xs in
@@ -136,14 +137,14 @@ module _ (lent T : ℕ) (fluents actions : List (List ℕ)) (ls : List Law) (w :
 
   -- all lines but the end line
   body-passes : Passes lent (1 + length fluents + length actions + lawsLines ls)
-      (line horizonKey (decimal T) ++ namesText fluentKey fluents ++ namesText actionKey actions ++ lawsText (fluents ++ actions) ls)
+      (lineText horizonKey (horizonText T) ++ namesText fluentKey fluents ++ namesText actionKey actions ++ lawsText (fluents ++ actions) ls)
       horizonDue blank (dueBehind dueAfterActions lawDue ls) (draftWritten T fluents actions ls)
   unfolding dueAfterActions
   body-passes =
       let names = fluents ++ actions in
       let n = length fluents in
       let (are-fluents, are-actions) = each-append (λ x. isName x ≡ true) fluents actions .0 (w .are-names) in
-      let top = line-passes horizonDue blank horizonKey (decimal T) (omega arith) (decimal-clean T)
+      let top = line-passes horizonDue blank horizonKey (horizonText T) (omega arith) (horizon-clean T)
       (horizon-step lent horizonDue blank T (w .horizon-from) (w .horizon-to) refl) in
       let first = names-pass lent fluentKey (omega arith) fluentDue refl (λ done. draft T (length done) done [] noLaw) 24
       (λ due done x may few name new. rw (longer done x) (fluent-step lent due (draft T (length done) done [] noLaw) x may few name new))
@@ -158,11 +159,11 @@ module _ (lent T : ℕ) (fluents actions : List (List ℕ)) (ls : List Law) (w :
 
   -- the written description is read back, and what follows it is left; under 20,000 bytes are written, so 65,535 are not passed
   pub read-written : (more : List ℕ) → length more ≤ 45535
-      → described lent (descriptionText T fluents actions ls ++ more) ≡ read (draftWritten T fluents actions ls) more (linesWritten fluents actions ls)
+      → described lent (descriptionText T fluents actions ls ++ more) ≡ answered (read (draftWritten T fluents actions ls) more (linesWritten fluents actions ls))
   unfolding described descriptionText dueAfterActions
   read-written more few =
       let text = descriptionText T fluents actions ls in
-      let body = line horizonKey (decimal T) ++ namesText fluentKey fluents ++ namesText actionKey actions ++ lawsText (fluents ++ actions) ls in
+      let body = lineText horizonKey (horizonText T) ++ namesText fluentKey fluents ++ namesText actionKey actions ++ lawsText (fluents ++ actions) ls in
       let lines = 1 + length fluents + length actions + lawsLines ls in
       let all = length (text ++ more) in
       let (enough, size) = description-size lent T fluents actions ls w in
@@ -171,8 +172,8 @@ module _ (lent T : ℕ) (fluents actions : List (List ℕ)) (ls : List Law) (w :
       rw (le-ltb 65535 all (omega arith))
       (
       ap (λ k. linesFrom k lent 1 horizonDue blank (text ++ more)) fuel
-      ∙ ap (linesFrom (lines + suc (all - lines)) lent 1 horizonDue blank) (append-assoc body (line endKey []) more)
-      ∙ body-passes .run (suc (all - lines)) 1 (line endKey [] ++ more)
+      ∙ ap (linesFrom (lines + suc (all - lines)) lent 1 horizonDue blank) (append-assoc body (lineText endKey []) more)
+      ∙ body-passes .run (suc (all - lines)) 1 (lineText endKey [] ++ more)
       ∙ ends lent (dueBehind dueAfterActions lawDue ls) (draftWritten T fluents actions ls)
       (may-behind dueAfterActions lawDue ls endKey (may-behind fluentDue actionDue actions endKey refl refl) refl) (all - lines) (lines + 1) more
       )

@@ -16,7 +16,7 @@ use Rattle.search.proofs.Tests.{not-both, and₃-iff, all-each, each-map, each-
 use Rattle.search.proofs.Lists.{none-iff, each-range}
 use Rattle.text.specs.Bytes.{newline, equalsSign, cutAt, cut}
 use Rattle.text.specs.Lines.{keys, keyNumber, keyed, valued, ended, firstLine}
-use Rattle.written_form.specs.Writing.{line}
+use Rattle.written_form.specs.Writing.{lineText}
 
 -- no byte of a run is b
 abbrev pub Lacks : ℕ → List ℕ → Type 0
@@ -77,7 +77,7 @@ line-shape : (key value rest : List ℕ)
 line-shape key value rest = simp append-assoc
 
 pub first-line : (k : ℕ) (value rest : List ℕ) → k < 10 → Lacks newline value
-    → firstLine (line k value ++ rest) ≡ some (record { key = k; value = value; rest = rest })
+    → firstLine (lineText k value ++ rest) ≡ some (record { key = k; value = value; rest = rest })
 unfolding firstLine
 first-line k value rest known clean =
     let key = getD keys k [] in

@@ -20,12 +20,12 @@ use Rattle.written_form.specs.Writable.{aftersOf, lawLines, lawsLines, l
 use Rattle.text.specs.Bytes.{newline, equalsSign}
 use Rattle.text.specs.Lines.{keys, horizonKey, fluentKey, actionKey, staticKey, dynamicKey, ifKey, afterKey, endKey}
 use Rattle.text.specs.Names.{isName}
-use Rattle.written_form.specs.Writing.{line, decimal, listText, headText, lawText, lawsText, namesText, descriptionText}
+use Rattle.written_form.specs.Writing.{lineText, horizonText, listText, headText, lawText, lawsText, namesText, descriptionText}
 use Rattle.written_form.proofs.WrittenNames.{named, literal-size}
 use Rattle.written_form.proofs.WrittenLists.{list-size}
 use Rattle.written_form.proofs.Written.{Bounded, written-laws}
 
-pub line-size : (k : ℕ) (value : List ℕ) → length (line k value) ≡ length (getD keys k []) + length value + 2
+pub line-size : (k : ℕ) (value : List ℕ) → length (lineText k value) ≡ length (getD keys k []) + length value + 2
 line-size k value =
     let key = getD keys k [] in
     omega (
@@ -43,7 +43,7 @@ names-size key (x ∷ xs) short are =
       arith,
       line-size key x,
       named x (are .0) .short,
-      length-append (line key x) (namesText key xs),
+      length-append (lineText key x) (namesText key xs),
       names-size key xs short (are .1),
     )
 
@@ -74,12 +74,12 @@ module _ (names : List (List ℕ)) (are : AreNames names) (n : ℕ) (held : n �
             ifs,
             line-size staticKey (headText names (l .head)),
             line-size ifKey (listText names (ifList l)),
-            length-append (line staticKey (headText names (l .head))) (line ifKey (listText names (ifList l))),
+            length-append (lineText staticKey (headText names (l .head))) (lineText ifKey (listText names (ifList l))),
           )
       go Dynamic afters few =
-          let front = line dynamicKey (headText names (l .head)) in
-          let middle = line ifKey (listText names (ifList l)) in
-          let back = line afterKey (listText names (afterList l)) in
+          let front = lineText dynamicKey (headText names (l .head)) in
+          let middle = lineText ifKey (listText names (ifList l)) in
+          let back = lineText afterKey (listText names (afterList l)) in
           omega (
             arith,
             b .few-ifs,
@@ -98,8 +98,8 @@ module _ (names : List (List ℕ)) (are : AreNames names) (n : ℕ) (held : n �
   laws-size (l ∷ ls) b =
       omega (arith, law-size l (b .0), laws-size ls (b .1), length-append (lawText names (l .kind) l) (lawsText names ls))
 
-decimal-size : (k : ℕ) → length (decimal k) ≤ 2
-decimal-size k = go (ltb k 10)
+horizon-size : (k : ℕ) → length (horizonText k) ≤ 2
+horizon-size k = go (ltb k 10)
   where
     go : (b : Bool) → length (cond b ((48 + k) ∷ []) ((48 + k / 10) ∷ (48 + k % 10) ∷ [])) ≤ 2
     go true = omega arith
@@ -112,19 +112,19 @@ description-size lent T fluents actions ls w =
     let names = fluents ++ actions in
     let (are-fluents, are-actions) = each-append (λ x. isName x ≡ true) fluents actions .0 (w .are-names) in
     let size = length-append fluents actions in
-    let top = line horizonKey (decimal T) in
+    let top = lineText horizonKey (horizonText T) in
     let first = top ++ namesText fluentKey fluents in
     let declared = first ++ namesText actionKey actions in
     let body = declared ++ lawsText names ls in
     omega (
       arith,
       w,
-      line-size horizonKey (decimal T),
-      decimal-size T,
+      line-size horizonKey (horizonText T),
+      horizon-size T,
       names-size fluentKey fluents (omega arith) are-fluents,
       names-size actionKey actions (omega arith) are-actions,
       laws-size names (w .are-names) (length fluents) (omega arith) ls (written-laws lent T fluents actions ls w),
-      length-append body (line endKey []),
+      length-append body (lineText endKey []),
       length-append declared (lawsText names ls),
       length-append first (namesText actionKey actions),
       length-append top (namesText fluentKey fluents),

@@ -10,6 +10,7 @@ use borrow.Author.Tests.{lt-ltb, ne-eqb}
 use lib.Dec.{eqb, ltb}
 use lib.ListN.{length}
 use Rattle.search.specs.Search.{all, range}
+use Rattle.search.specs.Replies.{answered}
 use Rattle.description.specs.declared.Head.{Head}
 use Rattle.description.specs.declared.Kind.the-variants.{Static, Dynamic}
 use Rattle.description.specs.declared.Law.{Law}
@@ -21,21 +22,21 @@ use Rattle.written_form.specs.Writable.{draft}
 use Rattle.description_reader.specs.LineSteps.{Due, firstFluentDue, fluentDue, actionDue, ifDue, afterDue, Draft, allowed, next, finish, horizonOf, horizonLine, headOf, begun, ifLine, afterLine, lineStep}
 use Rattle.description.specs.Laws.{lawOf}
 use Rattle.description_reader.specs.Descriptions.{read, afterStep, afterFirst, linesFrom}
-use Rattle.written_form.specs.Writing.{line, decimal}
+use Rattle.written_form.specs.Writing.{lineText, horizonText}
 use Rattle.written_form.proofs.WrittenLines.{Lacks, answers, answers-some, passed-by, first-line}
 
 -- the horizon, number by number
 
-decimals : all (λ T. answers T (horizonOf (decimal T))) (range 1 30) ≡ true
+decimals : all (λ T. answers T (horizonOf (horizonText T))) (range 1 30) ≡ true
 unfolding horizonOf
 decimals = refl
 
-pub decimal-read : (T : ℕ) → 1 ≤ T → T ≤ 30 → horizonOf (decimal T) ≡ some T
-decimal-read T one few =
-    answers-some T (horizonOf (decimal T)) (passed-by (λ t. answers t (horizonOf (decimal t))) 1 30 decimals T one (omega arith))
+pub horizon-read : (T : ℕ) → 1 ≤ T → T ≤ 30 → horizonOf (horizonText T) ≡ some T
+horizon-read T one few =
+    answers-some T (horizonOf (horizonText T)) (passed-by (λ t. answers t (horizonOf (horizonText t))) 1 30 decimals T one (omega arith))
 
-pub decimal-clean : (k : ℕ) → Lacks newline (decimal k)
-decimal-clean k = go (ltb k 10)
+pub horizon-clean : (k : ℕ) → Lacks newline (horizonText k)
+horizon-clean k = go (ltb k 10)
   where
     digit : (i : ℕ) → eqb newline (48 + i) ≡ false
     digit i = ne-eqb newline (48 + i) (omega arith)
@@ -48,9 +49,9 @@ decimal-clean k = go (ltb k 10)
 
 module _ (lent : ℕ) (due : Due) (d : Draft) where
   pub horizon-step : (T : ℕ) → 1 ≤ T → T ≤ 30 → allowed due horizonKey ≡ true
-      → lineStep lent due d horizonKey (decimal T) ≡ next firstFluentDue (draft T (d .fluents) (d .names) (d .laws) (d .law))
+      → lineStep lent due d horizonKey (horizonText T) ≡ next firstFluentDue (draft T (d .fluents) (d .names) (d .laws) (d .law))
   unfolding lineStep
-  horizon-step T one few may = rw may (ap (horizonLine d) (decimal-read T one few))
+  horizon-step T one few may = rw may (ap (horizonLine d) (horizon-read T one few))
 
   pub fluent-step : (x : List ℕ) → allowed due fluentKey ≡ true → d .fluents < 24 → isName x ≡ true → declaredAt (d .names) x ≡ none
       → lineStep lent due d fluentKey x ≡ next fluentDue (draft (d .horizon) (suc (d .fluents)) (d .names ++ (x ∷ [])) (d .laws) (d .law))
@@ -105,7 +106,7 @@ module _ {lent : ℕ} where
   }
 
   pub line-passes : (due : Due) (d : Draft) (key : ℕ) (value : List ℕ) {due′ : Due} {d′ : Draft} → key < 10 → Lacks newline value
-      → lineStep lent due d key value ≡ next due′ d′ → Passes lent 1 (line key value) due d due′ d′
+      → lineStep lent due d key value ≡ next due′ d′ → Passes lent 1 (lineText key value) due d due′ d′
   line-passes due d key value {due′} {d′} known clean e = record {
     run = λ k n rest.
         rw (one-more k, one-more n)
@@ -131,7 +132,7 @@ module _ {lent : ℕ} where
 
 -- the end line
 pub ends : (lent : ℕ) (due : Due) (d : Draft) → allowed due endKey ≡ true → (k n : ℕ) (rest : List ℕ)
-    → linesFrom (suc k) lent n due d (line endKey [] ++ rest) ≡ read d rest n
+    → linesFrom (suc k) lent n due d (lineText endKey [] ++ rest) ≡ answered (read d rest n)
 ends lent due d may k n rest =
     ap (λ first. afterFirst first lent due d n (λ due′ d′ rest′. linesFrom k lent (suc n) due′ d′ rest′))
     (first-line endKey [] rest (omega arith) tt)

@@ -15,12 +15,12 @@ use Rattle.text.specs.Bytes.{newline, comma, hyphen, equalsSign}
 use Rattle.text.specs.Lines.{keys, horizonKey, fluentKey, actionKey, staticKey, dynamicKey, ifKey, afterKey, endKey}
 use Rattle.text.specs.Names.{falseBytes}
 
-abbrev pub line : ℕ → List ℕ → List ℕ
-line key value = getD keys key [] ++ (equalsSign ∷ []) ++ value ++ (newline ∷ [])
+abbrev pub lineText : ℕ → List ℕ → List ℕ
+lineText key value = getD keys key [] ++ (equalsSign ∷ []) ++ value ++ (newline ∷ [])
 
 -- a number below 100, without a leading zero
-abbrev pub decimal : ℕ → List ℕ
-decimal k = cond (ltb k 10) ((48 + k) ∷ []) ((48 + k / 10) ∷ (48 + k % 10) ∷ [])
+abbrev pub horizonText : ℕ → List ℕ
+horizonText k = cond (ltb k 10) ((48 + k) ∷ []) ((48 + k / 10) ∷ (48 + k % 10) ∷ [])
 
 -- the literal of code 2i or 2i + 1 has the name at place i, fluents first
 abbrev pub literalText : List (List ℕ) → ℕ → List ℕ
@@ -36,9 +36,9 @@ headText names (Lit c) = literalText names c
 headText names False = falseBytes
 
 abbrev pub lawText : List (List ℕ) → Kind → Law → List ℕ
-lawText names Static l = line staticKey (headText names (l .head)) ++ line ifKey (listText names (ifList l))
+lawText names Static l = lineText staticKey (headText names (l .head)) ++ lineText ifKey (listText names (ifList l))
 lawText names Dynamic l =
-    line dynamicKey (headText names (l .head)) ++ line ifKey (listText names (ifList l)) ++ line afterKey (listText names (afterList l))
+    lineText dynamicKey (headText names (l .head)) ++ lineText ifKey (listText names (ifList l)) ++ lineText afterKey (listText names (afterList l))
 
 abbrev pub lawsText : List (List ℕ) → List Law → List ℕ
 lawsText names [] = []
@@ -46,8 +46,8 @@ lawsText names (l ∷ ls) = lawText names (l .kind) l ++ lawsText names ls
 
 abbrev pub namesText : ℕ → List (List ℕ) → List ℕ
 namesText key [] = []
-namesText key (x ∷ xs) = line key x ++ namesText key xs
+namesText key (x ∷ xs) = lineText key x ++ namesText key xs
 
 unfoldable pub descriptionText : ℕ → List (List ℕ) → List (List ℕ) → List Law → List ℕ
 descriptionText T fluents actions ls =
-    line horizonKey (decimal T) ++ namesText fluentKey fluents ++ namesText actionKey actions ++ lawsText (fluents ++ actions) ls ++ line endKey []
+    lineText horizonKey (horizonText T) ++ namesText fluentKey fluents ++ namesText actionKey actions ++ lawsText (fluents ++ actions) ls ++ lineText endKey []

@@ -16,7 +16,7 @@ use Rattle.text.specs.Internal.{spelled, itemsAt}
 use Rattle.text.proofs.Spelling.{literal-small}
 use Rattle.text.proofs.Items.{next-later}
 use Rattle.description_reader.proofs.Gathering.{turn-on, turn-off, turn-done}
-use Rattle.description_reader.proofs.Walking.{leftAt, left-start, listHere, turned-left, stepped, stepped-left, stop-outcome, goes-key, goes-left, outcome-refused, list-here, high-32, from-bound, blank-sound}
+use Rattle.description_reader.proofs.Walking.{leftAt, left-start, listHere, refused-left, stepped, stepped-left, stop-outcome, goes-key, goes-left, outcome-refused, list-here, high-32, from-bound, blank-sound}
 use Rattle.description_reader.proofs.descriptions.read_lines.Statement.{statement}
 use Rattle.description_reader.proofs.descriptions.read_lines.Tie as tie
 
@@ -217,7 +217,7 @@ returns c =
     let k = w .with-item .result .refused in
     let fails = turn-off _ _ (list-at h) (h .loop .i) (i .before .loop-test .taken) _ _ (w .with-item .result) (h .loop .inv .3 ∙ here h) (i .next-item .ensures .0) (w .with-item .ensures .0) (c .before .if1 .taken) in (
       outcome-refused (text-at h) (c .refused .result) (n .lines .line) (n .lines .at) k (c .refused .ensures .0 (text-at h))
-          ∙ sym (turned-left (text-at h) (lent-at h) (state-at h) (n .lines .at) (n .lines .line) (line-at h) (l .line-at .ensures .0) k fails)
+          ∙ sym (refused-left (text-at h) (lent-at h) (state-at h) (n .lines .at) (n .lines .line) (line-at h) (l .line-at .ensures .0) k fails)
           ∙ before h,
       record { sound = c .refused .ensures .1 .sound; follows = c .refused .ensures .1 .follows _ (old-laws h); within = n .lines .inv .0 },
     )

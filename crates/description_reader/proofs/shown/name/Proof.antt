@@ -5,7 +5,8 @@ use mathlib.Core.Bool.{Bool, true, false, cond}
 use mathlib.Core.List.{List, []}
 use Prim.Native.Nat.{ℕ}
 use borrow.Author.Tests.{lt-ltb, le-ltb}
-use Rattle.description_reader.specs.Descriptions.{Outcome, turned, described}
+use Rattle.search.specs.Replies.{Reply, refused}
+use Rattle.description_reader.specs.Descriptions.{Taken, described}
 use Rattle.description_reader.specs.Internal.{draftOf}
 use Rattle.description_reader.specs.Shown.{fluentName, actionName, shownBy, shownFluent, shownAction}
 use Rattle.description_reader.proofs.Answering.{ends-refused, ends-read, no-action}
@@ -13,10 +14,10 @@ use borrow.Author.Needs.{needs}
 use Rattle.description_reader.proofs.shown.name.Statement.{statement}
 use Rattle.description_reader.proofs.shown.name.Tie as tie
 
-abbrev shows : Bool → ℕ → Outcome → List ℕ
+abbrev shows : Bool → ℕ → Reply Taken → List ℕ
 shows action i o = cond action (shownBy actionName o i) (shownBy fluentName o i)
 
-nothing : (action : Bool) (i k place : ℕ) → [] ≡ shows action i (turned k place)
+nothing : (action : Bool) (i k place : ℕ) → [] ≡ shows action i (refused k place)
 nothing true i k place = refl
 nothing false i k place = refl
 
