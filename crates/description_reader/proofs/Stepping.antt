@@ -1,6 +1,6 @@
 -- What the lines' steps keep: room for a law that is being read, and the laws behind those read.
 -- Assumes nothing.
-use mathlib.Core.Path.{_≡_, sym, _∙_, ap}
+use mathlib.Core.Path.{_≡_, refl, sym, _∙_, ap}
 use mathlib.Core.Bool.{true, false, false≢true}
 use mathlib.Core.List.{List, []}
 use Prim.Native.Nat.{ℕ, _+_, _-_, _≤_, _<_, min}
@@ -14,12 +14,14 @@ use Rattle.description.specs.declared.Kind.the-variants.{Static, Dynamic}
 use Rattle.description.specs.declared.Law.{Law}
 use Rattle.description_reader.specs.declared.codes.Codes.{Codes}
 use Rattle.description_reader.specs.declared.Run.{Run}
+use Rattle.description_reader.specs.declared.states.Due as code
+use Rattle.description_reader.specs.declared.states.Due.the-variants as code-due
 use Rattle.description_reader.specs.declared.states.Reading.{Reading}
 use Rattle.description_reader.specs.LineSteps.{Due, horizonDue, firstFluentDue, fluentDue, actionDue, lawDue, ifDue, afterDue, allowed, withAfter}
 use Rattle.description.specs.Laws.{lawOf}
-use Rattle.description_reader.specs.LineSteps.{Draft, next, whole, withIf, byKey}
+use Rattle.description_reader.specs.LineSteps.{Draft, next, whole, withIf, lawIn, byKey}
 use Rattle.text.specs.Lists.{Listed}
-use Rattle.description_reader.specs.Internal.{HasRoom, Sound, Padded, Pushed, Follows, Limits, stepWith}
+use Rattle.description_reader.specs.Internal.{dueOf, HasRoom, Sound, Padded, Pushed, Follows, Limits, stepWith}
 
 at-most-64 : (due : Due) (n : ℕ) → HasRoom due n → n ≤ 64
 at-most-64 horizonDue n h = h
@@ -27,8 +29,8 @@ at-most-64 firstFluentDue n h = h
 at-most-64 fluentDue n h = h
 at-most-64 actionDue n h = h
 at-most-64 lawDue n h = h
-at-most-64 ifDue n h = omega arith
-at-most-64 afterDue n h = omega arith
+at-most-64 (ifDue l) n h = omega arith
+at-most-64 (afterDue l) n h = omega arith
 
 pub sound-64 : {due : Due} {r : Reading} → Sound due r → r .run .count ≤ 64
 sound-64 {due} {r} s = at-most-64 due (r .run .count) (s .room)
@@ -36,24 +38,24 @@ sound-64 {due} {r} s = at-most-64 due (r .run .count) (s .room)
 pub sound-limits : {due : Due} {r : Reading} → Sound due r → Limits r
 sound-limits s = record { time = s .time; few = s .few; declared = s .declared; actions = s .actions }
 
--- a list is allowed only where a law is being read
-pub if-room : (due : Due) (n : ℕ) → allowed due 5 ≡ true → HasRoom due n → n < 64
-if-room horizonDue n e h = absurd (false≢true e)
-if-room firstFluentDue n e h = absurd (false≢true e)
-if-room fluentDue n e h = absurd (false≢true e)
-if-room actionDue n e h = absurd (false≢true e)
-if-room lawDue n e h = absurd (false≢true e)
-if-room ifDue n e h = h
-if-room afterDue n e h = absurd (false≢true e)
+-- a list is allowed only where a law has begun, which has a place in the run
+pub if-begun : (due : code.Due) (l : Law) (n : ℕ) → allowed (dueOf due l) 5 ≡ true → HasRoom (dueOf due l) n → (n < 64) × (lawIn (dueOf due l) ≡ l)
+if-begun code-due.Horizon l n e h = absurd (false≢true e)
+if-begun code-due.FirstFluent l n e h = absurd (false≢true e)
+if-begun code-due.Fluent l n e h = absurd (false≢true e)
+if-begun code-due.Action l n e h = absurd (false≢true e)
+if-begun code-due.NewLaw l n e h = absurd (false≢true e)
+if-begun code-due.If l n e h = (h, refl)
+if-begun code-due.After l n e h = absurd (false≢true e)
 
-pub after-room : (due : Due) (n : ℕ) → allowed due 6 ≡ true → HasRoom due n → n < 64
-after-room horizonDue n e h = absurd (false≢true e)
-after-room firstFluentDue n e h = absurd (false≢true e)
-after-room fluentDue n e h = absurd (false≢true e)
-after-room actionDue n e h = absurd (false≢true e)
-after-room lawDue n e h = absurd (false≢true e)
-after-room ifDue n e h = absurd (false≢true e)
-after-room afterDue n e h = h
+pub after-begun : (due : code.Due) (l : Law) (n : ℕ) → allowed (dueOf due l) 6 ≡ true → HasRoom (dueOf due l) n → (n < 64) × (lawIn (dueOf due l) ≡ l)
+after-begun code-due.Horizon l n e h = absurd (false≢true e)
+after-begun code-due.FirstFluent l n e h = absurd (false≢true e)
+after-begun code-due.Fluent l n e h = absurd (false≢true e)
+after-begun code-due.Action l n e h = absurd (false≢true e)
+after-begun code-due.NewLaw l n e h = absurd (false≢true e)
+after-begun code-due.If l n e h = absurd (false≢true e)
+after-begun code-due.After l n e h = (h, refl)
 
 -- the run is full, or has a place
 module _ (ls : List Law) (n lent : ℕ) (held : length ls ≡ 64) where
@@ -102,16 +104,14 @@ pushed-sound s r h few p =
       held = p .held;
     }
 
-pub if-static : (d : Draft) (cs : List ℕ) → d .law .kind ≡ Static → next lawDue (whole d (lawOf Static (d .law .head) cs [])) ≡ withIf d (d .law .kind) cs
-if-static d cs e = rw e
+pub if-static : (d : Draft) (l : Law) (cs : List ℕ) → l .kind ≡ Static → next lawDue (whole d (lawOf Static (l .head) cs [])) ≡ withIf d (l .kind) (l .head) cs
+if-static d l cs e = rw e
 
-pub if-dynamic : (d : Draft) (cs : List ℕ) → d .law .kind ≡ Dynamic
-    → next afterDue (record { horizon = d .horizon; fluents = d .fluents; names = d .names; laws = d .laws; law = lawOf Dynamic (d .law .head) cs [] })
-    ≡ withIf d (d .law .kind) cs
-if-dynamic d cs e = rw e
+pub if-dynamic : (d : Draft) (l : Law) (cs : List ℕ) → l .kind ≡ Dynamic → next (afterDue (lawOf Dynamic (l .head) cs [])) d ≡ withIf d (l .kind) (l .head) cs
+if-dynamic d l cs e = rw e
 
 -- a line that has no list
 pub step-other : (lent : ℕ) (due : Due) (d : Draft) (key : ℕ) (value : List ℕ) (list : Listed) → allowed due key ≡ true
-    → (key ≡ 5 → ⊥) → (key ≡ 6 → ⊥) → byKey lent d key value ≡ stepWith lent due d key value list
+    → (key ≡ 5 → ⊥) → (key ≡ 6 → ⊥) → byKey lent due d key value ≡ stepWith lent due d key value list
 unfolding stepWith
 step-other lent due d key value list may no-if no-after = rw (may, ne-eqb key 5 no-if, ne-eqb key 6 no-after)

@@ -26,7 +26,7 @@ use Rattle.description_reader.specs.declared.states.State.{State}
 use Rattle.text.specs.Lists as lists
 use Rattle.text.specs.Lists.{Listed, codes, listFrom, listOf}
 use Rattle.text.specs.Internal.{lineOf, spelled, itemsAt}
-use Rattle.description_reader.specs.Internal.{dueOf, draftOf, stepOf, stepWith, isListKey, itemsFrom, highFor, takenOf, blankState, Sound}
+use Rattle.description_reader.specs.Internal.{dueAt, draftOf, stepOf, stepWith, isListKey, itemsFrom, highFor, takenOf, blankState, Sound}
 use Rattle.text.proofs.Cutting.{first-inside}
 use Rattle.text.proofs.Spelling.{spelled-length}
 use Rattle.text.proofs.Items.{items-start, items-end, items-none}
@@ -84,8 +84,8 @@ module _ (k : ℕ) (h : 10 ≤ k) where
   allowed-none fluentDue = rw (not-key 1 (omega arith), not-key 2 (omega arith), not-key 3 (omega arith), not-key 4 (omega arith), not-key 9 (omega arith))
   allowed-none actionDue = rw (not-key 2 (omega arith), not-key 3 (omega arith), not-key 4 (omega arith), not-key 9 (omega arith))
   allowed-none lawDue = rw (not-key 3 (omega arith), not-key 4 (omega arith), not-key 9 (omega arith))
-  allowed-none ifDue = not-key 5 (omega arith)
-  allowed-none afterDue = not-key 6 (omega arith)
+  allowed-none (ifDue l) = not-key 5 (omega arith)
+  allowed-none (afterDue l) = not-key 6 (omega arith)
 
   none-step : (lent : ℕ) (due : Due) (d : Draft) (value : List ℕ) → lineStep lent due d k value ≡ step.refused 2
   unfolding lineStep
@@ -174,7 +174,7 @@ module _ (lent : ℕ) (due : Due) (d : Draft) (key : ℕ) (list : List ℕ) (nam
 
 -- the lines left from a place on
 abbrev pub leftAt : List ℕ → ℕ → State → ℕ → ℕ → Reply Taken
-leftAt text lent s at line = linesFrom (suc (length (drop at text))) lent line (dueOf (s .due)) (draftOf text (s .reading)) (drop at text)
+leftAt text lent s at line = linesFrom (suc (length (drop at text))) lent line (dueAt s) (draftOf text (s .reading)) (drop at text)
 
 pub left-start : (text : List ℕ) (lent : ℕ) (laws : List Law) → length text ≤ 65535 → leftAt text lent (blankState laws) 0 1 ≡ described lent text
 unfolding described spelled
@@ -186,14 +186,14 @@ Onward text lent at line s behind = afterStep s line (drop behind text) (λ due 
 
 module _ (text : List ℕ) (lent : ℕ) (s : State) (at line : ℕ) (l : LineAt) (is : lineOf text l ≡ firstLine (drop at text)) where
   keyed-turn : (b : Bool) → ltb (l .key) 10 ≡ b
-      → leftAt text lent s at line ≡ Onward text lent at line (lineStep lent (dueOf (s .due)) (draftOf text (s .reading)) (l .key) (take (l .to - l .from) (drop (l .from) text))) (l .next)
+      → leftAt text lent s at line ≡ Onward text lent at line (lineStep lent (dueAt s) (draftOf text (s .reading)) (l .key) (take (l .to - l .from) (drop (l .from) text))) (l .next)
   unfolding lineOf
   keyed-turn true e = rw (← is, e)
   keyed-turn false e =
-      rw (none-step (l .key) (ltb-false (l .key) 10 e) lent (dueOf (s .due)) (draftOf text (s .reading)) (take (l .to - l .from) (drop (l .from) text)), ← is, e)
+      rw (none-step (l .key) (ltb-false (l .key) 10 e) lent (dueAt s) (draftOf text (s .reading)) (take (l .to - l .from) (drop (l .from) text)), ← is, e)
 
   pub line-turn : leftAt text lent s at line
-      ≡ Onward text lent at line (lineStep lent (dueOf (s .due)) (draftOf text (s .reading)) (l .key) (take (l .to - l .from) (drop (l .from) text))) (l .next)
+      ≡ Onward text lent at line (lineStep lent (dueAt s) (draftOf text (s .reading)) (l .key) (take (l .to - l .from) (drop (l .from) text))) (l .next)
   line-turn = keyed-turn (ltb (l .key) 10) refl
 
 -- an ending that is lists.refused, and one where the reader stops
@@ -238,7 +238,7 @@ module _ (text : List ℕ) (s : State) (on : (ltb 0 (s .refused) || s .ended) �
   pub goes-refused : s .refused ≡ 0
   goes-refused = omega (arith, ltb-false 0 (s .refused) (or-false (ltb 0 (s .refused)) (s .ended) on .0))
 
-  pub goes-step : stepOf text s ≡ next (dueOf (s .due)) (draftOf text (s .reading))
+  pub goes-step : stepOf text s ≡ next (dueAt s) (draftOf text (s .reading))
   unfolding stepOf
   goes-step = rw (eq-eqb (s .refused) 0 goes-refused, or-false (ltb 0 (s .refused)) (s .ended) on .1)
 
@@ -257,13 +257,13 @@ module _ (text : List ℕ) (s : State) (on : (ltb 0 (s .refused) || s .ended) �
       → Onward text lent at line (stepOf text s) behind ≡ leftAt text lent s behind (line + 1)
   goes-left lent at line behind more within =
       rw (goes-step, add-one line)
-      (lines-enough (length (drop at text)) (suc (length (drop behind text))) lent (suc line) (dueOf (s .due)) (draftOf text (s .reading)) (drop behind text)
+      (lines-enough (length (drop at text)) (suc (length (drop behind text))) lent (suc line) (dueAt s) (draftOf text (s .reading)) (drop behind text)
       (omega (arith, length-drop at text, length-drop behind text)) (omega arith))
 
 -- the list of a line
 abbrev pub listHere : List ℕ → State → LineAt → Listed
 listHere text s l =
-    lineList (spelled text (s .reading .names)) (highFor (l .key) (s .reading)) (dueOf (s .due)) (l .key) (take (l .to - l .from) (drop (l .from) text))
+    lineList (spelled text (s .reading .names)) (highFor (l .key) (s .reading)) (dueAt s) (l .key) (take (l .to - l .from) (drop (l .from) text))
 
 -- the line at a place, its list read or lists.refused
 module _ (text : List ℕ) (lent : ℕ) (s : State) (at line : ℕ) (l : LineAt) (is : lineOf text l ≡ firstLine (drop at text)) where
@@ -272,17 +272,17 @@ module _ (text : List ℕ) (lent : ℕ) (s : State) (at line : ℕ) (l : LineAt)
       let value = take (l .to - l .from) (drop (l .from) text) in
       line-turn text lent s at line l is
       ∙ ap (λ step. Onward text lent at line step (l .next))
-      (sym (step-whole text lent (dueOf (s .due)) (s .reading) (l .key) value)
-      ∙ step-refused lent (dueOf (s .due)) (draftOf text (s .reading)) (l .key) value (spelled text (s .reading .names)) (highFor (l .key) (s .reading)) k fails)
+      (sym (step-whole text lent (dueAt s) (s .reading) (l .key) value)
+      ∙ step-refused lent (dueAt s) (draftOf text (s .reading)) (l .key) value (spelled text (s .reading .names)) (highFor (l .key) (s .reading)) k fails)
 
   module _ (r : State) (cs : List ℕ)
-      (steps : stepOf text r ≡ stepWith lent (dueOf (s .due)) (draftOf text (s .reading)) (l .key) (take (l .to - l .from) (drop (l .from) text)) (codes cs))
+      (steps : stepOf text r ≡ stepWith lent (dueAt s) (draftOf text (s .reading)) (l .key) (take (l .to - l .from) (drop (l .from) text)) (codes cs))
       (whole : codes cs ≡ listHere text s l) where
-    pub stepped : stepOf text r ≡ lineStep lent (dueOf (s .due)) (draftOf text (s .reading)) (l .key) (take (l .to - l .from) (drop (l .from) text))
+    pub stepped : stepOf text r ≡ lineStep lent (dueAt s) (draftOf text (s .reading)) (l .key) (take (l .to - l .from) (drop (l .from) text))
     stepped =
         let value = take (l .to - l .from) (drop (l .from) text) in
-        steps ∙ ap (stepWith lent (dueOf (s .due)) (draftOf text (s .reading)) (l .key) value) whole
-        ∙ step-whole text lent (dueOf (s .due)) (s .reading) (l .key) value
+        steps ∙ ap (stepWith lent (dueAt s) (draftOf text (s .reading)) (l .key) value) whole
+        ∙ step-whole text lent (dueAt s) (s .reading) (l .key) value
 
     pub stepped-left : leftAt text lent s at line ≡ Onward text lent at line (stepOf text r) (l .next)
     stepped-left = line-turn text lent s at line l is ∙ ap (λ step. Onward text lent at line step (l .next)) (sym stepped)
@@ -308,6 +308,6 @@ pub blank-sound : (laws : List Law) → length laws ≡ 64 → Sound horizonDue 
 blank-sound laws h = record { time = omega arith; few = omega arith; declared = omega arith; actions = omega arith; room = omega arith; held = h }
 
 pub list-here : (text : List ℕ) (s : State) (l : LineAt) (high i : ℕ) → high ≡ highFor (l .key) (s .reading)
-    → i ≡ itemsFrom (dueOf (s .due)) (l .key) (length (take (l .to - l .from) (drop (l .from) text)))
+    → i ≡ itemsFrom (dueAt s) (l .key) (length (take (l .to - l .from) (drop (l .from) text)))
     → listFrom (spelled text (s .reading .names)) 0 high 6 [] (itemsAt (take (l .to - l .from) (drop (l .from) text)) i) ≡ listHere text s l
 list-here text s l high i e f = rw (e, f)

@@ -8,7 +8,6 @@ use lib.Dec.{ltb}
 use lib.ListN.{length}
 use Rattle.search.specs.Replies.{Reply, refused, answered}
 use Rattle.description.specs.declared.Description.{Description}
-use Rattle.description.specs.Laws.{noLaw}
 use Rattle.text.specs.Lines.{Line, firstLine}
 use Rattle.description_reader.specs.LineSteps as step
 use Rattle.description_reader.specs.LineSteps.{Due, horizonDue, Draft, Step, next, finish, lineStep}
@@ -33,7 +32,7 @@ linesFrom (suc k) lent line due d text =
     afterFirst (firstLine text) lent due d line (λ due′ d′ rest. linesFrom k lent (suc line) due′ d′ rest)
 
 abbrev pub blank : Draft
-blank = record { horizon = 0; fluents = 0; names = []; laws = []; law = noLaw }
+blank = record { horizon = 0; fluents = 0; names = []; laws = [] }
 
 -- refusal 1: over 65,535 bytes, place 0
 unfoldable pub described : ℕ → List ℕ → Reply Taken

@@ -22,7 +22,7 @@ use Rattle.text.specs.Lists.{Listed, codes, added}
 use Rattle.text.specs.Internal.{spelled}
 use Rattle.description_reader.specs.LineSteps.{Due, horizonDue, firstFluentDue, fluentDue, actionDue, lawDue, ifDue, afterDue, Draft, allowed}
 use Rattle.description_reader.specs.LineSteps as step
-use Rattle.description_reader.specs.LineSteps.{Step, next, finish, inHorizon, ifLine, afterLine, byKey}
+use Rattle.description_reader.specs.LineSteps.{Step, next, finish, inHorizon, ifLine, afterLine, lawIn, byKey}
 use Rattle.description.specs.Laws.{padded, noLaw}
 use Rattle.search.specs.Replies.{Reply, refused, answered}
 use Rattle.description_reader.specs.Descriptions.{Taken, read}
@@ -45,14 +45,18 @@ oneMore done code = cond (ltb (length done) 6) (added done code codes) (lists.re
 abbrev pub twoDigits : ℕ → ℕ → Option ℕ
 twoDigits a b = cond (isDigit a && isDigit b && not (eqb a 48)) (inHorizon (10 * (a - 48) + (b - 48))) none
 
-abbrev pub dueOf : code.Due → Due
-dueOf code-due.Horizon = horizonDue
-dueOf code-due.FirstFluent = firstFluentDue
-dueOf code-due.Fluent = fluentDue
-dueOf code-due.Action = actionDue
-dueOf code-due.NewLaw = lawDue
-dueOf code-due.If = ifDue
-dueOf code-due.After = afterDue
+-- what is due, where the law is the one that has begun
+abbrev pub dueOf : code.Due → Law → Due
+dueOf code-due.Horizon l = horizonDue
+dueOf code-due.FirstFluent l = firstFluentDue
+dueOf code-due.Fluent l = fluentDue
+dueOf code-due.Action l = actionDue
+dueOf code-due.NewLaw l = lawDue
+dueOf code-due.If l = ifDue l
+dueOf code-due.After l = afterDue l
+
+abbrev pub dueAt : State → Due
+dueAt s = dueOf (s .due) (s .law)
 
 -- the draft that the code's record stands for, and the step that its state does
 abbrev pub draftOf : List ℕ → Reading → Draft
@@ -62,13 +66,12 @@ draftOf text r =
       fluents = r .fluents;
       names = spelled text (r .names);
       laws = take (r .run .count) (r .run .laws);
-      law = r .law;
     }
 
 unfoldable pub stepOf : List ℕ → State → Step
 stepOf text s =
     cond (eqb (s .refused) 0)
-    (cond (s .ended) (finish (draftOf text (s .reading))) (next (dueOf (s .due)) (draftOf text (s .reading))))
+    (cond (s .ended) (finish (draftOf text (s .reading))) (next (dueAt s) (draftOf text (s .reading))))
     (step.refused (s .refused))
 
 -- a law that is being read has a place in the run
@@ -78,8 +81,8 @@ HasRoom firstFluentDue n = n ≤ 64
 HasRoom fluentDue n = n ≤ 64
 HasRoom actionDue n = n ≤ 64
 HasRoom lawDue n = n ≤ 64
-HasRoom ifDue n = n < 64
-HasRoom afterDue n = n < 64
+HasRoom (ifDue l) n = n < 64
+HasRoom (afterDue l) n = n < 64
 
 -- the counts that a reading keeps to
 pub record Sound (due : Due) (r : Reading) : Type 0 where
@@ -96,7 +99,7 @@ Follows old run = drop (run .count) (run .laws) ≡ drop (run .count) old
 
 -- what every line's step keeps
 pub record Goes (s r : State) : Type 0 where
-  pub sound : Sound (dueOf (r .due)) (r .reading)
+  pub sound : Sound (dueAt r) (r .reading)
   pub follows : (old : List Law) → Follows old (s .reading .run) → Follows old (r .reading .run)
 
 -- whether one more action, or one more fluent, can be declared
@@ -107,7 +110,7 @@ hasPlace action fluents names = cond action (ltb names (fluents + 8)) (ltb fluen
 unfoldable pub stepWith : ℕ → Due → Draft → ℕ → List ℕ → Listed → Step
 stepWith lent due d key value list =
     cond (allowed due key)
-    (cond (eqb key ifKey) (ifLine d list) (cond (eqb key afterKey) (afterLine d list) (byKey lent d key value)))
+    (cond (eqb key ifKey) (ifLine d (lawIn due) list) (cond (eqb key afterKey) (afterLine d (lawIn due) list) (byKey lent due d key value)))
     (step.refused 2)
 
 -- a reading with one more law
@@ -125,13 +128,13 @@ blankState laws =
       refused = 0;
       ended = false;
       due = code-due.Horizon;
+      law = noLaw;
       reading =
           record {
             horizon = 0;
             fluents = 0;
             names = record { starts = replicate 32 0; lengths = replicate 32 0; count = 0 };
             run = record { laws = laws; count = 0 };
-            law = noLaw;
           };
     }
 
@@ -151,7 +154,7 @@ takenOf text e =
     cond (eqb (e .state .refused) 0) (answered (read (draftOf text (e .state .reading)) (drop (e .at) text) (e .line))) (refused (e .state .refused) (e .line))
 
 pub record Ended (old : List Law) (text : List ℕ) (e : Ending) : Type 0 where
-  pub sound : Sound (dueOf (e .state .due)) (e .state .reading)
+  pub sound : Sound (dueAt (e .state)) (e .state .reading)
   pub follows : Follows old (e .state .reading .run)
   pub within : e .at ≤ length text
 

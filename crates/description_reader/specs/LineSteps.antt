@@ -11,7 +11,7 @@ use Rattle.description.specs.declared.Head.the-variants.{Lit, False}
 use Rattle.description.specs.declared.Kind.{Kind}
 use Rattle.description.specs.declared.Kind.the-variants.{Static, Dynamic}
 use Rattle.description.specs.declared.Law.{Law}
-use Rattle.description.specs.Laws.{padded, lawOf}
+use Rattle.description.specs.Laws.{padded, lawOf, noLaw}
 use Rattle.text.specs.Bytes.{isDigit, same}
 use Rattle.text.specs.Lines.{horizonKey, fluentKey, actionKey, staticKey, dynamicKey, ifKey, afterKey, endKey}
 use Rattle.text.specs.Names.{falseBytes, isNew, literal}
@@ -19,17 +19,17 @@ use Rattle.text.specs.Lists as lists
 use Rattle.text.specs.Lists.{Listed, codes, listOf}
 
 -- what is due: the horizon, the first fluent, a further fluent or what follows, an action or what follows, a law or the end,
--- an if-list, an after-list
+-- the if-list of a law that has begun, its after-list
 pub data Due : Type 0 where
-  horizonDue firstFluentDue fluentDue actionDue lawDue ifDue afterDue : Due
+  horizonDue firstFluentDue fluentDue actionDue lawDue : Due
+  ifDue afterDue : Law → Due
 
--- what has been read: the names (fluents first), how many of them are fluents, the laws, and the law that is being read
+-- what has been read: the horizon, how many of the names are fluents, the names (fluents first), and the laws
 pub record Draft : Type 0 where
   pub horizon : ℕ
   pub fluents : ℕ
   pub names : List (List ℕ)
   pub laws : List Law
-  pub law : Law
 
 -- the keys that may stand where something is due
 abbrev pub allowed : Due → ℕ → Bool
@@ -38,8 +38,8 @@ allowed firstFluentDue k = eqb k fluentKey
 allowed fluentDue k = eqb k fluentKey || eqb k actionKey || eqb k staticKey || eqb k dynamicKey || eqb k endKey
 allowed actionDue k = eqb k actionKey || eqb k staticKey || eqb k dynamicKey || eqb k endKey
 allowed lawDue k = eqb k staticKey || eqb k dynamicKey || eqb k endKey
-allowed ifDue k = eqb k ifKey
-allowed afterDue k = eqb k afterKey
+allowed (ifDue l) k = eqb k ifKey
+allowed (afterDue l) k = eqb k afterKey
 
 -- what a line comes to: a refusal's number, what is due next, or the end of the description
 pub data Step : Type 0 where
@@ -60,14 +60,14 @@ horizonOf (a ∷ b ∷ c ∷ bs) = none
 abbrev pub horizonLine : Draft → Option ℕ → Step
 horizonLine d none = refused 3
 horizonLine d (some T) =
-    next firstFluentDue (record { horizon = T; fluents = d .fluents; names = d .names; laws = d .laws; law = d .law })
+    next firstFluentDue (record { horizon = T; fluents = d .fluents; names = d .names; laws = d .laws })
 
 -- a line that declares a name, where there is a place for it; fluents is their number behind it
 abbrev pub nameLine : Bool → Due → ℕ → Draft → List ℕ → Step
 nameLine fits due fluents d value =
     cond fits
     (cond (isNew (d .names) value)
-    (next due (record { horizon = d .horizon; fluents = fluents; names = d .names ++ (value ∷ []); laws = d .laws; law = d .law }))
+    (next due (record { horizon = d .horizon; fluents = fluents; names = d .names ++ (value ∷ []); laws = d .laws }))
     (refused 4))
     (refused 5)
 
@@ -87,8 +87,7 @@ headOf names fluents value = cond (same value falseBytes) (some False) (litHead 
 
 abbrev pub begun : Draft → Kind → Option Head → Step
 begun d kind none = refused 6
-begun d kind (some h) =
-    next ifDue (record { horizon = d .horizon; fluents = d .fluents; names = d .names; laws = d .laws; law = lawOf kind h [] [] })
+begun d kind (some h) = next (ifDue (lawOf kind h [] [])) d
 
 -- a new law, of at most 64 and of those lent: 5 before its head's spelling
 abbrev pub lawLine : ℕ → Draft → Kind → List ℕ → Step
@@ -97,17 +96,15 @@ lawLine lent d kind value =
 
 -- a law is whole behind its if-list if it is static, else behind its after-list
 abbrev pub whole : Draft → Law → Draft
-whole d l = record { horizon = d .horizon; fluents = d .fluents; names = d .names; laws = d .laws ++ (l ∷ []); law = l }
+whole d l = record { horizon = d .horizon; fluents = d .fluents; names = d .names; laws = d .laws ++ (l ∷ []) }
 
-abbrev pub withIf : Draft → Kind → List ℕ → Step
-withIf d Static cs = next lawDue (whole d (lawOf Static (d .law .head) cs []))
-withIf d Dynamic cs =
-    next afterDue
-    (record { horizon = d .horizon; fluents = d .fluents; names = d .names; laws = d .laws; law = lawOf Dynamic (d .law .head) cs [] })
+abbrev pub withIf : Draft → Kind → Head → List ℕ → Step
+withIf d Static head cs = next lawDue (whole d (lawOf Static head cs []))
+withIf d Dynamic head cs = next (afterDue (lawOf Dynamic head cs [])) d
 
-abbrev pub ifLine : Draft → Listed → Step
-ifLine d (lists.refused k) = refused k
-ifLine d (codes cs) = withIf d (d .law .kind) cs
+abbrev pub ifLine : Draft → Law → Listed → Step
+ifLine d l (lists.refused k) = refused k
+ifLine d l (codes cs) = withIf d (l .kind) (l .head) cs
 
 abbrev pub withAfter : Law → List ℕ → Law
 withAfter l cs =
@@ -120,24 +117,34 @@ withAfter l cs =
       «after_codes» = padded cs;
     }
 
-abbrev pub afterLine : Draft → Listed → Step
-afterLine d (lists.refused k) = refused k
-afterLine d (codes cs) = next lawDue (whole d (withAfter (d .law) cs))
+abbrev pub afterLine : Draft → Law → Listed → Step
+afterLine d l (lists.refused k) = refused k
+afterLine d l (codes cs) = next lawDue (whole d (withAfter l cs))
 
 abbrev pub endLine : Draft → List ℕ → Step
 endLine d [] = finish d
 endLine d (b ∷ bs) = refused 2
 
+-- the law that has begun; no list is allowed where none has
+abbrev pub lawIn : Due → Law
+lawIn horizonDue = noLaw
+lawIn firstFluentDue = noLaw
+lawIn fluentDue = noLaw
+lawIn actionDue = noLaw
+lawIn lawDue = noLaw
+lawIn (ifDue l) = l
+lawIn (afterDue l) = l
+
 -- a line whose key is allowed, by its key; a fluent literal's place is below the number of fluents
-abbrev pub byKey : ℕ → Draft → ℕ → List ℕ → Step
-byKey lent d key value =
+abbrev pub byKey : ℕ → Due → Draft → ℕ → List ℕ → Step
+byKey lent due d key value =
     cond (eqb key horizonKey) (horizonLine d (horizonOf value))
     (cond (eqb key fluentKey) (fluentLine d value)
     (cond (eqb key actionKey) (actionLine d value)
     (cond (eqb key staticKey) (lawLine lent d Static value)
     (cond (eqb key dynamicKey) (lawLine lent d Dynamic value)
-    (cond (eqb key ifKey) (ifLine d (listOf (d .names) 0 (d .fluents) 6 value))
-    (cond (eqb key afterKey) (afterLine d (listOf (d .names) 0 (length (d .names)) 6 value)) (endLine d value)))))))
+    (cond (eqb key ifKey) (ifLine d (lawIn due) (listOf (d .names) 0 (d .fluents) 6 value))
+    (cond (eqb key afterKey) (afterLine d (lawIn due) (listOf (d .names) 0 (length (d .names)) 6 value)) (endLine d value)))))))
 
 unfoldable pub lineStep : ℕ → Due → Draft → ℕ → List ℕ → Step
-lineStep lent due d key value = cond (allowed due key) (byKey lent d key value) (refused 2)
+lineStep lent due d key value = cond (allowed due key) (byKey lent due d key value) (refused 2)

@@ -15,6 +15,7 @@ use text::names::Names;
 ghost use mathlib.Core.Path.{_≡_};
 ghost use Prim.Native.Nat.{_≤_, _<_};
 ghost use lib.ListN.{length};
+ghost use Rattle.description.specs.declared.Law.{Law};
 ghost use Rattle.description_reader.specs.Descriptions.{described};
 ghost use Rattle.description_reader.specs.Internal.{dueOf, blankState, itemsFrom, highFor, takenOf, Ended, Limits};
 
@@ -41,12 +42,12 @@ fn begun(laws: [Law; 64]) -> State
         fluents: 0,
         names,
         run,
-        law,
     };
     State {
         refused: 0,
         ended: false,
         due: Due::Horizon,
+        law,
         reading,
     }
 }
@@ -54,7 +55,7 @@ fn begun(laws: [Law; 64]) -> State
 // Where the items of a line's list begin: behind the end where the line has none to be read.
 fn first_item(due: Due, key: usize, size: usize) -> usize
     requires { ⌜ size < 9223372036854775808 ⌝ }
-    ensures { λ r. ⌜ r ≡ itemsFrom (dueOf due) key size ⌝ }
+    ensures { λ r. ⌜ ((law : Law) → r ≡ itemsFrom (dueOf due law) key size) ⌝ }
 {
     if size == 0 {
         return size + 1;

@@ -10,6 +10,7 @@ ghost use Prim.Native.Nat.{_-_, _<_};
 ghost use mathlib.Core.Bool.{_||_};
 ghost use lib.Dec.{ltb};
 ghost use Rattle.search.specs.Search.{placeOf};
+ghost use Rattle.description.specs.declared.Law.{Law};
 ghost use Rattle.description_reader.specs.LineSteps.{lawDue, inHorizon, horizonOf, allowed};
 ghost use Rattle.description_reader.specs.Internal.{dueOf, twoDigits};
 
@@ -24,20 +25,21 @@ pub enum Due {
     After,
 }
 
-// What has been read: the horizon, how many of the names are fluents, the names, the laws, and the law that is being read.
+// What has been read: the horizon, how many of the names are fluents, the names, and the laws.
 pub struct Reading {
     pub horizon: usize,
     pub fluents: usize,
     pub names: Names,
     pub run: Run,
-    pub law: Law,
 }
 
-// Where the reader is: a refusal's number (0: none), whether the end line is read, what is due, and what has been read.
+// Where the reader is: a refusal's number (0: none), whether the end line is read, what is due, the law whose lists are due, and
+// what has been read.
 pub struct State {
     pub refused: u8,
     pub ended: bool,
     pub due: Due,
+    pub law: Law,
     pub reading: Reading,
 }
 
@@ -110,7 +112,7 @@ fn begins_law(key: usize) -> bool
 
 // The keys that may stand where something is due.
 pub(crate) fn is_allowed(due: Due, key: usize) -> bool
-    ensures { λ r. ⌜ r ≡ allowed (dueOf due) key ⌝ }
+    ensures { λ r. ⌜ ((law : Law) → r ≡ allowed (dueOf due law) key) ⌝ }
 {
     match due {
         Due::Horizon => key == lines::HORIZON,

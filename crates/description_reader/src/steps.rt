@@ -24,11 +24,11 @@ ghost use Rattle.description_reader.specs.LineSteps as step;
 ghost use Rattle.description_reader.specs.LineSteps.{actionDue, fluentDue, horizonOf, horizonLine, nameLine, lawLine};
 ghost use Rattle.description_reader.specs.LineSteps.{begun, whole, ifLine, afterLine, endLine, byKey};
 ghost use Rattle.description.specs.Laws.{lawOf};
-ghost use Rattle.description_reader.specs.Internal.{dueOf, draftOf, stepOf, stepWith, hasPlace, Sound, Goes, Padded, Pushed};
+ghost use Rattle.description_reader.specs.Internal.{dueAt, draftOf, stepOf, stepWith, hasPlace, Sound, Goes, Padded, Pushed};
 
 // A line that is refused.
 pub(crate) fn refused(state: State, number: u8) -> State
-    requires { ⌜ (0 < number) × Sound (dueOf (state .due)) (state .reading) ⌝ }
+    requires { ⌜ (0 < number) × Sound (dueAt state) (state .reading) ⌝ }
     ensures { λ r. ⌜ ((text : List ℕ) → stepOf text r ≡ step.refused number) ⌝ }
     ensures { λ r. ⌜ Goes state r ⌝ }
 {
@@ -38,19 +38,21 @@ pub(crate) fn refused(state: State, number: u8) -> State
 }
 
 fn horizon_line(value: &[u8], state: State) -> State
-    requires { ⌜ Sound (dueOf (state .due)) (state .reading) ⌝ }
+    requires { ⌜ Sound (dueAt state) (state .reading) ⌝ }
     ensures { λ r. ⌜ ((text : List ℕ) → stepOf text r ≡ horizonLine (draftOf text (state .reading)) (horizonOf (now (value .entry)))) ⌝ }
     ensures { λ r. ⌜ Goes state r ⌝ }
 {
     let Found::At(t) = states::horizon_of(value) else {
         return refused(state, 3);
     };
+    let law = state.law;
     let mut reading = state.reading;
     reading.horizon = t;
     State {
         refused: 0,
         ended: false,
         due: Due::FirstFluent,
+        law,
         reading,
     }
 }
@@ -86,7 +88,7 @@ fn with_name(names: Names, start: usize, length: usize) -> Names
 
 // A new fluent or action: 5 before its spelling, then 4.
 fn name_line(text: &[u8], from: usize, to: usize, state: State, action: bool) -> State
-    requires { ⌜ (from ≤ to) × (to ≤ length (now text)) × Sound (dueOf (state .due)) (state .reading) ⌝ }
+    requires { ⌜ (from ≤ to) × (to ≤ length (now text)) × Sound (dueAt state) (state .reading) ⌝ }
     ensures { λ r. ⌜ stepOf (now (text .entry)) r ≡ nameLine
         (hasPlace action (state .reading .fluents) (state .reading .names .count)) (cond action actionDue fluentDue)
         (cond action (state .reading .fluents) (suc (state .reading .fluents)))
@@ -103,6 +105,7 @@ fn name_line(text: &[u8], from: usize, to: usize, state: State, action: bool) ->
     }
     let more = with_name(names, from, to - from);
     reading.names = more;
+    let law = state.law;
     let mut due = Due::Action;
     if !action {
         due = Due::Fluent;
@@ -112,6 +115,7 @@ fn name_line(text: &[u8], from: usize, to: usize, state: State, action: bool) ->
         refused: 0,
         ended: false,
         due,
+        law,
         reading,
     }
 }
@@ -131,24 +135,23 @@ pub(crate) fn new_law(kind: Kind, head: Head) -> Law
 
 // The law's head is read, and its if-list is due.
 fn begin_law(state: State, kind: Kind, head: Head) -> State
-    requires { ⌜ (state .reading .run .count < 64) × Sound (dueOf (state .due)) (state .reading) ⌝ }
+    requires { ⌜ (state .reading .run .count < 64) × Sound (dueAt state) (state .reading) ⌝ }
     ensures { λ r. ⌜ ((text : List ℕ) → stepOf text r ≡ begun (draftOf text (state .reading)) kind (some head)) ⌝ }
     ensures { λ r. ⌜ Goes state r ⌝ }
 {
-    let mut reading = state.reading;
-    let law = new_law(kind, head);
-    reading.law = law;
+    let reading = state.reading;
     State {
         refused: 0,
         ended: false,
         due: Due::If,
+        law: new_law(kind, head),
         reading,
     }
 }
 
 // A new law, of at most 64 and of those lent: 5 before its head's spelling.
 fn law_line(text: &[u8], from: usize, to: usize, state: State, kind: Kind, lent: usize) -> State
-    requires { ⌜ (from ≤ to) × (to ≤ length (now text)) × Sound (dueOf (state .due)) (state .reading) ⌝ }
+    requires { ⌜ (from ≤ to) × (to ≤ length (now text)) × Sound (dueAt state) (state .reading) ⌝ }
     ensures { λ r. ⌜ stepOf (now (text .entry)) r ≡ lawLine lent (draftOf (now (text .entry)) (state .reading)) kind (take (to - from) (drop from (now (text .entry)))) ⌝ }
     ensures { λ r. ⌜ Goes state r ⌝ }
 {
@@ -187,18 +190,17 @@ fn with_law(reading: Reading, law: Law) -> Reading
     };
     let mut next = reading;
     next.run = more;
-    next.law = law;
     next
 }
 
 // The if-list: a static law is whole behind it, a dynamic one wants its after-list.
 fn if_line(state: State, list: Codes) -> State
-    requires { ⌜ (state .reading .run .count < 64) × Sound (dueOf (state .due)) (state .reading) × Padded list ⌝ }
-    ensures { λ r. ⌜ ((text : List ℕ) → stepOf text r ≡ ifLine (draftOf text (state .reading)) (codes (take (list .count) (list .codes)))) ⌝ }
+    requires { ⌜ (state .reading .run .count < 64) × Sound (dueAt state) (state .reading) × Padded list ⌝ }
+    ensures { λ r. ⌜ ((text : List ℕ) → stepOf text r ≡ ifLine (draftOf text (state .reading)) (state .law) (codes (take (list .count) (list .codes)))) ⌝ }
     ensures { λ r. ⌜ Goes state r ⌝ }
 {
-    let mut reading = state.reading;
-    let mut law = reading.law;
+    let reading = state.reading;
+    let mut law = state.law;
     let kind = law.kind;
     let if_codes = list.codes;
     law.if_count = list.count as u8;
@@ -210,27 +212,26 @@ fn if_line(state: State, list: Codes) -> State
             refused: 0,
             ended: false,
             due: Due::NewLaw,
+            law,
             reading: with_law(reading, law),
         },
-        Kind::Dynamic => {
-            reading.law = law;
-            State {
-                refused: 0,
-                ended: false,
-                due: Due::After,
-                reading,
-            }
-        }
+        Kind::Dynamic => State {
+            refused: 0,
+            ended: false,
+            due: Due::After,
+            law,
+            reading,
+        },
     }
 }
 
 fn after_line(state: State, list: Codes) -> State
-    requires { ⌜ (state .reading .run .count < 64) × Sound (dueOf (state .due)) (state .reading) × Padded list ⌝ }
-    ensures { λ r. ⌜ ((text : List ℕ) → stepOf text r ≡ afterLine (draftOf text (state .reading)) (codes (take (list .count) (list .codes)))) ⌝ }
+    requires { ⌜ (state .reading .run .count < 64) × Sound (dueAt state) (state .reading) × Padded list ⌝ }
+    ensures { λ r. ⌜ ((text : List ℕ) → stepOf text r ≡ afterLine (draftOf text (state .reading)) (state .law) (codes (take (list .count) (list .codes)))) ⌝ }
     ensures { λ r. ⌜ Goes state r ⌝ }
 {
     let reading = state.reading;
-    let mut law = reading.law;
+    let mut law = state.law;
     let after_codes = list.codes;
     law.after_count = list.count as u8;
     law.after_codes = after_codes;
@@ -238,12 +239,13 @@ fn after_line(state: State, list: Codes) -> State
         refused: 0,
         ended: false,
         due: Due::NewLaw,
+        law,
         reading: with_law(reading, law),
     }
 }
 
 fn end_line(value: &[u8], state: State) -> State
-    requires { ⌜ Sound (dueOf (state .due)) (state .reading) ⌝ }
+    requires { ⌜ Sound (dueAt state) (state .reading) ⌝ }
     ensures { λ r. ⌜ ((text : List ℕ) → stepOf text r ≡ endLine (draftOf text (state .reading)) (now (value .entry))) ⌝ }
     ensures { λ r. ⌜ Goes state r ⌝ }
 {
@@ -258,9 +260,9 @@ fn end_line(value: &[u8], state: State) -> State
 
 // A line of any key but the lists', whose key is allowed.
 fn other_line(text: &[u8], from: usize, to: usize, key: usize, state: State, lent: usize) -> State
-    requires { ⌜ (from ≤ to) × (to ≤ length (now text)) × Sound (dueOf (state .due)) (state .reading) ⌝ }
+    requires { ⌜ (from ≤ to) × (to ≤ length (now text)) × Sound (dueAt state) (state .reading) ⌝ }
     requires { ⌜ ((key ≡ 5 → ⊥) × (key ≡ 6 → ⊥)) ⌝ }
-    ensures { λ r. ⌜ stepOf (now (text .entry)) r ≡ byKey lent (draftOf (now (text .entry)) (state .reading)) key (take (to - from) (drop from (now (text .entry)))) ⌝ }
+    ensures { λ r. ⌜ stepOf (now (text .entry)) r ≡ byKey lent (dueAt state) (draftOf (now (text .entry)) (state .reading)) key (take (to - from) (drop from (now (text .entry)))) ⌝ }
     ensures { λ r. ⌜ Goes state r ⌝ }
 {
     if key == lines::HORIZON {
@@ -291,8 +293,8 @@ pub(crate) fn line_step(
     state: State,
     lent: usize,
 ) -> State
-    requires { ⌜ (from ≤ to) × (to ≤ length (now text)) × Sound (dueOf (state .due)) (state .reading) × Padded list ⌝ }
-    ensures { λ r. ⌜ stepOf (now (text .entry)) r ≡ stepWith lent (dueOf (state .due)) (draftOf (now (text .entry)) (state .reading)) key (take (to - from) (drop from (now (text .entry)))) (codes (take (list .count) (list .codes))) ⌝ }
+    requires { ⌜ (from ≤ to) × (to ≤ length (now text)) × Sound (dueAt state) (state .reading) × Padded list ⌝ }
+    ensures { λ r. ⌜ stepOf (now (text .entry)) r ≡ stepWith lent (dueAt state) (draftOf (now (text .entry)) (state .reading)) key (take (to - from) (drop from (now (text .entry)))) (codes (take (list .count) (list .codes))) ⌝ }
     ensures { λ r. ⌜ Goes state r ⌝ }
 {
     let due = state.due;

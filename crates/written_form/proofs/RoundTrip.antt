@@ -18,13 +18,13 @@ use Rattle.description.specs.declared.Kind.the-variants.{Static, Dynamic}
 use Rattle.description.specs.declared.Law.{Law}
 use Rattle.description.specs.Laws.{ifList, afterList}
 use Rattle.description.proofs.Fits.{CodesBelow, HeadBelow}
-use Rattle.written_form.specs.Writable.{aftersOf, Tidy, Writable, lawLines, lawsLines, linesWritten, lastLaw, draftWritten, AreNames, Distinct, draft}
+use Rattle.written_form.specs.Writable.{aftersOf, Tidy, Writable, lawLines, lawsLines, linesWritten, draftWritten, AreNames, Distinct, draft}
 use Rattle.text.specs.Bytes.{newline}
 use Rattle.text.specs.Lines.{horizonKey, fluentKey, actionKey, staticKey, dynamicKey, ifKey, afterKey, endKey}
 use Rattle.text.specs.Names.{isName, declaredAt}
 use Rattle.text.specs.Lists.{codes}
 use Rattle.description_reader.specs.LineSteps.{Due, horizonDue, firstFluentDue, fluentDue, actionDue, lawDue, ifDue, afterDue, Draft, allowed, next, ifLine, lineStep}
-use Rattle.description.specs.Laws.{noLaw, lawOf}
+use Rattle.description.specs.Laws.{lawOf}
 use Rattle.description_reader.specs.Descriptions.{blank, read, linesFrom, described}
 use Rattle.written_form.specs.Writing.{lineText, horizonText, listText, headText, lawText, lawsText, namesText, descriptionText}
 use Rattle.written_form.proofs.WrittenLines.{Lacks}
@@ -76,56 +76,55 @@ module _ (lent T n : ℕ) (names : List (List ℕ)) (are : AreNames names) (dist
   if-clean : (cs : List ℕ) → CodesBelow (2 * n) cs → Lacks newline (listText names cs)
   if-clean cs below = list-lacks-newline names are cs (each-map (λ c h. omega arith) cs below)
 
-  law-passes : (l : Law) (done : List Law) (w : Law) (due : Due) → allowed due staticKey ≡ true → allowed due dynamicKey ≡ true
+  law-passes : (l : Law) (done : List Law) (due : Due) → allowed due staticKey ≡ true → allowed due dynamicKey ≡ true
       → length done < min 64 lent → Bounded n (length names) l → Tidy l
-      → Passes lent (lawLines (l .kind)) (lawText names (l .kind) l) due (draft T n names done w) lawDue (draft T n names (done ++ (l ∷ [])) l)
-  law-passes l done w due static dynamic few b tidy =
-      subst (λ l′. Passes lent (lawLines (l .kind)) (lawText names (l .kind) l) due (draft T n names done w) lawDue (draft T n names (done ++ (l′ ∷ [])) l′))
+      → Passes lent (lawLines (l .kind)) (lawText names (l .kind) l) due (draft T n names done) lawDue (draft T n names (done ++ (l ∷ [])))
+  law-passes l done due static dynamic few b tidy =
+      subst (λ l′. Passes lent (lawLines (l .kind)) (lawText names (l .kind) l) due at lawDue (draft T n names (done ++ (l′ ∷ []))))
       (sym tidy) (go (l .kind) (b .afters) (b .few-afters))
     where
-      at : Law → Draft
-      at l′ = draft T n names done l′
+      at : Draft
+      at = draft T n names done
 
       ifs : List ℕ
       ifs = ifList l
 
       -- the if-list is read back, whatever law has begun
-      ifs-read : (l′ : Law) → lineStep lent ifDue (at l′) ifKey (listText names ifs) ≡ ifLine (at l′) (codes ifs)
+      ifs-read : (l′ : Law) → lineStep lent (ifDue l′) at ifKey (listText names ifs) ≡ ifLine at l′ (codes ifs)
       ifs-read l′ =
-          if-step lent (at l′) (listText names ifs) ifs
+          if-step lent at l′ (listText names ifs) ifs
           (list-read names are distinct 0 n 6 held ifs (codes-in n ifs (b .ifs)) (b .few-ifs))
 
       go : (k : Kind) → CodesBelow (2 * length names) (aftersOf k l) → length (aftersOf k l) ≤ 6
-          → let l′ = lawOf k (l .head) ifs (aftersOf k l) in
-          Passes lent (lawLines k) (lawText names k l) due (at w) lawDue (draft T n names (done ++ (l′ ∷ [])) l′)
+          → Passes lent (lawLines k) (lawText names k l) due at lawDue (draft T n names (done ++ (lawOf k (l .head) ifs (aftersOf k l) ∷ [])))
       go Static afters few-afters =
           let begun = lawOf Static (l .head) [] [] in
           then
-          (line-passes due (at w) staticKey (headText names (l .head)) (omega arith) (head-clean (l .head) (b .head))
-          (static-step lent due (at w) (headText names (l .head)) (l .head) static few (head-read names are distinct n (l .head) (b .head) held)))
-          (line-passes ifDue (at begun) ifKey (listText names ifs) (omega arith) (if-clean ifs (b .ifs)) (ifs-read begun))
+          (line-passes due at staticKey (headText names (l .head)) (omega arith) (head-clean (l .head) (b .head))
+          (static-step lent due at (headText names (l .head)) (l .head) static few (head-read names are distinct n (l .head) (b .head) held)))
+          (line-passes (ifDue begun) at ifKey (listText names ifs) (omega arith) (if-clean ifs (b .ifs)) (ifs-read begun))
           2 refl
       go Dynamic afters few-afters =
           let begun = lawOf Dynamic (l .head) [] [] in
           let half = lawOf Dynamic (l .head) ifs [] in
           then
           (then
-          (line-passes due (at w) dynamicKey (headText names (l .head)) (omega arith) (head-clean (l .head) (b .head))
-          (dynamic-step lent due (at w) (headText names (l .head)) (l .head) dynamic few (head-read names are distinct n (l .head) (b .head) held)))
-          (line-passes ifDue (at begun) ifKey (listText names ifs) (omega arith) (if-clean ifs (b .ifs)) (ifs-read begun))
+          (line-passes due at dynamicKey (headText names (l .head)) (omega arith) (head-clean (l .head) (b .head))
+          (dynamic-step lent due at (headText names (l .head)) (l .head) dynamic few (head-read names are distinct n (l .head) (b .head) held)))
+          (line-passes (ifDue begun) at ifKey (listText names ifs) (omega arith) (if-clean ifs (b .ifs)) (ifs-read begun))
           2 refl)
-          (line-passes afterDue (at half) afterKey (listText names (afterList l)) (omega arith) (list-lacks-newline names are (afterList l) afters)
-          (after-step lent (at half) (listText names (afterList l)) (afterList l)
+          (line-passes (afterDue half) at afterKey (listText names (afterList l)) (omega arith) (list-lacks-newline names are (afterList l) afters)
+          (after-step lent at half (listText names (afterList l)) (afterList l)
           (list-read names are distinct 0 (length names) 6 (omega arith) (afterList l) (codes-in (length names) (afterList l) afters) few-afters)))
           3 refl
 
-  laws-pass : (ls done : List Law) (w : Law) (due : Due) → allowed due staticKey ≡ true → allowed due dynamicKey ≡ true
+  laws-pass : (ls done : List Law) (due : Due) → allowed due staticKey ≡ true → allowed due dynamicKey ≡ true
       → length done + length ls ≤ min 64 lent → Each (Bounded n (length names)) ls → Each Tidy ls
-      → Passes lent (lawsLines ls) (lawsText names ls) due (draft T n names done w) (dueBehind due lawDue ls) (draft T n names (done ++ ls) (lastLaw w ls))
-  laws-pass [] done w due static dynamic few b tidy = rw (append-nil done) (nothing-passes due (draft T n names done w))
-  laws-pass (l ∷ ls) done w due static dynamic few b tidy =
-      let here = law-passes l done w due static dynamic (omega arith) (b .0) (tidy .0) in
-      let rest = laws-pass ls (done ++ (l ∷ [])) l lawDue refl refl (omega (arith, length-append done (l ∷ []))) (b .1) (tidy .1) in
+      → Passes lent (lawsLines ls) (lawsText names ls) due (draft T n names done) (dueBehind due lawDue ls) (draft T n names (done ++ ls))
+  laws-pass [] done due static dynamic few b tidy = rw (append-nil done) (nothing-passes due (draft T n names done))
+  laws-pass (l ∷ ls) done due static dynamic few b tidy =
+      let here = law-passes l done due static dynamic (omega arith) (b .0) (tidy .0) in
+      let rest = laws-pass ls (done ++ (l ∷ [])) lawDue refl refl (omega (arith, length-append done (l ∷ []))) (b .1) (tidy .1) in
       then here (rw (append-assoc done (l ∷ []) ls, same-due lawDue ls) at rest) (lawLines (l .kind) + lawsLines ls) refl
 
 longer : (done : List (List ℕ)) (x : List ℕ) → length (done ++ (x ∷ [])) ≡ suc (length done)
@@ -146,13 +145,13 @@ module _ (lent T : ℕ) (fluents actions : List (List ℕ)) (ls : List Law) (w :
       let (are-fluents, are-actions) = each-append (λ x. isName x ≡ true) fluents actions .0 (w .are-names) in
       let top = line-passes horizonDue blank horizonKey (horizonText T) (omega arith) (horizon-clean T)
       (horizon-step lent horizonDue blank T (w .horizon-from) (w .horizon-to) refl) in
-      let first = names-pass lent fluentKey (omega arith) fluentDue refl (λ done. draft T (length done) done [] noLaw) 24
-      (λ due done x may few name new. rw (longer done x) (fluent-step lent due (draft T (length done) done [] noLaw) x may few name new))
+      let first = names-pass lent fluentKey (omega arith) fluentDue refl (λ done. draft T (length done) done []) 24
+      (λ due done x may few name new. rw (longer done x) (fluent-step lent due (draft T (length done) done []) x may few name new))
       fluents [] firstFluentDue refl (omega (arith, w .few-fluents)) are-fluents (distinct-front fluents actions (w .distinct)) in
-      let second = names-pass lent actionKey (omega arith) actionDue refl (λ done. draft T n done [] noLaw) (n + 8)
-      (λ due done x may few name new. action-step lent due (draft T n done [] noLaw) x may few name new)
+      let second = names-pass lent actionKey (omega arith) actionDue refl (λ done. draft T n done []) (n + 8)
+      (λ due done x may few name new. action-step lent due (draft T n done []) x may few name new)
       actions fluents fluentDue refl (omega (arith, w .few-actions)) are-actions (w .distinct) in
-      let third = laws-pass lent T n names (w .are-names) (w .distinct) (omega (arith, length-append fluents actions)) ls [] noLaw dueAfterActions
+      let third = laws-pass lent T n names (w .are-names) (w .distinct) (omega (arith, length-append fluents actions)) ls [] dueAfterActions
       (may-behind fluentDue actionDue actions staticKey refl refl) (may-behind fluentDue actionDue actions dynamicKey refl refl)
       (omega (arith, w .few-laws, w .held-laws)) (written-laws lent T fluents actions ls w) (w .laws-tidy) in
       then (then (then top (rw (later-due firstFluentDue fluentDue fluents (w .some-fluent)) at first) (1 + n) refl) second (1 + n + length actions) refl) third _ refl

@@ -49,29 +49,29 @@ horizon-clean k = go (ltb k 10)
 
 module _ (lent : ℕ) (due : Due) (d : Draft) where
   pub horizon-step : (T : ℕ) → 1 ≤ T → T ≤ 30 → allowed due horizonKey ≡ true
-      → lineStep lent due d horizonKey (horizonText T) ≡ next firstFluentDue (draft T (d .fluents) (d .names) (d .laws) (d .law))
+      → lineStep lent due d horizonKey (horizonText T) ≡ next firstFluentDue (draft T (d .fluents) (d .names) (d .laws))
   unfolding lineStep
   horizon-step T one few may = rw may (ap (horizonLine d) (horizon-read T one few))
 
   pub fluent-step : (x : List ℕ) → allowed due fluentKey ≡ true → d .fluents < 24 → isName x ≡ true → declaredAt (d .names) x ≡ none
-      → lineStep lent due d fluentKey x ≡ next fluentDue (draft (d .horizon) (suc (d .fluents)) (d .names ++ (x ∷ [])) (d .laws) (d .law))
+      → lineStep lent due d fluentKey x ≡ next fluentDue (draft (d .horizon) (suc (d .fluents)) (d .names ++ (x ∷ [])) (d .laws))
   unfolding lineStep
   fluent-step x may few name new = rw (may, lt-ltb (d .fluents) 24 few, name, new)
 
   pub action-step : (x : List ℕ) → allowed due actionKey ≡ true → length (d .names) < d .fluents + 8 → isName x ≡ true → declaredAt (d .names) x ≡ none
-      → lineStep lent due d actionKey x ≡ next actionDue (draft (d .horizon) (d .fluents) (d .names ++ (x ∷ [])) (d .laws) (d .law))
+      → lineStep lent due d actionKey x ≡ next actionDue (draft (d .horizon) (d .fluents) (d .names ++ (x ∷ [])) (d .laws))
   unfolding lineStep
   action-step x may few name new = rw (may, lt-ltb (length (d .names)) (d .fluents + 8) few, name, new)
 
   pub static-step : (x : List ℕ) (h : Head) → allowed due staticKey ≡ true → length (d .laws) < min 64 lent
       → headOf (d .names) (d .fluents) x ≡ some h
-      → lineStep lent due d staticKey x ≡ next ifDue (draft (d .horizon) (d .fluents) (d .names) (d .laws) (lawOf Static h [] []))
+      → lineStep lent due d staticKey x ≡ next (ifDue (lawOf Static h [] [])) d
   unfolding lineStep
   static-step x h may few head = rw (may, lt-ltb (length (d .laws)) (min 64 lent) few) (ap (begun d Static) head)
 
   pub dynamic-step : (x : List ℕ) (h : Head) → allowed due dynamicKey ≡ true → length (d .laws) < min 64 lent
       → headOf (d .names) (d .fluents) x ≡ some h
-      → lineStep lent due d dynamicKey x ≡ next ifDue (draft (d .horizon) (d .fluents) (d .names) (d .laws) (lawOf Dynamic h [] []))
+      → lineStep lent due d dynamicKey x ≡ next (ifDue (lawOf Dynamic h [] [])) d
   unfolding lineStep
   dynamic-step x h may few head = rw (may, lt-ltb (length (d .laws)) (min 64 lent) few) (ap (begun d Dynamic) head)
 
@@ -79,15 +79,15 @@ module _ (lent : ℕ) (due : Due) (d : Draft) where
   unfolding lineStep
   end-step may = rw may
 
-pub if-step : (lent : ℕ) (d : Draft) (x cs : List ℕ) → listOf (d .names) 0 (d .fluents) 6 x ≡ codes cs
-    → lineStep lent ifDue d ifKey x ≡ ifLine d (codes cs)
+pub if-step : (lent : ℕ) (d : Draft) (l : Law) (x cs : List ℕ) → listOf (d .names) 0 (d .fluents) 6 x ≡ codes cs
+    → lineStep lent (ifDue l) d ifKey x ≡ ifLine d l (codes cs)
 unfolding lineStep
-if-step lent d x cs list = ap (ifLine d) list
+if-step lent d l x cs list = ap (ifLine d l) list
 
-pub after-step : (lent : ℕ) (d : Draft) (x cs : List ℕ) → listOf (d .names) 0 (length (d .names)) 6 x ≡ codes cs
-    → lineStep lent afterDue d afterKey x ≡ afterLine d (codes cs)
+pub after-step : (lent : ℕ) (d : Draft) (l : Law) (x cs : List ℕ) → listOf (d .names) 0 (length (d .names)) 6 x ≡ codes cs
+    → lineStep lent (afterDue l) d afterKey x ≡ afterLine d l (codes cs)
 unfolding lineStep
-after-step lent d x cs list = ap (afterLine d) list
+after-step lent d l x cs list = ap (afterLine d l) list
 
 -- the lines of a text, s of them, take the reader from one draft to another, whatever follows
 pub record Passes (lent s : ℕ) (text : List ℕ) (due : Due) (d : Draft) (due′ : Due) (d′ : Draft) : Type 0 where

@@ -95,5 +95,4 @@ recipeDraft =
       fluents = 2;
       names = recipeFluents ++ recipeActions;
       laws = recipeLaws;
-      law = lawOf Dynamic (Lit 3) (3 ∷ []) (3 ∷ []);
     }

@@ -14,7 +14,7 @@ use Rattle.description.specs.Acceptance.{lawFits}
 use Rattle.text.specs.Bytes.{same}
 use Rattle.text.specs.Names.{isName}
 use Rattle.description_reader.specs.LineSteps.{Draft}
-use Rattle.description.specs.Laws.{noLaw, lawOf}
+use Rattle.description.specs.Laws.{lawOf}
 
 abbrev pub AreNames : List (List ℕ) → Type 0
 AreNames xs = Each (λ x. isName x ≡ true) xs
@@ -58,13 +58,8 @@ lawsLines (l ∷ ls) = lawLines (l .kind) + lawsLines ls
 abbrev pub linesWritten : List (List ℕ) → List (List ℕ) → List Law → ℕ
 linesWritten fluents actions ls = 1 + length fluents + length actions + lawsLines ls + 1
 
-abbrev pub draft : ℕ → ℕ → List (List ℕ) → List Law → Law → Draft
-draft T fluents names laws law = record { horizon = T; fluents = fluents; names = names; laws = laws; law = law }
-
--- the law that was read last
-abbrev pub lastLaw : Law → List Law → Law
-lastLaw l [] = l
-lastLaw l (x ∷ xs) = lastLaw x xs
+abbrev pub draft : ℕ → ℕ → List (List ℕ) → List Law → Draft
+draft T fluents names laws = record { horizon = T; fluents = fluents; names = names; laws = laws }
 
 abbrev pub draftWritten : ℕ → List (List ℕ) → List (List ℕ) → List Law → Draft
-draftWritten T fluents actions ls = draft T (length fluents) (fluents ++ actions) ls (lastLaw noLaw ls)
+draftWritten T fluents actions ls = draft T (length fluents) (fluents ++ actions) ls

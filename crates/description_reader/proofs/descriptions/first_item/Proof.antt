@@ -12,7 +12,7 @@ add-result c = search needs
 
 returns : tie.Need-returns
 unfolding itemsFrom
-returns c = rw (le-ltb 0 (c .before .args .size) (omega arith))
+returns c = λ law. rw (le-ltb 0 (c .before .args .size) (omega arith))
 
 is-allowed-requires : tie.Need-is-allowed-requires
 is-allowed-requires c κs = search needs
@@ -24,19 +24,19 @@ returns-2 : tie.Need-returns-2
 unfolding itemsFrom
 returns-2 c =
     let d = c .before in
-    rw (lt-ltb 0 (d .before .before .args .size) (omega (arith, d .before .if1 .left)), ← d .is-allowed .ensures, not-true (d .is-allowed .result) (c .if2 .taken))
+    λ law. rw (lt-ltb 0 (d .before .before .args .size) (omega (arith, d .before .if1 .left)), ← d .is-allowed .ensures law, not-true (d .is-allowed .result) (c .if2 .taken))
 
 returns-3 : tie.Need-returns-3
 unfolding itemsFrom
 returns-3 c =
     let d = c .before .before in
-    rw (lt-ltb 0 (d .before .before .args .size) (omega (arith, d .before .if1 .left)), ← d .is-allowed .ensures, not-false (d .is-allowed .result) (c .before .if2 .left), eq-eqb _ _ (c .if3 .taken))
+    λ law. rw (lt-ltb 0 (d .before .before .args .size) (omega (arith, d .before .if1 .left)), ← d .is-allowed .ensures law, not-false (d .is-allowed .result) (c .before .if2 .left), eq-eqb _ _ (c .if3 .taken))
 
 returns-4 : tie.Need-returns-4
 unfolding itemsFrom
 returns-4 c =
     let d = c .before .before .before in
-    rw (lt-ltb 0 (d .before .before .args .size) (omega (arith, d .before .if1 .left)), ← d .is-allowed .ensures, not-false (d .is-allowed .result) (c .before .before .if2 .left), ne-eqb _ _ (c .before .if3 .left), eq-eqb _ _ (c .if4 .taken))
+    λ law. rw (lt-ltb 0 (d .before .before .args .size) (omega (arith, d .before .if1 .left)), ← d .is-allowed .ensures law, not-false (d .is-allowed .result) (c .before .before .if2 .left), ne-eqb _ _ (c .before .if3 .left), eq-eqb _ _ (c .if4 .taken))
 
 add-result-3 : tie.Need-add-result-3
 add-result-3 c = search needs
@@ -45,7 +45,7 @@ returns-5 : tie.Need-returns-5
 unfolding itemsFrom
 returns-5 c =
     let d = c .before .before .before in
-    rw (lt-ltb 0 (d .before .before .args .size) (omega (arith, d .before .if1 .left)), ← d .is-allowed .ensures, not-false (d .is-allowed .result) (c .before .before .if2 .left), ne-eqb _ _ (c .before .if3 .left), ne-eqb _ _ (c .if4 .left))
+    λ law. rw (lt-ltb 0 (d .before .before .args .size) (omega (arith, d .before .if1 .left)), ← d .is-allowed .ensures law, not-false (d .is-allowed .result) (c .before .before .if2 .left), ne-eqb _ _ (c .before .if3 .left), ne-eqb _ _ (c .if4 .left))
 
 pub first-item-spec : {M : Type 1} → statement M
 first-item-spec =

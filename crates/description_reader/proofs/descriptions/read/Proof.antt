@@ -4,7 +4,7 @@ use native.Mathlib.Omega.{arith}
 use mathlib.Core.Path.{_∙_}
 use borrow.Author.Tests.{lt-ltb}
 use Rattle.description_reader.specs.Descriptions.{described}
-use Rattle.description_reader.specs.Internal.{dueOf, Sound}
+use Rattle.description_reader.specs.Internal.{dueAt, Sound}
 use Rattle.description_reader.proofs.Walking.{outcome-refused, blank-sound}
 use borrow.Author.Needs.{needs}
 use Rattle.description_reader.proofs.descriptions.read.Statement.{statement}
@@ -13,7 +13,7 @@ use Rattle.description_reader.proofs.descriptions.read.Tie as tie
 begun-requires : tie.Need-begun-requires
 begun-requires c κs = search needs
 
-starts : (c : tie.After-begun) → Sound (dueOf (c .begun .result .due)) (c .begun .result .reading)
+starts : (c : tie.After-begun) → Sound (dueAt (c .begun .result)) (c .begun .result .reading)
 starts c = let a = c .before .before .before in rw (c .begun .ensures) (blank-sound (a .args .laws) (a .good .1 .0 .1 .0 .1))
 
 refused-requires : tie.Need-refused-requires

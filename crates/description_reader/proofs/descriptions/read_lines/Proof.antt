@@ -6,12 +6,13 @@ use mathlib.Core.Path.{_≡_, refl, sym, _∙_, ap}
 use mathlib.Core.List.{List, []}
 use Prim.Native.Nat.{ℕ, _+_, _-_, _≤_, _<_}
 use lib.ListN.{length, take, drop, length-take, length-drop}
+use Rattle.description.specs.Laws.{noLaw}
 use Rattle.text.specs.declared.lines.LineAt.{LineAt}
 use Rattle.description_reader.specs.declared.states.State.{State}
 use Rattle.text.specs.Lists as lists
 use Rattle.text.specs.Lists.{listFrom}
 use Rattle.description_reader.specs.Descriptions.{described}
-use Rattle.description_reader.specs.Internal.{dueOf, draftOf, Padded, Sound, Follows, stepOf, stepWith}
+use Rattle.description_reader.specs.Internal.{dueAt, draftOf, Padded, Sound, Follows, stepOf, stepWith}
 use Rattle.text.specs.Internal.{spelled, itemsAt}
 use Rattle.text.proofs.Spelling.{literal-small}
 use Rattle.text.proofs.Items.{next-later}
@@ -29,7 +30,7 @@ abbrev μ-loop : tie.MeasureT-loop
 
 abbrev Inv-lines : tie.InvT-lines
 Inv-lines text lent state₀ at₀ line₀ state at line =
-    (at ≤ length text) × (line ≤ at + 1) × Sound (dueOf (state .due)) (state .reading) × Follows (state₀ .reading .run .laws) (state .reading .run) × (leftAt text lent state at line ≡ leftAt text lent state₀ 0 1)
+    (at ≤ length text) × (line ≤ at + 1) × Sound (dueAt state) (state .reading) × Follows (state₀ .reading .run .laws) (state .reading .run) × (leftAt text lent state at line ≡ leftAt text lent state₀ 0 1)
 
 abbrev μ-lines : tie.MeasureT-lines
 μ-lines text lent state₀ at₀ line₀ state at line = length text - at
@@ -70,7 +71,7 @@ loop-holds : tie.Need-loop-holds Inv-loop μ-loop Inv-lines μ-lines
 loop-holds c =
     let l = c .before .before .before .before .before .before .line-at in (
       refl,
-      rw (c .first-item .ensures) (from-bound _ (l .result .key) _),
+      rw (c .first-item .ensures noLaw) (from-bound _ (l .result .key) _),
       rw (c .before .no-codes .ensures) (record { few = omega arith; padding = refl }),
       rw (c .before .no-codes .ensures),
     )
@@ -95,9 +96,9 @@ list-at h = take (line-at h .to - line-at h .from) (drop (line-at h .from) (text
 here : (h : tie.At-loop Inv-loop μ-loop Inv-lines μ-lines)
     → listFrom (spelled (text-at h) (state-at h .reading .names)) 0 (h .before .before .before .sort-end .result) 6 [] (itemsAt (list-at h) (h .before .first-item .result))
     ≡ listHere (text-at h) (state-at h) (line-at h)
-here h = list-here (text-at h) (state-at h) (line-at h) _ _ (h .before .before .before .sort-end .ensures) (h .before .first-item .ensures)
+here h = list-here (text-at h) (state-at h) (line-at h) _ _ (h .before .before .before .sort-end .ensures) (h .before .first-item .ensures (state-at h .law))
 
-sound : (h : tie.At-loop Inv-loop μ-loop Inv-lines μ-lines) → Sound (dueOf (state-at h .due)) (state-at h .reading)
+sound : (h : tie.At-loop Inv-loop μ-loop Inv-lines μ-lines) → Sound (dueAt (state-at h)) (state-at h .reading)
 sound h = h .before .before .before .before .before .before .before .before .lines .inv .2
 
 few : (h : tie.At-loop Inv-loop μ-loop Inv-lines μ-lines) → h .before .before .before .sort-end .result ≤ 32
@@ -143,17 +144,19 @@ stops-requires : tie.Need-stops-requires Inv-loop μ-loop Inv-lines μ-lines
 stops-requires c κs = tt
 
 add-line : tie.Need-add-line Inv-loop μ-loop Inv-lines μ-lines
-add-line c = omega arith
+add-line c =
+    let n = c .before .before .before .before .before .before .before .before .before .before .before .before in
+    omega (arith, n .lines .inv .0, n .lines .inv .1, n .before .before .before .pre)
 
 -- the line's step
 made : (c : tie.After-line-step Inv-loop μ-loop Inv-lines μ-lines) → let h = c .before .before in
     stepOf (text-at h) (c .line-step .result)
-    ≡ stepWith (lent-at h) (dueOf (state-at h .due)) (draftOf (text-at h) (state-at h .reading)) (line-at h .key) (list-at h) (lists.codes (take (h .loop .gathered .count) (h .loop .gathered .codes)))
+    ≡ stepWith (lent-at h) (dueAt (state-at h)) (draftOf (text-at h) (state-at h .reading)) (line-at h .key) (list-at h) (lists.codes (take (h .loop .gathered .count) (h .loop .gathered .codes)))
 made c =
     let h = c .before .before in
     let cs = lists.codes (take (h .loop .gathered .count) (h .loop .gathered .codes)) in
     c .line-step .ensures .0
-    ∙ ap (λ s. stepWith (lent-at h) (dueOf (s .due)) (draftOf (text-at h) (s .reading)) (line-at h .key) (list-at h) cs) (h .loop .inv .0)
+    ∙ ap (λ s. stepWith (lent-at h) (dueAt s) (draftOf (text-at h) (s .reading)) (line-at h .key) (list-at h) cs) (h .loop .inv .0)
 
 read-list : (c : tie.After-line-step Inv-loop μ-loop Inv-lines μ-lines) → let h = c .before .before in
     lists.codes (take (h .loop .gathered .count) (h .loop .gathered .codes)) ≡ listHere (text-at h) (state-at h) (line-at h)

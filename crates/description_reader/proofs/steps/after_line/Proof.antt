@@ -19,7 +19,7 @@ unfolding stepOf
 returns c =
     let a = c .before .before .before .before .before in
     let s = a .args .state .reading in (
-      λ text. ap (next lawDue) (c .with-law .ensures .0 text ∙ ap (whole (draftOf text s)) (law-after (a .args .list) (a .pre .2) (s .law))),
+      λ text. ap (next lawDue) (c .with-law .ensures .0 text ∙ ap (whole (draftOf text s)) (law-after (a .args .list) (a .pre .2) (a .args .state .law))),
       record { sound = pushed-sound s _ (a .pre .1) (a .pre .0) (c .with-law .ensures .1); follows = c .with-law .ensures .1 .follows },
     )
 

@@ -27,10 +27,10 @@ returns c =
 returns-2 : tie.Need-returns-2
 unfolding stepOf
 returns-2 c =
-    let h = c .before .before .before .before in
+    let h = c .before .before .before .before .before in
     let s = h .before .before .pre in (
-      λ text. rw (at-place (h .horizon-of .ensures) (c .before .before .t .given .1)),
-      record { sound = record { time = horizon-30 _ _ (at-place (h .horizon-of .ensures) (c .before .before .t .given .1)); few = s .few; declared = s .declared; actions = s .actions; room = sound-64 s; held = s .held }; follows = λ old f. f },
+      λ text. rw (at-place (h .horizon-of .ensures) (c .before .before .before .t .given .1)),
+      record { sound = record { time = horizon-30 _ _ (at-place (h .horizon-of .ensures) (c .before .before .before .t .given .1)); few = s .few; declared = s .declared; actions = s .actions; room = sound-64 s; held = s .held }; follows = λ old f. f },
     )
 
 pub horizon-line-spec : {M : Type 1} → statement M

@@ -5,7 +5,6 @@ use lib.ListN.{take}
 use Rattle.description.specs.declared.Kind.the-variants.{Static, Dynamic}
 use Rattle.description_reader.specs.LineSteps.{next, lawDue, afterDue, whole}
 use Rattle.description_reader.specs.Internal.{draftOf, stepOf}
-use Rattle.text.specs.Internal.{spelled}
 use Rattle.description_reader.proofs.Stepping.{law-if, if-static, if-dynamic, pushed-sound}
 use borrow.Author.Needs.{needs}
 use Rattle.description_reader.proofs.steps.if_line.Statement.{statement}
@@ -28,10 +27,11 @@ unfolding stepOf
 returns c =
     let a = c .before .before .before .before .before .before .before .before in
     let s = a .args .state .reading in
+    let w = a .args .state .law in
     let l = a .args .list in
     let e = c .before .enum-told .given .1 in (
-      λ text. ap (next lawDue) (c .with-law .ensures .0 text ∙ ap (whole (draftOf text s)) (law-if l (a .pre .2) (s .law) Static e))
-          ∙ if-static (draftOf text s) (take (l .count) (l .codes)) e,
+      λ text. ap (next lawDue) (c .with-law .ensures .0 text ∙ ap (whole (draftOf text s)) (law-if l (a .pre .2) w Static e))
+          ∙ if-static (draftOf text s) w (take (l .count) (l .codes)) e,
       record { sound = pushed-sound s _ (a .pre .1) (a .pre .0) (c .with-law .ensures .1); follows = c .with-law .ensures .1 .follows },
     )
 
@@ -40,12 +40,11 @@ unfolding stepOf
 returns-2 c =
     let a = c .before .before .before .before .before .before .before in
     let s = a .args .state .reading in
+    let w = a .args .state .law in
     let l = a .args .list in
     let h = a .pre .1 in
     let e = c .enum-told2 .given .1 in (
-      λ text. ap (λ w. next afterDue (record { horizon = s .horizon; fluents = s .fluents; names = spelled text (s .names); laws = take (s .run .count) (s .run .laws); law = w }))
-          (law-if l (a .pre .2) (s .law) Dynamic e)
-          ∙ if-dynamic (draftOf text s) (take (l .count) (l .codes)) e,
+      λ text. ap (λ v. next (afterDue v) (draftOf text s)) (law-if l (a .pre .2) w Dynamic e) ∙ if-dynamic (draftOf text s) w (take (l .count) (l .codes)) e,
       record { sound = record { time = h .time; few = h .few; declared = h .declared; actions = h .actions; room = a .pre .0; held = h .held }; follows = λ old f. f },
     )
 

@@ -67,7 +67,7 @@ add-reading c = search needs
 returns-3 : tie.Need-returns-3
 unfolding stepOf
 returns-3 c =
-    let w = c .before .before in
+    let w = c .before .before .before in
     let n = w .before .before in
     let a = n .before .before .before .before .before .before .before in
     let s = a .pre .2 in
@@ -80,7 +80,7 @@ returns-3 c =
 returns-4 : tie.Need-returns-4
 unfolding stepOf
 returns-4 c =
-    let w = c .before in
+    let w = c .before .before in
     let n = w .before .before in
     let a = n .before .before .before .before .before .before .before in
     let s = a .pre .2 in
