@@ -11,8 +11,8 @@ ghost use lib.ListN.{length};
 ghost use Rattle.translation.specs.Translated.{outcomeOf, outcome, tableAfter};
 ghost use Rattle.history.specs.Checks;
 ghost use Rattle.causal.specs.Readings;
-ghost use Rattle.text.specs.Descriptions.{described};
-ghost use Rattle.text.specs.Answers.{replyOf, replied, recordOf, lawsLeft};
+ghost use Rattle.description_reader.specs.Descriptions.{described};
+ghost use Rattle.description_reader.specs.Answers.{replyOf, replied, recordOf, lawsLeft};
 ghost use Rattle.lent_laws.specs.Promises.{PassesExactly, PathExactly};
 
 // What the description reader answers, and the run that it was lent.

@@ -2,17 +2,17 @@
 use causal::Reading;
 use description::Description;
 use description::Law;
+use description_reader::Answer;
+use description_reader::Described;
 use history::Checked;
-use text::Answer;
-use text::Described;
 use translation::Translated;
 ghost use mathlib.Core.Path.{_≡_};
 ghost use lib.ListN.{length};
 ghost use Rattle.translation.specs.Translated.{outcomeOf, outcome, tableAfter};
 ghost use Rattle.history.specs.Checks;
 ghost use Rattle.causal.specs.Readings;
-ghost use Rattle.text.specs.Descriptions.{described};
-ghost use Rattle.text.specs.Answers.{replyOf, replied, recordOf, lawsLeft};
+ghost use Rattle.description_reader.specs.Descriptions.{described};
+ghost use Rattle.description_reader.specs.Answers.{replyOf, replied, recordOf, lawsLeft};
 ghost use Rattle.lent_laws.specs.Promises.{PassesExactly, PathExactly};
 
 // What the description reader answers: a refusal or where the description ends, and the description's record, all 0 on a refusal.
@@ -36,7 +36,7 @@ fn count_of(d: Described) -> usize
     run.count
 }
 
-fn answered(d: Described) -> Read
+fn read_of(d: Described) -> Read
     ensures { λ r. ⌜ r .answer ≡ d .answer ⌝ }
     ensures { λ r. ⌜ r .description ≡ d .description ⌝ }
 {
@@ -54,9 +54,9 @@ pub fn read_description(text: &[u8], laws: &mut [Law]) -> Read
     ensures { λ r. ⌜ r .description ≡ recordOf (described (length (now (laws .entry))) (now (text .entry))) ⌝ }
     ensures { λ _. ⌜ now (laws .exit) ≡ lawsLeft (described (length (now (laws .entry))) (now (text .entry))) (now (laws .entry)) ⌝ }
 {
-    let end = text::read_description(text, law_runs::gather(laws), laws.len());
+    let end = description_reader::read_description(text, law_runs::gather(laws), laws.len());
     law_runs::scatter(laws, run_of(end), count_of(end));
-    answered(end)
+    read_of(end)
 }
 
 // Writes the translation of the laws that the description counts, of those lent.

@@ -41,8 +41,8 @@ use denote.Triple.Walked.{Stays, stay-dropped, walkOf, goes-dropped}
 use denote.Exit.{yes}
 use Rattle.description.specs.declared.Law.{Law}
 use Rattle.description.proofs.Law as T
-use Rattle.text.specs.Descriptions.{described}
-use Rattle.text.specs.Answers.{replyOf, replied, recordOf, lawsLeft}
+use Rattle.description_reader.specs.Descriptions.{described}
+use Rattle.description_reader.specs.Answers.{replyOf, replied, recordOf, lawsLeft}
 use Rattle.lent_laws.specs.declared.Read.{Read}
 use Rattle.held_laws.specs.declared.ReadRun.{ReadRun}
 use Rattle.lent_laws.proofs.Read as R
