@@ -2,7 +2,7 @@
 use answer_sets::Answer;
 use causal::Reading;
 use history::Checked;
-use text::HistoryAnswer;
+use history_reader::HistoryAnswer;
 use translation::Translated;
 ghost use mathlib.Core.Path.{_≡_};
 ghost use Prim.Native.Nat.{_<_};
@@ -10,8 +10,8 @@ ghost use Rattle.answer_sets.specs.Answers;
 ghost use Rattle.translation.specs.Translated.{outcomeOf};
 ghost use Rattle.history.specs.Checks;
 ghost use Rattle.causal.specs.Readings;
-ghost use Rattle.text.specs.Histories.{historyReplyOf};
-ghost use Rattle.huntyghai.specs.Codes.{coded, pair, answerCode, outcomeCode, checkedCode, readingCode, historyCode};
+ghost use Rattle.history_reader.specs.Histories.{historyReplyOf};
+ghost use Rattle.huntyghai.specs.Codes.{coded, pair, replyCode, verdictCode, findingCode, causalCode, writtenCode, readCode};
 
 // A code, and 256 times a value of up to 56 bits.
 pub(crate) fn number(code: u8, value: usize) -> u64
@@ -29,7 +29,7 @@ fn both(high: usize, low: usize) -> usize
 }
 
 pub(crate) fn of_answer(answer: Answer) -> u64
-    ensures { λ r. ⌜ r ≡ answerCode (Answers.replyOf answer) ⌝ }
+    ensures { λ r. ⌜ r ≡ replyCode verdictCode (Answers.replyOf answer) ⌝ }
 {
     match answer {
         Answer::Refused(k, place) => number(k, place),
@@ -41,7 +41,7 @@ pub(crate) fn of_answer(answer: Answer) -> u64
 }
 
 pub(crate) fn of_checked(checked: Checked) -> u64
-    ensures { λ r. ⌜ r ≡ checkedCode (Checks.replyOf checked) ⌝ }
+    ensures { λ r. ⌜ r ≡ replyCode findingCode (Checks.replyOf checked) ⌝ }
 {
     match checked {
         Checked::Refused(k, place) => number(k, place),
@@ -54,7 +54,7 @@ pub(crate) fn of_checked(checked: Checked) -> u64
 }
 
 pub(crate) fn of_reading(reading: Reading) -> u64
-    ensures { λ r. ⌜ r ≡ readingCode (Readings.replyOf reading) ⌝ }
+    ensures { λ r. ⌜ r ≡ replyCode causalCode (Readings.replyOf reading) ⌝ }
 {
     match reading {
         Reading::Refused(k, place) => number(k, place),
@@ -65,7 +65,7 @@ pub(crate) fn of_reading(reading: Reading) -> u64
 }
 
 pub(crate) fn of_translated(translated: Translated) -> u64
-    ensures { λ r. ⌜ r ≡ outcomeCode (outcomeOf translated) ⌝ }
+    ensures { λ r. ⌜ r ≡ replyCode writtenCode (outcomeOf translated) ⌝ }
 {
     match translated {
         Translated::Refused(k, place) => number(k, place),
@@ -76,7 +76,7 @@ pub(crate) fn of_translated(translated: Translated) -> u64
 }
 
 pub(crate) fn of_history(said: HistoryAnswer) -> u64
-    ensures { λ r. ⌜ r ≡ historyCode (historyReplyOf said) ⌝ }
+    ensures { λ r. ⌜ r ≡ replyCode readCode (historyReplyOf said) ⌝ }
 {
     match said {
         HistoryAnswer::Refused(k, place) => number(k, place),

@@ -98,7 +98,12 @@ fn put_reading(out: &mut [u8], at: usize, input: &[u8], reading: Reading) -> usi
         Reading::Uncaused(time, fluent) => {
             let said = put_line(out, at, b"causal", b"uncaused");
             let timed = put_number(out, said, b"time", time);
-            put_line(out, timed, b"item", text::fluent_name(input, fluent))
+            put_line(
+                out,
+                timed,
+                b"item",
+                description_reader::fluent_name(input, fluent),
+            )
         }
         Reading::Path => put_bare(out, at, b"path"),
     }

@@ -5,7 +5,7 @@ mod writing;
 use answers::Counts;
 use description::Description;
 use description::Law;
-use text::HistoryAnswer;
+use history_reader::HistoryAnswer;
 use translation::Translated;
 ghost use mathlib.Core.Path.{_≡_};
 ghost use Prim.Native.Nat.{_+_, _≤_, min};

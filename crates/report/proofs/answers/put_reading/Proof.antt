@@ -1,6 +1,6 @@
 -- `put_reading` meets its contract. Three lines in each case.
 -- Assumes nothing.
-use Rattle.text.specs.Shown.{shownFluent}
+use Rattle.description_reader.specs.Shown.{shownFluent}
 use Rattle.report.specs.Writing.{outputLine, decimal, causalWord, timeWord, itemWord, contradictedWord, uncausedWord}
 use Rattle.report.proofs.Stores.{three}
 use borrow.Author.Needs.{needs}
