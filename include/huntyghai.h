@@ -10,19 +10,20 @@
  * An answer is one number: its code is the answer modulo 256, and its value is the answer divided by 256.
  *
  *   code    meaning                                    value
- *   1..12   a refusal by that number                   its place, modulo 2^56
- *   16      passes                                     0
- *   17      clash                                      the atom
- *   18      broken                                     the rule
- *   19      unfounded                                  the literal code
- *   20      missing                                    the atom
- *   32      path                                       0
- *   33      contradicted                               65536 * time + law
- *   34      uncaused                                   65536 * time + fluent
- *   48      written                                    atoms + 65536 * rules + 65536 * 65536 * words
- *   64      read                                       0
+ *   1..63   a refusal by that number (today 1 to 12)   its place, modulo 2^56
+ *   64      passes                                     0
+ *   65      clash                                      the atom
+ *   66      broken                                     the rule
+ *   67      unfounded                                  the literal code
+ *   68      missing                                    the atom
+ *   80      path                                       0
+ *   81      contradicted                               65536 * time + law
+ *   82      uncaused                                   65536 * time + fluent
+ *   96      written                                    atoms + 65536 * rules + 65536 * 65536 * words
+ *   112     read                                       0
  *
- * After a refusal all lent memory is as it was.
+ * So an answer is a refusal exactly if its code is below 64. After a refusal all lent memory is as it was; only
+ * huntyghai_report, which gives no such answer, writes its output after a refusal too, for the output says it.
  */
 #ifndef HUNTYGHAI_H
 #define HUNTYGHAI_H
@@ -39,24 +40,25 @@ extern "C" {
 size_t huntyghai_report(const uint8_t *input, size_t input_length, uint8_t *out, size_t out_length);
 
 /* The engine: is the set of literals that the values hold an answer set of the table's rules? One value an atom: 0 none,
- * 1 true, 2 false, 3 both. Codes 10, 11, 12, 16, 17, 18, 19. */
+ * 1 true, 2 false, 3 both. Codes 10, 11, 12, 64 to 67. */
 uint64_t huntyghai_check_set(const uint8_t *values, size_t values_length, const uint16_t *table, size_t table_length);
 
-/* Translates the description at the text's start; what stands behind its end line is not read. Codes 1 to 6, 9, 48. On
- * success the table's first words are the rules. */
+/* Translates the description at the text's start. What stands behind its end line is not read, but counts for the text's
+ * length: a text over 65,535 bytes is refused by 1. Codes 1 to 6, 9, 96. On success the table's first words are the
+ * rules. */
 uint64_t huntyghai_translate(const uint8_t *text, size_t text_length, uint16_t *table, size_t table_length);
 
-/* Reads a history's text, which begins behind the description's end line, into one value an atom. Codes 1 to 7, 10, 64;
+/* Reads a history's text, which begins behind the description's end line, into one value an atom. Codes 1 to 7, 10, 112;
  * the description's own refusal comes first. Lines are counted within the text that is refused. */
 uint64_t huntyghai_read_history(const uint8_t *description, size_t description_length, const uint8_t *history,
                                 size_t history_length, uint8_t *values, size_t values_length);
 
-/* The history check on the description at the text's start. Codes 1 to 6, 9 to 11, 16 to 20. After every verdict the
- * table's first words are the description's rules. */
+/* The history check on the description at the text's start, which is read as by huntyghai_translate. Codes 1 to 6, 9 to
+ * 11, 64 to 68. After every verdict the table's first words are the description's rules. */
 uint64_t huntyghai_check_history(const uint8_t *text, size_t text_length, const uint8_t *values, size_t values_length,
                                  uint16_t *table, size_t table_length);
 
-/* The causal reading of a whole input, a description and its history. Codes 1 to 7, 11, 32, 33, 34; lines are counted
+/* The causal reading of a whole input, a description and its history. Codes 1 to 7, 11, 80, 81, 82; lines are counted
  * over the whole input. A history that leaves an atom without exactly one value is refused by 11. */
 uint64_t huntyghai_causal_reading(const uint8_t *input, size_t input_length);
 

@@ -18,7 +18,7 @@ use Rattle.answer_sets.specs.Literals.{Lits}
 use Rattle.answer_sets.specs.Rules.{Rule, lit, falsum}
 use Rattle.answer_sets.specs.Verdicts.{applies, round, headIs}
 use Rattle.answer_sets.specs.Words.{ruleSize, ruleAt, ruleFits, headFits, partsFit, headOf, rulesOf, badRuleIn, badRule}
-use Rattle.answer_sets.specs.Parts.{Sound, marked, derives}
+use Rattle.answer_sets.specs.Internal.{Sound, marked, derives}
 use Rattle.answer_sets.proofs.Stores.{getD-set}
 use Rattle.answer_sets.proofs.Decoding.{rulesOf-nil, rulesOf-cons, badRuleFrom, badRuleFrom-cons, badRuleFrom-nil, badRule-from, ruleFits-iff}
 

@@ -10,11 +10,12 @@ use native.Mathlib.Omega.{arith}
 use borrow.Author.Tests.{lt-ltb, le-ltb}
 use lib.ListN.{length}
 use Rattle.search.specs.Search.{first, range}
+use Rattle.search.specs.Replies.{refused, answered}
 use Rattle.answer_sets.specs.Literals.{Lits, setOf}
 use Rattle.answer_sets.specs.Rules.{Rule}
 use Rattle.answer_sets.specs.Verdicts.{Verdict, clash, broken, unfounded, passes, round, rounds, bothValues, isBroken, isUnfounded, verdict}
 use Rattle.answer_sets.specs.Words.{rulesOf, badRule}
-use Rattle.answer_sets.specs.Answers.{Reply, refused, judged, badValue, answer}
+use Rattle.answer_sets.specs.Answers.{badValue, answer}
 use Rattle.answer_sets.proofs.Least.{HeadsBelow, rounds-stay, rounds-settle}
 
 -- Y is the set X, as marks
@@ -52,7 +53,7 @@ module _ (vs ws : List ℕ) where
       unfolding answer
       says-12 e = rw (le-ltb 1024 (length vs) few, none₁, e)
 
-      pub says-verdict : badRule (length vs) ws ≡ none → judged (verdict (length vs) (rulesOf ws) (setOf vs)) ≡ answer vs ws
+      pub says-verdict : badRule (length vs) ws ≡ none → answered (verdict (length vs) (rulesOf ws) (setOf vs)) ≡ answer vs ws
       unfolding answer
       says-verdict e = rw (le-ltb 1024 (length vs) few, none₁, e)
 

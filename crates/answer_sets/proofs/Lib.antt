@@ -1,8 +1,6 @@
 -- The engine's theory, and the laws that its functions' proofs cite.
 pub mod Sets
-pub mod Complements
 pub mod Least
-pub mod Supported
 pub mod FirstFault
 pub mod Passes
 pub mod Decoding

@@ -11,7 +11,7 @@ use lib.Dec.{eqb, ltb}
 use lib.ListN.{length, getD, set, replicate, List·getD-eq-default}
 use lib.Seq.{getD-set-same, getD-set-other}
 use Rattle.answer_sets.specs.Literals.{Lits, setOf, holdsTrue, holdsFalse}
-use Rattle.answer_sets.specs.Parts.{marked, is}
+use Rattle.answer_sets.specs.Internal.{marked, is}
 use Rattle.search.proofs.Tests.{true-or-false}
 
 pub clear-marks : (n c : ℕ) → marked (replicate n false) c ≡ false

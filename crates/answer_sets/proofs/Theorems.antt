@@ -1,30 +1,28 @@
 -- What the engine's answers mean, on value bytes and words: it passes exactly the answer sets, its rounds reach the least
--- closed set, each fault is the lowest of its kind; and the answer sets of program (11).
+-- closed set, and each fault is the lowest of its kind.
 -- Assumes nothing.
 use mathlib.Core.Path.{_≡_, refl}
 use mathlib.Core.Logic.{_↔_, ⊎-elim, Iff·trans}
 use mathlib.Core.Bool.{Bool, true, false, cond}
-use mathlib.Core.List.{List, [], _∷_, _++_, map, List·Memᴰ, List·Memᴰ·head, List·Memᴰ·tail, List·Memᴰ·not-nil, List·Memᴰ·cases-cons, Memᴰ·append-left, Memᴰ·append-right, Memᴰ·map}
+use mathlib.Core.List.{List}
 use mathlib.Core.Option.{none}
-use Prim.Native.Nat.{ℕ, zero, suc, _*_, _/_, _%_, _≤_, _<_}
+use Prim.Native.Nat.{ℕ, _*_, _/_, _%_, _<_}
 use native.Mathlib.Omega.{arith}
 use lib.Dec.{eqb, ltb}
 use lib.ListN.{length, getD, List·getD-eq-default}
-use borrow.Author.Tests.{ltb-true, ltb-false, le-ltb}
-use Rattle.search.specs.Search.{Each, Lowest, Nowhere}
+use borrow.Author.Tests.{ltb-true, ltb-false}
+use Rattle.search.specs.Search.{Lowest, Nowhere}
+use Rattle.search.specs.Replies.{answered}
 use Rattle.answer_sets.specs.Literals.{setOf, holdsTrue, holdsFalse}
 use Rattle.answer_sets.specs.AnswerSets.{reduct, AnswerSet, literalHeaded, IsLeastClosed}
 use Rattle.answer_sets.specs.Verdicts.{Verdict, clash, broken, unfounded, passes, rounds, verdict}
 use Rattle.answer_sets.specs.Words.{rulesOf, badRule}
-use Rattle.answer_sets.specs.Answers.{Reply, refused, judged, tooManyValues, badValue, answer}
-use Rattle.answer_sets.specs.Examples.{program11, answerSets11, allValues, isPass, passing}
-use Rattle.search.proofs.Tests.{true-or-false, not-both, none-first, each-at, each-map}
-use Rattle.search.proofs.Lists.{chosen-iff, tuples-all}
+use Rattle.answer_sets.specs.Answers.{tooManyValues, badValue, answer}
+use Rattle.search.proofs.Tests.{true-or-false, not-both}
 use Rattle.answer_sets.proofs.Least.{HeadsBelow, Below, least-closed}
 use Rattle.answer_sets.proofs.FirstFault.{Clashing, BrokenAt, Unfounded, clash-iff, broken-iff, unfounded-iff}
 use Rattle.answer_sets.proofs.Passes.{passes-iff}
 use Rattle.answer_sets.proofs.Decoding.{accepted-below, codes-heads}
-use Rattle.answer_sets.proofs.Examples.{program11-passing}
 
 -- no refusal holds
 abbrev pub Accepted : List ℕ → List ℕ → Type 0
@@ -42,28 +40,28 @@ setOf-below vs c e = ⊎-elim (λ t. omega (arith, ltb-true (c / 2) (length vs) 
     past f = let out : getD vs (c / 2) 0 ≡ 0 = List·getD-eq-default vs 0 (ltb-false (c / 2) (length vs) f) in
         absurd (not-both (rw out at e) (neither (eqb (c % 2) 0)))
 
-pub accepted-judged : (vs ws : List ℕ) → Accepted vs ws → answer vs ws ≡ judged (verdict (length vs) (rulesOf ws) (setOf vs))
+pub accepted-judged : (vs ws : List ℕ) → Accepted vs ws → answer vs ws ≡ answered (verdict (length vs) (rulesOf ws) (setOf vs))
 unfolding answer
 accepted-judged vs ws h = rw (h .0, h .1, h .2)
 
 module _ (vs ws : List ℕ) (accepted : Accepted vs ws) where
-  judges-iff : (v : Verdict) → answer vs ws ≡ judged v ↔ verdict (length vs) (rulesOf ws) (setOf vs) ≡ v
+  judges-iff : (v : Verdict) → answer vs ws ≡ answered v ↔ verdict (length vs) (rulesOf ws) (setOf vs) ≡ v
   judges-iff v = let e = accepted-judged vs ws accepted in (λ a. cc, λ a. cc)
 
   heads-below : HeadsBelow (2 * length vs) (rulesOf ws)
   heads-below = codes-heads (2 * length vs) (rulesOf ws) (accepted-below (length vs) ws (accepted .2))
 
-  pub passes-exactly : answer vs ws ≡ judged passes ↔ AnswerSet (rulesOf ws) (setOf vs)
+  pub passes-exactly : answer vs ws ≡ answered passes ↔ AnswerSet (rulesOf ws) (setOf vs)
   passes-exactly = Iff·trans (judges-iff passes) (passes-iff (length vs) (rulesOf ws) (setOf vs) heads-below (setOf-below vs))
 
-  pub clash-exactly : (a : ℕ) → answer vs ws ≡ judged (clash a) ↔ Lowest (Clashing (setOf vs)) (length vs) a
+  pub clash-exactly : (a : ℕ) → answer vs ws ≡ answered (clash a) ↔ Lowest (Clashing (setOf vs)) (length vs) a
   clash-exactly a = Iff·trans (judges-iff (clash a)) (clash-iff (length vs) (rulesOf ws) (setOf vs) a)
 
-  pub broken-exactly : (r : ℕ) → answer vs ws ≡ judged (broken r)
+  pub broken-exactly : (r : ℕ) → answer vs ws ≡ answered (broken r)
       ↔ (Nowhere (Clashing (setOf vs)) (length vs) × Lowest (BrokenAt (rulesOf ws) (setOf vs)) (length (rulesOf ws)) r)
   broken-exactly r = Iff·trans (judges-iff (broken r)) (broken-iff (length vs) (rulesOf ws) (setOf vs) r)
 
-  pub unfounded-exactly : (c : ℕ) → answer vs ws ≡ judged (unfounded c)
+  pub unfounded-exactly : (c : ℕ) → answer vs ws ≡ answered (unfounded c)
       ↔ (Nowhere (Clashing (setOf vs)) (length vs)
       × Nowhere (BrokenAt (rulesOf ws) (setOf vs)) (length (rulesOf ws))
       × Lowest (Unfounded (rulesOf ws) (setOf vs)) (2 * length vs) c)
@@ -71,39 +69,3 @@ module _ (vs ws : List ℕ) (accepted : Accepted vs ws) where
 
   pub rounds-least : IsLeastClosed (literalHeaded (reduct (rulesOf ws) (setOf vs))) (rounds (2 * length vs) (rulesOf ws) (setOf vs))
   rounds-least = least-closed (length vs) (rulesOf ws) (setOf vs) heads-below
-
--- Program (11)
-
--- a value byte is one of four
-byte : (v : ℕ) → v ≤ 3 → List·Memᴰ v (0 ∷ 1 ∷ 2 ∷ 3 ∷ [])
-byte zero b = List·Memᴰ·head refl
-byte (suc zero) b = List·Memᴰ·tail (List·Memᴰ·head refl)
-byte (suc (suc zero)) b = List·Memᴰ·tail (List·Memᴰ·tail (List·Memᴰ·head refl))
-byte (suc (suc (suc zero))) b = List·Memᴰ·tail (List·Memᴰ·tail (List·Memᴰ·tail (List·Memᴰ·head refl)))
-byte (suc (suc (suc (suc v)))) b = absurd (omega arith)
-
-isPass-iff : (r : Reply) → isPass r ≡ true ↔ r ≡ judged passes
-isPass-iff (judged passes) = (λ e. refl, λ e. refl)
-isPass-iff (judged (clash a)) = (λ e. cc, λ e. cc)
-isPass-iff (judged (broken r)) = (λ e. cc, λ e. cc)
-isPass-iff (judged (unfounded c)) = (λ e. cc, λ e. cc)
-isPass-iff (refused k p) = (λ e. cc, λ e. cc)
-
-accepted11 : (vs : List ℕ) → length vs ≡ 3 → Each (λ v. v ≤ 3) vs → Accepted vs program11
-unfolding badRule
-accepted11 vs e h = (
-  rw e refl,
-  none-first (ltb 3) 0 0 vs (λ i b. le-ltb 3 (getD vs i 0) (each-at (λ v. v ≤ 3) 0 vs .0 h i b)),
-  rw e refl,
-)
-
-pub program11-answer-sets : (vs : List ℕ) → length vs ≡ 3 → Each (λ v. v ≤ 3) vs
-    → AnswerSet (rulesOf program11) (setOf vs) ↔ List·Memᴰ vs answerSets11
-program11-answer-sets vs e h =
-    (λ a. rw program11-passing at (listed .1 (tuples-all _ 3 vs e (each-map byte vs h), pass .1 a)), λ m. pass .0 (listed .0 (rw program11-passing m) .1))
-  where
-    listed : List·Memᴰ vs (passing program11 (allValues 3)) ↔ (List·Memᴰ vs (allValues 3) × (isPass (answer vs program11) ≡ true))
-    listed = chosen-iff (λ us. isPass (answer us program11)) (allValues 3) vs
-
-    pass : isPass (answer vs program11) ≡ true ↔ AnswerSet (rulesOf program11) (setOf vs)
-    pass = Iff·trans (isPass-iff (answer vs program11)) (passes-exactly vs program11 (accepted11 vs e h))

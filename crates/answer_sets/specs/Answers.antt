@@ -7,28 +7,20 @@ use Prim.Native.Nat.{ℕ}
 use lib.Dec.{ltb}
 use lib.ListN.{length}
 use Rattle.search.specs.Search.{first}
+use Rattle.search.specs.Replies.{Reply, refused, answered, orRefuse}
 use Rattle.answer_sets.specs.Literals.{setOf}
 use Rattle.answer_sets.specs.Verdicts.{Verdict, clash, broken, unfounded, passes, verdict}
 use Rattle.answer_sets.specs.Words.{rulesOf, badRule}
 use Rattle.answer_sets.specs.declared.Answer.{Answer}
 use Rattle.answer_sets.specs.declared.Answer.the-variants.{Refused, Clash, Broken, Unfounded, Passes}
 
--- a refusal's number and place, or a verdict
-pub data Reply : Type 0 where
-  refused : ℕ → ℕ → Reply
-  judged : Verdict → Reply
-
 -- the number and the values that each case of the code's answer stands for
-abbrev pub replyOf : Answer → Reply
+abbrev pub replyOf : Answer → Reply Verdict
 replyOf (Refused number place) = refused number place
-replyOf (Clash atom) = judged (clash atom)
-replyOf (Broken rule) = judged (broken rule)
-replyOf (Unfounded code) = judged (unfounded code)
-replyOf Passes = judged passes
-
-abbrev pub orRefuse : Option ℕ → ℕ → Reply → Reply
-orRefuse (some place) number next = refused number place
-orRefuse none number next = next
+replyOf (Clash atom) = answered (clash atom)
+replyOf (Broken rule) = answered (broken rule)
+replyOf (Unfounded code) = answered (unfounded code)
+replyOf Passes = answered passes
 
 -- refusal 10: over 1,024 values
 abbrev pub tooManyValues : List ℕ → Option ℕ
@@ -38,9 +30,9 @@ tooManyValues vs = cond (ltb 1024 (length vs)) (some (length vs)) none
 abbrev pub badValue : List ℕ → Option ℕ
 badValue vs = first (ltb 3) 0 vs
 
-unfoldable pub answer : List ℕ → List ℕ → Reply
+unfoldable pub answer : List ℕ → List ℕ → Reply Verdict
 answer vs ws =
     orRefuse (tooManyValues vs) 10
     (orRefuse (badValue vs) 11
     (orRefuse (badRule (length vs) ws) 12
-    (judged (verdict (length vs) (rulesOf ws) (setOf vs)))))
+    (answered (verdict (length vs) (rulesOf ws) (setOf vs)))))

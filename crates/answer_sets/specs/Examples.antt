@@ -1,66 +1,38 @@
--- Worked examples of the engine: 01's M6 to M10, and program (11) of 000, section 6.
+-- Worked examples of the engine: 01's M6 to M10, and one or two of each other answer.
 -- Assumes nothing.
 use mathlib.Core.Path.{_≡_}
-use mathlib.Core.Bool.{Bool, true, false}
-use mathlib.Core.List.{List, [], _∷_, _++_}
+use mathlib.Core.List.{List, [], _∷_}
 use Prim.Native.Nat.{ℕ}
-use Rattle.search.specs.Search.{Each, chosen, tuples}
+use Rattle.search.specs.Search.{Each}
+use Rattle.search.specs.Replies.{Reply, refused, answered}
 use Rattle.answer_sets.specs.Verdicts.{Verdict, clash, broken, unfounded, passes}
-use Rattle.answer_sets.specs.Answers.{Reply, refused, judged, answer}
+use Rattle.answer_sets.specs.Answers.{answer}
 
 -- values and a table, and what the engine answers
 pub record Example : Type 0 where
   pub values : List ℕ
   pub table : List ℕ
-  pub reply : Reply
+  pub reply : Reply Verdict
 
 abbrev pub Holds : Example → Type 0
 Holds e = answer (e .values) (e .table) ≡ e .reply
 
--- p ← not ¬p; ¬p ← not p; q ← not ¬q; ¬q ← not q; r ← q, where p, q, r are atoms 0, 1, 2
-abbrev pub program11 : List ℕ
-program11 =
-    (0 ∷ 1 ∷ 0 ∷ 1 ∷ [])
-    ++ (1 ∷ 1 ∷ 0 ∷ 0 ∷ [])
-    ++ (2 ∷ 1 ∷ 0 ∷ 3 ∷ [])
-    ++ (3 ∷ 1 ∷ 0 ∷ 2 ∷ [])
-    ++ (4 ∷ 0 ∷ 1 ∷ 2 ∷ [])
-
--- {p, q, r}, {p, ¬q}, {¬p, q, r}, {¬p, ¬q}
-abbrev pub answerSets11 : List (List ℕ)
-answerSets11 = (1 ∷ 1 ∷ 1 ∷ []) ∷ (1 ∷ 2 ∷ 0 ∷ []) ∷ (2 ∷ 1 ∷ 1 ∷ []) ∷ (2 ∷ 2 ∷ 0 ∷ []) ∷ []
-
--- every list of n value bytes: every set of literals over n atoms
-abbrev pub allValues : ℕ → List (List ℕ)
-allValues n = tuples (0 ∷ 1 ∷ 2 ∷ 3 ∷ []) n
-
-abbrev pub isPass : Reply → Bool
-isPass (judged passes) = true
-isPass (judged (clash a)) = false
-isPass (judged (broken r)) = false
-isPass (judged (unfounded c)) = false
-isPass (refused k p) = false
-
--- the lists of value bytes that pass a table
-abbrev pub passing : List ℕ → List (List ℕ) → List (List ℕ)
-passing ws vss = chosen (λ vs. isPass (answer vs ws)) vss
-
 abbrev pub examples : List Example
 examples =
     -- M6: no rules, value 0
-    record { values = 0 ∷ []; table = []; reply = judged passes }
+    record { values = 0 ∷ []; table = []; reply = answered passes }
     -- M7: rule 0,0,1,0, value 1
-    ∷ record { values = 1 ∷ []; table = 0 ∷ 0 ∷ 1 ∷ 0 ∷ []; reply = judged (unfounded 0) }
+    ∷ record { values = 1 ∷ []; table = 0 ∷ 0 ∷ 1 ∷ 0 ∷ []; reply = answered (unfounded 0) }
     -- M8: the same rule, value 0
-    ∷ record { values = 0 ∷ []; table = 0 ∷ 0 ∷ 1 ∷ 0 ∷ []; reply = judged passes }
+    ∷ record { values = 0 ∷ []; table = 0 ∷ 0 ∷ 1 ∷ 0 ∷ []; reply = answered passes }
     -- M9: rule 0,1,0,0, value 0
-    ∷ record { values = 0 ∷ []; table = 0 ∷ 1 ∷ 0 ∷ 0 ∷ []; reply = judged (broken 0) }
+    ∷ record { values = 0 ∷ []; table = 0 ∷ 1 ∷ 0 ∷ 0 ∷ []; reply = answered (broken 0) }
     -- M10: the same rule, value 1
-    ∷ record { values = 1 ∷ []; table = 0 ∷ 1 ∷ 0 ∷ 0 ∷ []; reply = judged (unfounded 0) }
+    ∷ record { values = 1 ∷ []; table = 0 ∷ 1 ∷ 0 ∷ 0 ∷ []; reply = answered (unfounded 0) }
     -- both values
-    ∷ record { values = 1 ∷ 3 ∷ 3 ∷ []; table = []; reply = judged (clash 1) }
+    ∷ record { values = 1 ∷ 3 ∷ 3 ∷ []; table = []; reply = answered (clash 1) }
     -- a constraint whose plain part is in the set
-    ∷ record { values = 1 ∷ []; table = 0 ∷ 0 ∷ 0 ∷ 65535 ∷ 0 ∷ 1 ∷ 0 ∷ []; reply = judged (broken 1) }
+    ∷ record { values = 1 ∷ []; table = 0 ∷ 0 ∷ 0 ∷ 65535 ∷ 0 ∷ 1 ∷ 0 ∷ []; reply = answered (broken 1) }
     -- refusals: a byte over 3; a code of 2 × atoms; a rule that runs past the end
     ∷ record { values = 1 ∷ 4 ∷ 5 ∷ []; table = 9 ∷ []; reply = refused 11 1 }
     ∷ record { values = 0 ∷ []; table = 0 ∷ 0 ∷ 0 ∷ 1 ∷ 0 ∷ 1 ∷ 2 ∷ []; reply = refused 12 3 }

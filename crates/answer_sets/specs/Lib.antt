@@ -6,4 +6,4 @@ pub mod Verdicts
 pub mod Words
 pub mod Answers
 pub mod Examples
-pub mod Parts
+pub mod Internal

@@ -2,17 +2,13 @@
 -- Assumes nothing.
 use mathlib.Core.Bool.{Bool, true, false, cond, _||_}
 use mathlib.Core.List.{List}
-use Prim.Native.Nat.{ℕ, _+_, _-_, _/_, _%_}
+use Prim.Native.Nat.{ℕ, _/_, _%_}
 use lib.Dec.{eqb}
 use lib.ListN.{getD}
 
 -- any set of literals, as a test on codes: c is in Y where Y c is true
 abbrev pub Lits : Type 0
 Lits = ℕ → Bool
-
--- the literal complementary to c
-unfoldable pub complement : ℕ → ℕ
-complement c = cond (eqb (c % 2) 0) (c + 1) (c - 1)
 
 -- an atom's value byte: 0 none, 1 true, 2 false, 3 both
 unfoldable pub holdsTrue : ℕ → Bool

@@ -3,10 +3,10 @@
 -- Assumes nothing.
 use mathlib.Core.Bool.{Bool, true, false, not, _&&_, _||_}
 use mathlib.Core.List.{List, [], _∷_}
-use mathlib.Core.Option.{Option, none, some}
 use Prim.Native.Nat.{ℕ, zero, suc, _+_, _*_}
 use lib.Dec.{eqb}
 use Rattle.search.specs.Search.{all, first, range}
+use Rattle.search.specs.Replies.{orElse}
 use Rattle.answer_sets.specs.Literals.{Lits}
 use Rattle.answer_sets.specs.Rules.{Head, lit, falsum, Rule}
 
@@ -46,11 +46,6 @@ isBroken X r = applies X X r && not (headIn (r .head) X)
 
 abbrev pub isUnfounded : Lits → Lits → ℕ → Bool
 isUnfounded X L c = X c && not (L c)
-
--- the fault at the place found, else what comes next
-abbrev pub orElse : Option ℕ → (ℕ → Verdict) → Verdict → Verdict
-orElse (some k) fault next = fault k
-orElse none fault next = next
 
 unfoldable pub verdict : ℕ → List Rule → Lits → Verdict
 verdict n Π X =

@@ -7,7 +7,7 @@ ghost use Prim.Native.Nat.{_*_, _≤_};
 ghost use Rattle.answer_sets.specs.Verdicts.{rounds};
 ghost use Rattle.answer_sets.specs.Verdicts.{round as roundOf};
 ghost use Rattle.answer_sets.specs.Words.{rulesOf, badRule};
-ghost use Rattle.answer_sets.specs.Parts.{marked, Sound};
+ghost use Rattle.answer_sets.specs.Internal.{marked, Sound};
 
 // The literal heads whose bodies hold: negated parts are looked up in x, plain parts in the old marks.
 fn round(table: &[u16], x: [bool; 2048], old: [bool; 2048]) -> [bool; 2048]

@@ -10,11 +10,12 @@ ghost use mathlib.Core.Option.{none};
 ghost use Prim.Native.Nat.{_*_, _≤_};
 ghost use lib.ListN.{length};
 ghost use Rattle.search.specs.Search.{first, placeOf, range};
+ghost use Rattle.search.specs.Replies.{answered};
 ghost use Rattle.answer_sets.specs.Literals.{setOf};
 ghost use Rattle.answer_sets.specs.Verdicts.{verdict, bothValues, isBroken, isUnfounded};
 ghost use Rattle.answer_sets.specs.Words.{rulesOf, badRule, ruleAt, ruleSize};
-ghost use Rattle.answer_sets.specs.Answers.{replyOf, judged};
-ghost use Rattle.answer_sets.specs.Parts.{marked, Sound};
+ghost use Rattle.answer_sets.specs.Answers.{replyOf};
+ghost use Rattle.answer_sets.specs.Internal.{marked, Sound};
 
 // Whether an atom has both values.
 fn both_values(x: &[bool], atom: usize) -> bool
@@ -95,7 +96,7 @@ fn first_unfounded(x: &[bool], least: &[bool], codes: usize) -> Found
 pub(crate) fn judge(values: &[u8], table: &[u16]) -> Answer
     requires { ⌜ length (now values) ≤ 1024 ⌝ }
     requires { ⌜ badRule (length (now values)) (now table) ≡ none ⌝ }
-    ensures { λ r. ⌜ replyOf r ≡ judged (verdict (length (now (values .entry))) (rulesOf (now (table .entry))) (setOf (now (values .entry)))) ⌝ }
+    ensures { λ r. ⌜ replyOf r ≡ answered (verdict (length (now (values .entry))) (rulesOf (now (table .entry))) (setOf (now (values .entry)))) ⌝ }
 {
     let atoms = values.len();
     let x = values::marks_of(values);

@@ -4,7 +4,7 @@ ghost use mathlib.Core.Logic.{_↔_};
 ghost use lib.ListN.{getD, replicate};
 ghost use mathlib.Core.Bool.{Bool, true, false};
 ghost use Rattle.search.specs.Search.{all};
-ghost use Rattle.answer_sets.specs.Parts.{marked, is};
+ghost use Rattle.answer_sets.specs.Internal.{marked, is};
 
 // 2,048 marks, all clear.
 pub(crate) fn clear() -> [bool; 2048]

@@ -8,7 +8,7 @@ ghost use lib.ListN.{length, getD};
 ghost use Rattle.search.specs.Search.{all, placeOf};
 ghost use Rattle.answer_sets.specs.Verdicts.{applies, headIn};
 ghost use Rattle.answer_sets.specs.Words.{ruleSize, ruleAt, ruleFits, headFits, headOf, partsFit, badRule};
-ghost use Rattle.answer_sets.specs.Parts.{marked, derives};
+ghost use Rattle.answer_sets.specs.Internal.{marked, derives};
 
 // How many words the rule at the front takes.
 pub(crate) fn rule_size(rest: &[u16]) -> usize

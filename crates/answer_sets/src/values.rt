@@ -7,7 +7,7 @@ ghost use lib.ListN.{length};
 ghost use Rattle.search.specs.Search.{placeOf};
 ghost use Rattle.answer_sets.specs.Answers.{badValue};
 ghost use Rattle.answer_sets.specs.Literals.{setOf, holdsTrue, holdsFalse};
-ghost use Rattle.answer_sets.specs.Parts.{marked};
+ghost use Rattle.answer_sets.specs.Internal.{marked};
 
 // The lowest index of a byte over 3.
 pub fn bad_value(values: &[u8]) -> Found

@@ -10,25 +10,31 @@ use native.Mathlib.Omega.{arith}
 use types.Run.{OneOf}
 use denote.Enum.Declared.{tagOf}
 use Rattle.search.specs.Search.{first, range}
+use Rattle.search.specs.Replies.{answered, orElse}
 use Rattle.description.specs.declared.Law.{Law}
 use Rattle.description.specs.Meaning.{Interpretation, stateAt, actionAt}
-use Rattle.causal.specs.Verdicts.{Causal, contradicted, uncaused, path, orElse, stepVerdict, stepsFrom}
+use Rattle.causal.specs.Verdicts.{Causal, contradicted, uncaused, path, stepVerdict, stepsFrom}
 use Rattle.causal.specs.declared.Reading.{Reading}
 use Rattle.causal.specs.declared.Reading.the-variants.{Refused, Contradicted, Uncaused, Path}
-use Rattle.causal.specs.Readings.{Reply, refused, judged, replyOf}
-use Rattle.causal.specs.Parts.{firstFault}
+use Rattle.causal.specs.Readings.{replyOf}
 use Rattle.causal.proofs.Reading.{the-type}
 
+-- a verdict's fault, else what the next one says
+abbrev firstFault : Causal → Causal → Causal
+firstFault (contradicted time law) next = contradicted time law
+firstFault (uncaused time fluent) next = uncaused time fluent
+firstFault path next = next
+
 -- a verdict that is a fault
-pub kept : (r : Reading) → OneOf (0 ∷ 1 ∷ 2 ∷ []) (tagOf the-type r) → (x y : Causal) → replyOf r ≡ judged x → replyOf r ≡ judged (firstFault x y)
+pub kept : (r : Reading) → OneOf (0 ∷ 1 ∷ 2 ∷ []) (tagOf the-type r) → (x y : Causal) → replyOf r ≡ answered x → replyOf r ≡ answered (firstFault x y)
 kept (Refused number place) h x y e = let z : _≡_ {A = ℕ} 0 1 = cc in absurd (omega arith)
 kept (Contradicted time law) h x y e = let is : contradicted time law ≡ x = cc in rw (← is)
 kept (Uncaused time fluent) h x y e = let is : uncaused time fluent ≡ x = cc in rw (← is)
 kept Path h x y e = absurd (⊎-elim (λ z. omega arith) (⊎-elim (λ z. omega arith) (λ z. omega arith)) h)
 
 -- the verdict path
-pub explained : (r : Reading) → r ≡ Path → (x : Causal) → replyOf r ≡ judged x → path ≡ x
-explained r told x e = let q : judged path ≡ judged x = rw told at e in cc
+pub explained : (r : Reading) → r ≡ Path → (x : Causal) → replyOf r ≡ answered x → path ≡ x
+explained r told x e = let q : answered path ≡ answered x = rw told at e in cc
 
 -- a step is explained, or its fault comes before all later ones
 pub then-step : (n : ℕ) (ls : List Law) (s a s′ : Interpretation) (time : ℕ) (next : Causal)
@@ -56,10 +62,10 @@ module _ (n m : ℕ) (ls : List Law) (vs : List ℕ) (t T : ℕ) where
 
   module _ {R : Causal} where
     pub steps-stop : (r : Reading) → t < T → stepsFrom n m ls vs t (T - t) ≡ R → OneOf (0 ∷ 1 ∷ 2 ∷ []) (tagOf the-type r)
-        → replyOf r ≡ judged here → replyOf r ≡ judged R
-    steps-stop r h inv fault e = kept r fault here _ e ∙ ap judged (sym (steps-cons h) ∙ inv)
+        → replyOf r ≡ answered here → replyOf r ≡ answered R
+    steps-stop r h inv fault e = kept r fault here _ e ∙ ap answered (sym (steps-cons h) ∙ inv)
 
-    pub steps-go : (r : Reading) → t < T → stepsFrom n m ls vs t (T - t) ≡ R → r ≡ Path → replyOf r ≡ judged here
+    pub steps-go : (r : Reading) → t < T → stepsFrom n m ls vs t (T - t) ≡ R → r ≡ Path → replyOf r ≡ answered here
         → stepsFrom n m ls vs (t + 1) (T - (t + 1)) ≡ R
     steps-go r h inv told e =
         let rest = stepsFrom n m ls vs (suc t) (T - suc t) in

@@ -17,8 +17,8 @@ use Rattle.description.specs.declared.Law.{Law}
 use Rattle.description.specs.Atoms.{atomCount}
 use Rattle.description.specs.Laws.{isStatic, ifList}
 use Rattle.description.specs.Meaning.{Interpretation, holds, together, stateAt, actionAt}
-use Rattle.causal.specs.Verdicts.{Causal, path, appliesAtStart, contradicts, stepVerdict}
-use Rattle.causal.specs.Parts.{read, applies}
+use Rattle.causal.specs.Verdicts.{read, Causal, path, appliesAtStart, contradicts, stepVerdict}
+use Rattle.causal.specs.Internal.{applies}
 
 -- with no fluents before it, a state alone
 pub alone : (s : Interpretation) → together 0 s s ≡ s

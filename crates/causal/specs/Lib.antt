@@ -1,4 +1,4 @@
 -- What the causal reading answers. Read in this order.
 pub mod Verdicts
 pub mod Readings
-pub mod Parts
+pub mod Internal

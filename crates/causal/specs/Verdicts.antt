@@ -3,10 +3,11 @@
 -- Assumes nothing.
 use mathlib.Core.Bool.{Bool, true, false, not, cond, _&&_, _||_}
 use mathlib.Core.List.{List, [], _∷_}
-use mathlib.Core.Option.{Option, none, some}
 use Prim.Native.Nat.{ℕ, zero, suc, _+_, _*_}
 use lib.Dec.{eqb}
+use lib.ListN.{getD}
 use Rattle.search.specs.Search.{first, range}
+use Rattle.search.specs.Replies.{orElse}
 use Rattle.description.specs.declared.Head.{Head}
 use Rattle.description.specs.declared.Head.the-variants.{Lit, False}
 use Rattle.description.specs.declared.Kind.{Kind}
@@ -19,6 +20,10 @@ pub data Causal : Type 0 where
   contradicted : ℕ → ℕ → Causal
   uncaused : ℕ → ℕ → Causal
   path : Causal
+
+-- part of a set's values as an interpretation: value 1 is true, any other false, and so is one past the end
+abbrev pub read : List ℕ → Interpretation
+read vs i = eqb (getD vs i 0) 1
 
 -- a static law applies in a state if its if-list holds there
 abbrev pub appliesAtStart : Interpretation → Law → Bool
@@ -40,11 +45,6 @@ headIs False d = false
 abbrev pub someCause : (Law → Bool) → ℕ → List Law → Bool
 someCause applies c [] = false
 someCause applies c (l ∷ ls) = (applies l && headIs (l .head) c) || someCause applies c ls
-
--- the fault at the place found, else what comes next
-abbrev pub orElse : Option ℕ → (ℕ → Causal) → Causal → Causal
-orElse (some k) fault next = fault k
-orElse none fault next = next
 
 -- a law applies while its head does not hold in s′
 abbrev pub contradicts : (Law → Bool) → Interpretation → Law → Bool

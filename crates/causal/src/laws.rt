@@ -8,8 +8,8 @@ ghost use mathlib.Core.Path.{_≡_};
 ghost use mathlib.Core.Bool.{cond, _&&_};
 ghost use Prim.Native.Nat.{_+_, _*_};
 ghost use Rattle.description.specs.Meaning.{satisfiesHead};
-ghost use Rattle.causal.specs.Verdicts.{headIs, contradicts, appliesInStep};
-ghost use Rattle.causal.specs.Parts.{read, applies};
+ghost use Rattle.causal.specs.Verdicts.{read, headIs, contradicts, appliesInStep};
+ghost use Rattle.causal.specs.Internal.{applies};
 
 // Whether the head holds in a state; false never does.
 pub(crate) fn head_holds(head: Head, state: &[u8]) -> bool

@@ -10,12 +10,12 @@ use search::Found;
 ghost use mathlib.Core.Path.{_≡_};
 ghost use Prim.Native.Nat.{suc, _+_, _*_, _≤_, _<_};
 ghost use lib.ListN.{length, take};
+ghost use Rattle.search.specs.Replies.{answered};
 ghost use Rattle.description.specs.Laws.{lawsOf};
 ghost use Rattle.description.specs.Atoms.{atomCount};
 ghost use Rattle.description.specs.Meaning.{stateAt, actionAt};
-ghost use Rattle.causal.specs.Verdicts.{path, stepVerdict, stepsFrom, causalVerdict};
-ghost use Rattle.causal.specs.Parts.{read};
-ghost use Rattle.causal.specs.Readings.{replyOf, judged, reading};
+ghost use Rattle.causal.specs.Verdicts.{read, path, stepVerdict, stepsFrom, causalVerdict};
+ghost use Rattle.causal.specs.Readings.{replyOf, reading};
 
 // A refusal's number and place, or the verdict with its time and the law or the fluent that it names.
 pub enum Reading {
@@ -36,7 +36,7 @@ pub fn step_fault(
     new: &[u8],
     time: usize,
 ) -> Reading
-    ensures { λ r. ⌜ replyOf r ≡ judged (stepVerdict n (take count laws)
+    ensures { λ r. ⌜ replyOf r ≡ answered (stepVerdict n (take count laws)
         (read (now (old .entry))) (read (now (done .entry))) (read (now (new .entry))) time path) ⌝ }
 {
     let contradicting = searches::first_contradiction(laws, count, false, n, old, done, new);
@@ -54,7 +54,7 @@ pub fn step_fault(
 // each of which runs on to the end.
 fn step_at(laws: [Law; 64], count: usize, n: usize, m: usize, values: &[u8], t: usize) -> Reading
     requires { ⌜ (t < 30) × (t * (n + m) + n + m ≤ length (now values)) ⌝ }
-    ensures { λ r. ⌜ replyOf r ≡ judged (stepVerdict n (take count laws)
+    ensures { λ r. ⌜ replyOf r ≡ answered (stepVerdict n (take count laws)
         (stateAt n m (now (values .entry)) t) (actionAt n m (now (values .entry)) t) (stateAt n m (now (values .entry)) (suc t))
         (suc t) path) ⌝ }
 {
@@ -70,7 +70,7 @@ fn step_at(laws: [Law; 64], count: usize, n: usize, m: usize, values: &[u8], t: 
 // Each step in turn; the first fault decides.
 fn steps(d: Description, laws: [Law; 64], values: &[u8]) -> Reading
     requires { ⌜ (d .horizon ≤ 30) × (length (now values) ≡ atomCount (d .fluents) (d .actions) (d .horizon)) ⌝ }
-    ensures { λ r. ⌜ replyOf r ≡ judged
+    ensures { λ r. ⌜ replyOf r ≡ answered
         (stepsFrom (d .fluents) (d .actions) (lawsOf d laws) (now (values .entry)) 0 (d .horizon)) ⌝ }
 {
     let n = d.fluents;
@@ -92,7 +92,7 @@ fn steps(d: Description, laws: [Law; 64], values: &[u8]) -> Reading
 // The verdict on an accepted description and one value for each atom: the first state, to which no step leads, then each step.
 fn verdict(d: Description, laws: [Law; 64], values: &[u8]) -> Reading
     requires { ⌜ (d .horizon ≤ 30) × (length (now values) ≡ atomCount (d .fluents) (d .actions) (d .horizon)) ⌝ }
-    ensures { λ r. ⌜ replyOf r ≡ judged
+    ensures { λ r. ⌜ replyOf r ≡ answered
         (causalVerdict (d .fluents) (d .actions) (d .horizon) (lawsOf d laws) (now (values .entry))) ⌝ }
 {
     let count = d.laws;

@@ -6,7 +6,7 @@ ghost use Prim.Native.Nat.{_+_, _*_, _%_};
 ghost use lib.Dec.{eqb};
 ghost use lib.ListN.{take};
 ghost use Rattle.description.specs.Meaning.{satisfies, holds, together};
-ghost use Rattle.causal.specs.Parts.{read};
+ghost use Rattle.causal.specs.Verdicts.{read};
 
 // Whether the literal of a code holds where its fluent or action has this value.
 pub(crate) fn literal_holds(code: usize, value: bool) -> bool

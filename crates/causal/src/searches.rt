@@ -7,8 +7,8 @@ ghost use mathlib.Core.Path.{_≡_};
 ghost use mathlib.Core.Bool.{not};
 ghost use lib.ListN.{take};
 ghost use Rattle.search.specs.Search.{first, range, placeOf};
-ghost use Rattle.causal.specs.Verdicts.{literalIn, someCause, contradicts, appliesInStep};
-ghost use Rattle.causal.specs.Parts.{read, applies};
+ghost use Rattle.causal.specs.Verdicts.{read, literalIn, someCause, contradicts, appliesInStep};
+ghost use Rattle.causal.specs.Internal.{applies};
 
 // The lowest law that contradicts the new state of a step, or the first state, of the first count laws.
 pub(crate) fn first_contradiction(

@@ -5,7 +5,7 @@ ghost use mathlib.Core.Bool.{_||_};
 ghost use Prim.Native.Nat.{min};
 ghost use lib.Dec.{eqb};
 ghost use Rattle.search.specs.Search.{first, placeOf};
-ghost use Rattle.causal.specs.Parts.{read};
+ghost use Rattle.causal.specs.Verdicts.{read};
 ghost use Rattle.causal.specs.Readings.{notOneValue};
 
 pub(crate) fn wide(x: u8) -> usize

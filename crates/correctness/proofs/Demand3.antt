@@ -12,11 +12,12 @@ use borrow.Author.Tests.{eq-eqb, ne-eqb, le-ltb}
 use lib.Dec.{eqb, ltb}
 use lib.ListN.{length}
 use Rattle.search.specs.Search.{Each, first}
+use Rattle.search.specs.Replies.{Reply, refused, answered}
 use Rattle.search.proofs.Tests.{each-map}
 use Rattle.search.proofs.Lists.{none-iff}
 use Rattle.answer_sets.specs.Literals.{setOf}
 use Rattle.answer_sets.specs.AnswerSets.{AnswerSet}
-use Rattle.answer_sets.specs.Verdicts.{passes}
+use Rattle.answer_sets.specs.Verdicts.{Verdict, passes}
 use Rattle.answer_sets.specs.Words.{rulesOf}
 use Rattle.answer_sets.specs.Answers as engine
 use Rattle.answer_sets.proofs.Decoding.{rules-words, codes-coded}
@@ -27,11 +28,11 @@ use Rattle.description.specs.Laws.{lawsOf}
 use Rattle.description.specs.Atoms.{atomCount}
 use Rattle.description.specs.Acceptance.{badRecord, badHorizon}
 use Rattle.description.proofs.Laws.{accepted-law}
-use Rattle.translation.specs.Translated.{Outcome, written, rulesFor, tableFor, outcome}
-use Rattle.translation.proofs.Bounds.{codes-below}
+use Rattle.translation.specs.Translated.{written, rulesFor, tableFor, outcome}
 use Rattle.translation.proofs.Outcomes.{accepted-written, accepted-short}
+use Rattle.translation_bounds.proofs.Bounds.{codes-below}
+use Rattle.translation_bounds.proofs.Tables.{few-atoms, table-accepted}
 use Rattle.history.specs.Checks as history
-use Rattle.history.proofs.Judging.{few-atoms, table-accepted, engine-judges}
 use Rattle.causal.specs.Verdicts.{path, causalVerdict}
 use Rattle.causal.specs.Readings as causal
 use Rattle.correctness.specs.Demand3.{OneValue, PathOf, Demand3}
@@ -51,7 +52,7 @@ one-value v o = ⊎-elim (λ (e : v ≡ 1). rw e refl) (λ (e : v ≡ 2). rw e r
 module _ (d : Description) (ls : List Law) (lent : ℕ) (vs : List ℕ) (taken : badRecord d ls lent ≡ none) (horizon : badHorizon (d .horizon) ≡ none)
     (size : length vs ≡ atomCount (d .fluents) (d .actions) (d .horizon)) (one : Each OneValue vs) where
   -- with room for exactly the words needed
-  exact : outcome d ls lent (length (tableFor d ls)) ≡ written (atomCount (d .fluents) (d .actions) (d .horizon)) (length (rulesFor d ls)) (length (tableFor d ls))
+  exact : outcome d ls lent (length (tableFor d ls)) ≡ answered (written (atomCount (d .fluents) (d .actions) (d .horizon)) (length (rulesFor d ls)) (length (tableFor d ls)))
   exact = accepted-written d ls lent (length (tableFor d ls)) taken horizon (omega arith)
 
   bytes : first (ltb 3) 0 vs ≡ none
@@ -73,7 +74,7 @@ module _ (d : Description) (ls : List Law) (lent : ℕ) (vs : List ℕ) (taken :
   by-answer-set : AnswerSet (rulesFor d ls) (setOf vs) ↔ PathOf d ls vs
   by-answer-set = answer-set-iff-path (d .fluents) (d .actions) (d .horizon) (lawsOf d ls) vs (accepted-law d ls lent taken) size one
 
-  by-engine : engine.answer vs (tableFor d ls) ≡ engine.judged passes ↔ PathOf d ls vs
+  by-engine : engine.answer vs (tableFor d ls) ≡ answered passes ↔ PathOf d ls vs
   by-engine = Iff·trans (rw decoded at (passes-exactly vs (tableFor d ls) accepted)) by-answer-set
 
   -- the history check adds nothing to the engine's verdict where every value is 1 or 2
@@ -82,18 +83,18 @@ module _ (d : Description) (ls : List Law) (lent : ℕ) (vs : List ℕ) (taken :
   checked-engine room enough =
       rw (accepted-written d ls lent room taken horizon enough, eq-eqb (length vs) _ size, bytes, none-iff (eqb 0) 0 vs .1 (each-map not-zero vs one))
 
-  by-history : (room : ℕ) → length (tableFor d ls) ≤ room → history.checked d ls lent vs room ≡ history.judged passes ↔ PathOf d ls vs
+  by-history : (room : ℕ) → length (tableFor d ls) ≤ room → history.checked d ls lent vs room ≡ answered (history.judged passes) ↔ PathOf d ls vs
   by-history room enough = Iff·trans (rw (checked-engine room enough) (same (engine.answer vs (tableFor d ls)))) by-engine
     where
-      same : (r : engine.Reply) → history.ofEngine r ≡ history.judged passes ↔ r ≡ engine.judged passes
-      same (engine.refused k p) = (λ e. cc, λ e. cc)
-      same (engine.judged v) = (λ e. cc, λ e. cc)
+      same : (r : Reply Verdict) → history.ofEngine r ≡ answered (history.judged passes) ↔ r ≡ answered passes
+      same (refused k p) = (λ e. cc, λ e. cc)
+      same (answered v) = (λ e. cc, λ e. cc)
 
-  read-verdict : causal.reading d ls lent vs ≡ causal.judged (causalVerdict (d .fluents) (d .actions) (d .horizon) (lawsOf d ls) vs)
+  read-verdict : causal.reading d ls lent vs ≡ answered (causalVerdict (d .fluents) (d .actions) (d .horizon) (lawsOf d ls) vs)
   unfolding causal.reading
   read-verdict = rw (taken, horizon, eq-eqb (length vs) _ size, none-iff causal.notOneValue 0 vs .1 (each-map one-value vs one))
 
-  by-causal : causal.reading d ls lent vs ≡ causal.judged path ↔ PathOf d ls vs
+  by-causal : causal.reading d ls lent vs ≡ answered path ↔ PathOf d ls vs
   by-causal = Iff·trans (λ e. let v = read-verdict in cc, λ e. let v = read-verdict in cc) (causal-iff (d .fluents) (d .actions) (d .horizon) (lawsOf d ls) vs)
 
   pub demand-3 : Demand3 d ls lent vs

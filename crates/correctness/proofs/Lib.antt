@@ -1,8 +1,7 @@
 -- The theorems that need several layers.
+pub mod Supported
 pub mod Explained
 pub mod Reading
 pub mod Values
 pub mod Translated
 pub mod Demand3
-pub mod Worked
-pub mod Transitions

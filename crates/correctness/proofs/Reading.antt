@@ -17,7 +17,8 @@ use Rattle.description.specs.declared.Kind.the-variants.{Static, Dynamic}
 use Rattle.description.specs.declared.Law.{Law}
 use Rattle.description.specs.Laws.{isStatic, ifList, afterList}
 use Rattle.description.specs.Meaning.{Interpretation, holds, satisfiesHead, together, Explained, SatisfiesStatic, State, stateAt, actionAt, Path}
-use Rattle.causal.specs.Verdicts.{Causal, contradicted, uncaused, path, appliesAtStart, appliesInStep, literalIn, someCause, orElse, contradicts, stepVerdict, stepsFrom, causalVerdict}
+use Rattle.search.specs.Replies.{orElse}
+use Rattle.causal.specs.Verdicts.{Causal, contradicted, uncaused, path, appliesAtStart, appliesInStep, literalIn, someCause, contradicts, stepVerdict, stepsFrom, causalVerdict}
 use Rattle.causal.proofs.CausedHeads.{Heads}
 use Rattle.correctness.proofs.Explained.{caused-iff, explained-iff}
 

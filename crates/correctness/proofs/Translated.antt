@@ -19,9 +19,9 @@ use Rattle.answer_sets.specs.Rules.{Head, lit, falsum, Rule}
 use Rattle.answer_sets.specs.AnswerSets.{reduct, HeadIn, Closed, Consistent, AnswerSet}
 use Rattle.answer_sets.specs.Verdicts.{applies, headIn, round}
 use Rattle.answer_sets.specs.Verdicts.{headIs as ruleHeadIs}
-use Rattle.answer_sets.proofs.Complements.{complement-even}
+use Rattle.translation_bounds.proofs.Complements.{complement-even}
 use Rattle.answer_sets.proofs.Least.{LiteralIn, reduct-closed, round-iff}
-use Rattle.answer_sets.proofs.Supported.{Supported, LowerParts, Tight, round-cases, tight-answer-set-iff}
+use Rattle.correctness.proofs.Supported.{Supported, LowerParts, Tight, round-cases, tight-answer-set-iff}
 use Rattle.answer_sets.proofs.Theorems.{setOf-below}
 use Rattle.description.specs.declared.Head as described
 use Rattle.description.specs.declared.Head.the-variants.{Lit, False}
@@ -35,7 +35,7 @@ use Rattle.description.specs.Meaning.{Interpretation, satisfies, holds, satisfi
 use Rattle.search.proofs.Parity.{even-or-odd}
 use Rattle.description.proofs.Fits.{CodesBelow, HeadBelow, AfterBelow, Fits, law-fits}
 use Rattle.translation.specs.Rules.{atTime, headAt, literalsAt, staticRule, translation}
-use Rattle.translation.proofs.RuleByRule.{stepRule, AtStart, AtChoice, EachRule, each-rule}
+use Rattle.translation_bounds.proofs.RuleByRule.{stepRule, AtStart, AtChoice, EachRule, each-rule}
 use Rattle.causal.specs.Verdicts.{appliesAtStart, literalIn, headIs, someCause}
 use Rattle.causal.proofs.CausedHeads.{cause-heads, heads-cause}
 use Rattle.correctness.proofs.Explained.{satisfied-literal, literal-holds, literal-below}

@@ -14,17 +14,16 @@ use borrow.Author.Tests.{ltb-false}
 use Rattle.search.specs.Search.{Each, all}
 use Rattle.search.proofs.Tests.{true-or-false, each-map, each-at}
 use Rattle.search.proofs.Lists.{all-mapped}
-use Rattle.answer_sets.specs.Literals.{complement, holdsTrue, holdsFalse, setOf}
-use Rattle.answer_sets.proofs.Complements.{complement-even, complement-odd}
+use Rattle.answer_sets.specs.Literals.{holdsTrue, holdsFalse, setOf}
+use Rattle.translation_bounds.proofs.Complements.{complement-even, complement-odd, complement-below}
 use Rattle.description.specs.Atoms.{atomCount}
 use Rattle.description.specs.Meaning.{Interpretation, satisfies, holds, together, stateAt, actionAt}
 use Rattle.correctness.specs.Demand3.{OneValue}
 use Rattle.search.proofs.Parity.{by-parity}
 use Rattle.description.proofs.Literals.{satisfies-even, satisfies-odd}
 use Rattle.description.proofs.Fits.{CodesBelow}
-use Rattle.translation.specs.Rules.{atTime, complementsAt, literalsAt}
+use Rattle.translation.specs.Rules.{complement, atTime, complementsAt, literalsAt}
 
--- true or false
 -- the atoms with value true
 abbrev pub truth : List ℕ → Interpretation
 truth vs a = eqb (getD vs a 0) 1
@@ -39,10 +38,6 @@ satisfies-complement I = by-parity (λ c. satisfies I (complement c) ≡ not (sa
 
     odd : (a : ℕ) → satisfies I (complement (2 * a + 1)) ≡ not (satisfies I (2 * a + 1))
     odd a = ap (satisfies I) (complement-odd a) ∙ satisfies-even I a ∙ sym (ap not (satisfies-odd I a) ∙ Bool·not-not (I a))
-
-complement-below : (c k : ℕ) → c < 2 * k → complement c < 2 * k
-complement-below c k =
-    by-parity (λ d. d < 2 * k → complement d < 2 * k) (λ a b. omega (arith, complement-even a)) (λ a b. omega (arith, complement-odd a)) c
 
 -- a literal at time t is a literal of the interpretation that reads the atoms from there on
 satisfies-later : (I : Interpretation) (N t c : ℕ) → satisfies I (atTime N t c) ≡ satisfies (λ f. I (t * N + f)) c
@@ -86,7 +81,7 @@ module _ (n m T : ℕ) (vs : List ℕ) (size : length vs ≡ atomCount n m T) (o
   -- a set holds the complement of a literal exactly where it lacks the literal
   pub complement-in : (c : ℕ) → c < 2 * length vs → setOf vs (complement c) ≡ not (setOf vs c)
   complement-in c b =
-      setOf-satisfies vs one (complement c) (complement-below c (length vs) b)
+      setOf-satisfies vs one (complement c) (complement-below (length vs) c b)
       ∙ satisfies-complement (truth vs) c
       ∙ ap not (sym (setOf-satisfies vs one c b))
 

@@ -7,6 +7,7 @@ use mathlib.Core.Logic.{_↔_, _⊎_}
 use mathlib.Core.List.{List}
 use Prim.Native.Nat.{ℕ, _≤_, _<_}
 use lib.ListN.{length}
+use Rattle.search.specs.Replies.{refused, answered}
 use Rattle.answer_sets.specs.Literals.{setOf}
 use Rattle.answer_sets.specs.AnswerSets.{AnswerSet}
 use Rattle.answer_sets.specs.Verdicts.{passes}
@@ -31,8 +32,8 @@ PathOf d ls vs = Path (d .fluents) (d .actions) (d .horizon) (lawsOf d ls) vs
 pub record Demand3 (d : Description) (ls : List Law) (lent : ℕ) (vs : List ℕ) : Type 0 where
   -- 000, Proposition 1
   pub answer-set : AnswerSet (rulesFor d ls) (setOf vs) ↔ PathOf d ls vs
-  pub engine-passes : engine.answer vs (tableFor d ls) ≡ engine.judged passes ↔ PathOf d ls vs
+  pub engine-passes : engine.answer vs (tableFor d ls) ≡ answered passes ↔ PathOf d ls vs
   -- for every table that is long enough; else the refusal is 9
-  pub history-passes : (room : ℕ) → length (tableFor d ls) ≤ room → history.checked d ls lent vs room ≡ history.judged passes ↔ PathOf d ls vs
-  pub history-refused : (room : ℕ) → room < length (tableFor d ls) → history.checked d ls lent vs room ≡ history.refused 9 (length (tableFor d ls))
-  pub causal-path : causal.reading d ls lent vs ≡ causal.judged path ↔ PathOf d ls vs
+  pub history-passes : (room : ℕ) → length (tableFor d ls) ≤ room → history.checked d ls lent vs room ≡ answered (history.judged passes) ↔ PathOf d ls vs
+  pub history-refused : (room : ℕ) → room < length (tableFor d ls) → history.checked d ls lent vs room ≡ refused 9 (length (tableFor d ls))
+  pub causal-path : causal.reading d ls lent vs ≡ answered path ↔ PathOf d ls vs

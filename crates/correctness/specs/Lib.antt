@@ -1,3 +1,2 @@
 -- What the theorems that join the layers say.
 pub mod Demand3
-pub mod Worked

@@ -1,4 +1,1 @@
 // The theorems that join the layers; no code.
-pub enum Nothing {
-    Here,
-}

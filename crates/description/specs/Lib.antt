@@ -3,3 +3,4 @@ pub mod Laws
 pub mod Atoms
 pub mod Meaning
 pub mod Acceptance
+pub mod Examples

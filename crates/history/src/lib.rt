@@ -8,8 +8,8 @@ ghost use mathlib.Core.Path.{_≡_};
 ghost use lib.Dec.{eqb};
 ghost use lib.ListN.{length};
 ghost use Rattle.search.specs.Search.{first, placeOf};
-ghost use Rattle.answer_sets.specs.Answers.{answer};
-ghost use Rattle.history.specs.Checks.{replyOf, orMissing, ofEngine, checked, tableAfter};
+ghost use Rattle.answer_sets.specs.Answers as engine;
+ghost use Rattle.history.specs.Checks.{replyOf, ofEngine, finding, checked, tableAfter};
 
 // A refusal's number and place, or the first verdict that holds with the atom, rule or literal code that it names.
 pub enum Checked {
@@ -38,7 +38,7 @@ fn first_missing(values: &[u8]) -> Found
 
 // The engine's answer as the history check's.
 fn from_engine(answer: Answer) -> Checked
-    ensures { λ r. ⌜ replyOf r ≡ ofEngine (Rattle.answer_sets.specs.Answers.replyOf answer) ⌝ }
+    ensures { λ r. ⌜ replyOf r ≡ ofEngine (engine.replyOf answer) ⌝ }
 {
     match answer {
         Answer::Refused(number, place) => Checked::Refused(number, place),
@@ -51,7 +51,7 @@ fn from_engine(answer: Answer) -> Checked
 
 // Missing, or what the engine says of these words.
 fn judge(values: &[u8], words: &[u16]) -> Checked
-    ensures { λ r. ⌜ replyOf r ≡ orMissing (first (eqb 0) 0 (now (values .entry))) (ofEngine (answer (now (values .entry)) (now (words .entry)))) ⌝ }
+    ensures { λ r. ⌜ replyOf r ≡ finding (now (values .entry)) (now (words .entry)) ⌝ }
 {
     if let Found::At(atom) = first_missing(values) {
         return Checked::Missing(atom);

@@ -1,13 +1,12 @@
--- Answers as numbers: a code, and 256 times a value (include/huntyghai.h has the same table).
+-- Answers as numbers: a code, and 256 times a value (include/huntyghai.h has the same table). A refusal's code is its number, 1 to
+-- 63; every other answer has a code above those.
 -- Assumes nothing.
 use Prim.Native.Nat.{ℕ, _+_, _*_, _%_}
+use Rattle.search.specs.Replies.{Reply, refused, answered}
 use Rattle.answer_sets.specs.Verdicts.{Verdict, clash, broken, unfounded, passes}
-use Rattle.answer_sets.specs.Answers as engine
-use Rattle.translation.specs.Translated as translated
-use Rattle.history.specs.Checks as history
+use Rattle.translation.specs.Translated.{Written, written}
+use Rattle.history.specs.Checks.{Finding, missing, judged}
 use Rattle.causal.specs.Verdicts.{Causal, contradicted, uncaused, path}
-use Rattle.causal.specs.Readings as causal
-use Rattle.text.specs.Histories.{HistoryReply, turnedDown, complete}
 
 -- a value keeps its low 56 bits; no memory has a longer length
 unfoldable pub coded : ℕ → ℕ → ℕ
@@ -17,34 +16,32 @@ coded code value = code + value % 72057594037927936 * 256
 unfoldable pub pair : ℕ → ℕ → ℕ
 pair high low = high % 65536 * 65536 + low % 65536
 
+-- a refusal by its number and place, or the answer's own code
+abbrev pub replyCode : {A : Type 0} → (A → ℕ) → Reply A → ℕ
+replyCode code (refused number place) = coded number place
+replyCode code (answered a) = code a
+
+-- passes 64, clash 65, broken 66, unfounded 67, missing 68
 abbrev pub verdictCode : Verdict → ℕ
-verdictCode passes = coded 16 0
-verdictCode (clash atom) = coded 17 atom
-verdictCode (broken rule) = coded 18 rule
-verdictCode (unfounded code) = coded 19 code
+verdictCode passes = coded 64 0
+verdictCode (clash atom) = coded 65 atom
+verdictCode (broken rule) = coded 66 rule
+verdictCode (unfounded code) = coded 67 code
 
-abbrev pub answerCode : engine.Reply → ℕ
-answerCode (engine.refused number place) = coded number place
-answerCode (engine.judged v) = verdictCode v
+abbrev pub findingCode : Finding → ℕ
+findingCode (missing atom) = coded 68 atom
+findingCode (judged v) = verdictCode v
 
-abbrev pub checkedCode : history.Reply → ℕ
-checkedCode (history.refused number place) = coded number place
-checkedCode (history.missing atom) = coded 20 atom
-checkedCode (history.judged v) = verdictCode v
-
+-- path 80, contradicted 81, uncaused 82
 abbrev pub causalCode : Causal → ℕ
-causalCode path = coded 32 0
-causalCode (contradicted time law) = coded 33 (pair time law)
-causalCode (uncaused time fluent) = coded 34 (pair time fluent)
+causalCode path = coded 80 0
+causalCode (contradicted time law) = coded 81 (pair time law)
+causalCode (uncaused time fluent) = coded 82 (pair time fluent)
 
-abbrev pub readingCode : causal.Reply → ℕ
-readingCode (causal.refused number place) = coded number place
-readingCode (causal.judged v) = causalCode v
+-- a table written 96
+abbrev pub writtenCode : Written → ℕ
+writtenCode (written atoms rules words) = coded 96 (words % 65536 * 4294967296 + pair rules atoms)
 
-abbrev pub outcomeCode : translated.Outcome → ℕ
-outcomeCode (translated.refused number place) = coded number place
-outcomeCode (translated.written atoms rules words) = coded 48 (words % 65536 * 4294967296 + pair rules atoms)
-
-abbrev pub historyCode : HistoryReply → ℕ
-historyCode (turnedDown number place) = coded number place
-historyCode complete = coded 64 0
+-- a history read 112
+abbrev pub readCode : Unit {0} → ℕ
+readCode done = coded 112 0

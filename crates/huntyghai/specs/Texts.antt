@@ -2,50 +2,46 @@
 -- Assumes nothing.
 use mathlib.Core.List.{List}
 use Prim.Native.Nat.{ℕ}
+use Rattle.search.specs.Replies.{Reply, refused, answered, leftAfter}
 use Rattle.translation.specs.Translated as translated
 use Rattle.history.specs.Checks as history
 use Rattle.causal.specs.Readings as causal
-use Rattle.text.specs.Descriptions.{Outcome, turned, read, described, descriptionOf}
-use Rattle.text.specs.Answers.{recordOf}
-use Rattle.text.specs.Histories.{Recorded, rejected, values}
+use Rattle.description_reader.specs.Descriptions.{Taken, read, described, descriptionOf}
+use Rattle.description_reader.specs.Answers.{recordOf}
 use Rattle.inputs.specs.Inputs.{recordedIn}
-use Rattle.report.specs.Output.{lawsRead}
-use Rattle.huntyghai.specs.Codes.{coded, outcomeCode, checkedCode, readingCode}
+use Rattle.report.specs.Output.{lawsTaken}
+use Rattle.huntyghai.specs.Codes.{replyCode, writtenCode, findingCode, causalCode}
 
 -- the description's own refusal, or the translation of what was read
-abbrev pub translatedFrom : Outcome → ℕ → ℕ
-translatedFrom (turned number place) room = coded number place
-translatedFrom (read d rest lines) room = outcomeCode (translated.outcome (descriptionOf d) (d .laws) 64 room)
+abbrev pub translatedTaken : ℕ → Taken → ℕ
+translatedTaken room (read d rest lines) = replyCode writtenCode (translated.outcome (descriptionOf d) (d .laws) 64 room)
 
 unfoldable pub translatedText : List ℕ → ℕ → ℕ
-translatedText text room = translatedFrom (described 64 text) room
+translatedText text room = replyCode (translatedTaken room) (described 64 text)
 
-abbrev pub tableFrom : Outcome → List ℕ → List ℕ
-tableFrom (turned number place) table = table
-tableFrom (read d rest lines) table = translated.tableAfter (descriptionOf d) (d .laws) 64 table
+abbrev pub tableTaken : List ℕ → Taken → List ℕ
+tableTaken table (read d rest lines) = translated.tableAfter (descriptionOf d) (d .laws) 64 table
 
 unfoldable pub tableOfText : List ℕ → List ℕ → List ℕ
-tableOfText text table = tableFrom (described 64 text) table
+tableOfText text table = leftAfter (described 64 text) (tableTaken table) table
 
 -- the same for the history check
-abbrev pub checkedFrom : Outcome → List ℕ → ℕ → ℕ
-checkedFrom (turned number place) vs room = coded number place
-checkedFrom (read d rest lines) vs room = checkedCode (history.checked (descriptionOf d) (d .laws) 64 vs room)
+abbrev pub checkedTaken : List ℕ → ℕ → Taken → ℕ
+checkedTaken vs room (read d rest lines) = replyCode findingCode (history.checked (descriptionOf d) (d .laws) 64 vs room)
 
 unfoldable pub checkedText : List ℕ → List ℕ → ℕ → ℕ
-checkedText text vs room = checkedFrom (described 64 text) vs room
+checkedText text vs room = replyCode (checkedTaken vs room) (described 64 text)
 
-abbrev pub tableFromCheck : Outcome → List ℕ → List ℕ → List ℕ
-tableFromCheck (turned number place) vs table = table
-tableFromCheck (read d rest lines) vs table = history.tableAfter (descriptionOf d) (d .laws) 64 vs table
+abbrev pub tableChecked : List ℕ → List ℕ → Taken → List ℕ
+tableChecked vs table (read d rest lines) = history.tableAfter (descriptionOf d) (d .laws) 64 vs table
 
 unfoldable pub tableOfCheck : List ℕ → List ℕ → List ℕ → List ℕ
-tableOfCheck text vs table = tableFromCheck (described 64 text) vs table
+tableOfCheck text vs table = leftAfter (described 64 text) (tableChecked vs table) table
 
--- the readers' refusal, its line counted over the whole input, or the causal reading of what was read
-abbrev pub readingFrom : Outcome → Recorded → ℕ
-readingFrom o (rejected number place) = coded number place
-readingFrom o (values vs) = readingCode (causal.reading (recordOf o) (lawsRead o) 64 vs)
+-- the causal reading of the values of what was read
+abbrev pub readingOf : Reply Taken → List ℕ → ℕ
+readingOf o vs = replyCode causalCode (causal.reading (recordOf o) (lawsTaken o) 64 vs)
 
+-- the readers' refusal, its line counted over the whole input, or that reading
 unfoldable pub readingOfInput : List ℕ → ℕ
-readingOfInput input = readingFrom (described 64 input) (recordedIn input)
+readingOfInput input = replyCode (readingOf (described 64 input)) (recordedIn input)

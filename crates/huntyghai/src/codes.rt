@@ -1,8 +1,8 @@
-// Answers as numbers.
+// Answers as numbers. Codes 1 to 63 are the refusals of that number; every other answer has a code above them.
 use answer_sets::Answer;
 use causal::Reading;
 use history::Checked;
-use text::HistoryAnswer;
+use history_reader::HistoryAnswer;
 use translation::Translated;
 ghost use mathlib.Core.Path.{_≡_};
 ghost use Prim.Native.Nat.{_<_};
@@ -10,8 +10,8 @@ ghost use Rattle.answer_sets.specs.Answers;
 ghost use Rattle.translation.specs.Translated.{outcomeOf};
 ghost use Rattle.history.specs.Checks;
 ghost use Rattle.causal.specs.Readings;
-ghost use Rattle.text.specs.Histories.{historyReplyOf};
-ghost use Rattle.huntyghai.specs.Codes.{coded, pair, answerCode, outcomeCode, checkedCode, readingCode, historyCode};
+ghost use Rattle.history_reader.specs.Histories.{historyReplyOf};
+ghost use Rattle.huntyghai.specs.Codes.{coded, pair, replyCode, verdictCode, findingCode, causalCode, writtenCode, readCode};
 
 // A code, and 256 times a value of up to 56 bits.
 pub(crate) fn number(code: u8, value: usize) -> u64
@@ -29,57 +29,57 @@ fn both(high: usize, low: usize) -> usize
 }
 
 pub(crate) fn of_answer(answer: Answer) -> u64
-    ensures { λ r. ⌜ r ≡ answerCode (Answers.replyOf answer) ⌝ }
+    ensures { λ r. ⌜ r ≡ replyCode verdictCode (Answers.replyOf answer) ⌝ }
 {
     match answer {
         Answer::Refused(k, place) => number(k, place),
-        Answer::Clash(atom) => number(17, atom),
-        Answer::Broken(rule) => number(18, rule),
-        Answer::Unfounded(code) => number(19, code),
-        Answer::Passes => number(16, 0),
+        Answer::Clash(atom) => number(65, atom),
+        Answer::Broken(rule) => number(66, rule),
+        Answer::Unfounded(code) => number(67, code),
+        Answer::Passes => number(64, 0),
     }
 }
 
 pub(crate) fn of_checked(checked: Checked) -> u64
-    ensures { λ r. ⌜ r ≡ checkedCode (Checks.replyOf checked) ⌝ }
+    ensures { λ r. ⌜ r ≡ replyCode findingCode (Checks.replyOf checked) ⌝ }
 {
     match checked {
         Checked::Refused(k, place) => number(k, place),
-        Checked::Missing(atom) => number(20, atom),
-        Checked::Clash(atom) => number(17, atom),
-        Checked::Broken(rule) => number(18, rule),
-        Checked::Unfounded(code) => number(19, code),
-        Checked::Passes => number(16, 0),
+        Checked::Missing(atom) => number(68, atom),
+        Checked::Clash(atom) => number(65, atom),
+        Checked::Broken(rule) => number(66, rule),
+        Checked::Unfounded(code) => number(67, code),
+        Checked::Passes => number(64, 0),
     }
 }
 
 pub(crate) fn of_reading(reading: Reading) -> u64
-    ensures { λ r. ⌜ r ≡ readingCode (Readings.replyOf reading) ⌝ }
+    ensures { λ r. ⌜ r ≡ replyCode causalCode (Readings.replyOf reading) ⌝ }
 {
     match reading {
         Reading::Refused(k, place) => number(k, place),
-        Reading::Contradicted(time, law) => number(33, both(time, law)),
-        Reading::Uncaused(time, fluent) => number(34, both(time, fluent)),
-        Reading::Path => number(32, 0),
+        Reading::Contradicted(time, law) => number(81, both(time, law)),
+        Reading::Uncaused(time, fluent) => number(82, both(time, fluent)),
+        Reading::Path => number(80, 0),
     }
 }
 
 pub(crate) fn of_translated(translated: Translated) -> u64
-    ensures { λ r. ⌜ r ≡ outcomeCode (outcomeOf translated) ⌝ }
+    ensures { λ r. ⌜ r ≡ replyCode writtenCode (outcomeOf translated) ⌝ }
 {
     match translated {
         Translated::Refused(k, place) => number(k, place),
         Translated::Written(atoms, rules, words) => {
-            number(48, words % 65536 * 4294967296 + both(rules, atoms))
+            number(96, words % 65536 * 4294967296 + both(rules, atoms))
         }
     }
 }
 
 pub(crate) fn of_history(said: HistoryAnswer) -> u64
-    ensures { λ r. ⌜ r ≡ historyCode (historyReplyOf said) ⌝ }
+    ensures { λ r. ⌜ r ≡ replyCode readCode (historyReplyOf said) ⌝ }
 {
     match said {
         HistoryAnswer::Refused(k, place) => number(k, place),
-        HistoryAnswer::Complete => number(64, 0),
+        HistoryAnswer::Complete => number(112, 0),
     }
 }

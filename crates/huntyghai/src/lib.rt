@@ -2,16 +2,16 @@
 // code and 256 times its value.
 mod codes;
 
-use text::Answer;
-use text::HistoryAnswer;
+use description_reader::Answer;
+use history_reader::HistoryAnswer;
 ghost use mathlib.Core.Path.{_≡_};
 ghost use Prim.Native.Nat.{_≤_};
 ghost use lib.ListN.{length};
 ghost use lib.Seq.{sets};
 ghost use Rattle.answer_sets.specs.Answers.{answer};
-ghost use Rattle.text.specs.Histories.{history, historyReplied, leftIn};
+ghost use Rattle.history_reader.specs.Histories.{readHistory, historyReplied, valuesLeft};
 ghost use Rattle.report.specs.Output.{output};
-ghost use Rattle.huntyghai.specs.Codes.{answerCode, historyCode};
+ghost use Rattle.huntyghai.specs.Codes.{replyCode, verdictCode, readCode};
 ghost use Rattle.huntyghai.specs.Texts.{translatedText, tableOfText, checkedText, tableOfCheck, readingOfInput};
 
 // What the program check prints for an input, as far as the buffer goes; the result is the whole output's length, at most 400.
@@ -26,7 +26,7 @@ pub extern "C" fn huntyghai_report(input: &[u8], out: &mut [u8]) -> usize
 // The engine's answer to values and a table.
 #[no_mangle]
 pub extern "C" fn huntyghai_check_set(values: &[u8], table: &[u16]) -> u64
-    ensures { λ r. ⌜ r ≡ answerCode (answer (now (values .entry)) (now (table .entry))) ⌝ }
+    ensures { λ r. ⌜ r ≡ replyCode verdictCode (answer (now (values .entry)) (now (table .entry))) ⌝ }
 {
     codes::of_answer(answer_sets::check_set(values, table))
 }
@@ -37,7 +37,7 @@ pub extern "C" fn huntyghai_translate(text: &[u8], table: &mut [u16]) -> u64
     ensures { λ r. ⌜ r ≡ translatedText (now (text .entry)) (length (now (table .entry))) ⌝ }
     ensures { λ _. ⌜ now (table .exit) ≡ tableOfText (now (text .entry)) (now (table .entry)) ⌝ }
 {
-    let run = lent_laws::read_run(text, lent_laws::no_laws());
+    let run = held_laws::read_run(text, law_runs::no_laws());
     let read = run.read;
     let answer = read.answer;
     match answer {
@@ -53,10 +53,10 @@ pub extern "C" fn huntyghai_translate(text: &[u8], table: &mut [u16]) -> u64
 // Reads a history's text by the names of the description's.
 #[no_mangle]
 pub extern "C" fn huntyghai_read_history(description: &[u8], text: &[u8], values: &mut [u8]) -> u64
-    ensures { λ r. ⌜ r ≡ historyCode (historyReplied (history (now (description .entry)) (now (text .entry)) (length (now (values .entry))))) ⌝ }
-    ensures { λ _. ⌜ now (values .exit) ≡ leftIn (history (now (description .entry)) (now (text .entry)) (length (now (values .entry)))) (now (values .entry)) ⌝ }
+    ensures { λ r. ⌜ r ≡ replyCode readCode (historyReplied (readHistory (now (description .entry)) (now (text .entry)) (length (now (values .entry))))) ⌝ }
+    ensures { λ _. ⌜ now (values .exit) ≡ valuesLeft (readHistory (now (description .entry)) (now (text .entry)) (length (now (values .entry)))) (now (values .entry)) ⌝ }
 {
-    codes::of_history(text::read_history(description, text, values))
+    codes::of_history(history_reader::read_history(description, text, values))
 }
 
 // Checks values against the description at the text's start.
@@ -65,7 +65,7 @@ pub extern "C" fn huntyghai_check_history(text: &[u8], values: &[u8], table: &mu
     ensures { λ r. ⌜ r ≡ checkedText (now (text .entry)) (now (values .entry)) (length (now (table .entry))) ⌝ }
     ensures { λ _. ⌜ now (table .exit) ≡ tableOfCheck (now (text .entry)) (now (values .entry)) (now (table .entry)) ⌝ }
 {
-    let run = lent_laws::read_run(text, lent_laws::no_laws());
+    let run = held_laws::read_run(text, law_runs::no_laws());
     let read = run.read;
     let answer = read.answer;
     match answer {

@@ -4,22 +4,23 @@ use mathlib.Core.Bool.{Bool, cond, _||_}
 use mathlib.Core.List.{List}
 use Prim.Native.Nat.{ℕ, _+_}
 use lib.Dec.{eqb}
-use Rattle.text.specs.Descriptions.{Outcome, turned, read, described}
-use Rattle.text.specs.Histories.{Recorded, rejected, values, atoms, history}
+use Rattle.search.specs.Replies.{Reply, refused, answered}
+use Rattle.description_reader.specs.Descriptions.{Taken, read, described}
+use Rattle.history_reader.specs.Histories.{atoms, readHistory}
 
 -- lines count over the whole input: a line of the history is moved up by the description's lines; place 0 and lengths are not
 abbrev pub movedUp : ℕ → ℕ → ℕ → ℕ
 movedUp lines number place = cond (eqb number 1 || eqb number 10) place (lines + place)
 
-abbrev pub movedBy : ℕ → Recorded → Recorded
-movedBy lines (rejected number place) = rejected number (movedUp lines number place)
-movedBy lines (values vs) = values vs
+abbrev pub movedBy : ℕ → Reply (List ℕ) → Reply (List ℕ)
+movedBy lines (refused number place) = refused number (movedUp lines number place)
+movedBy lines (answered vs) = answered vs
 
 -- the history is what stands behind the description's end line; there is a value for each atom
-abbrev pub afterDescription : List ℕ → Outcome → Recorded
-afterDescription input (turned number place) = rejected number place
-afterDescription input (read d rest lines) = movedBy lines (history input rest (atoms d))
+abbrev pub afterDescription : List ℕ → Reply Taken → Reply (List ℕ)
+afterDescription input (refused number place) = refused number place
+afterDescription input (answered (read d rest lines)) = movedBy lines (readHistory input rest (atoms d))
 
 -- the values of a whole input's history, or the first refusal
-unfoldable pub recordedIn : List ℕ → Recorded
+unfoldable pub recordedIn : List ℕ → Reply (List ℕ)
 recordedIn input = afterDescription input (described 64 input)

@@ -1,16 +1,16 @@
 // The reader of a whole input: a description, and behind its end line the history of it. Lines count over the whole input.
 use description::Description;
 use description::Law;
-use text::Answer;
-use text::HistoryAnswer;
+use description_reader::Answer;
+use history_reader::HistoryAnswer;
 ghost use mathlib.Core.Path.{_≡_};
 ghost use Prim.Native.Nat.{_+_, _-_, _≤_, _<_, _^_};
 ghost use lib.ListN.{length, take, drop, replicate};
 ghost use Rattle.description.specs.Atoms.{atomCount};
-ghost use Rattle.text.specs.Descriptions.{described};
-ghost use Rattle.text.specs.Answers.{recordOf, lawsLeft};
-ghost use Rattle.text.specs.Histories.{historyReplyOf, historyReplied, leftIn};
-ghost use Rattle.lent_laws.specs.Gathered.{noLaws};
+ghost use Rattle.description_reader.specs.Descriptions.{described};
+ghost use Rattle.description_reader.specs.Answers.{recordOf, lawsLeft};
+ghost use Rattle.history_reader.specs.Histories.{historyReplyOf, historyReplied, valuesLeft};
+ghost use Rattle.law_runs.specs.Runs.{noLaws};
 ghost use Rattle.inputs.specs.Inputs.{movedUp, recordedIn};
 
 // Room for the values of the most atoms.
@@ -58,11 +58,11 @@ pub fn read_input(input: &[u8]) -> Input
     ensures { λ r. ⌜ r .description ≡ recordOf (described 64 (now (input .entry))) ⌝ }
     ensures { λ r. ⌜ r .laws ≡ lawsLeft (described 64 (now (input .entry))) noLaws ⌝ }
     ensures { λ r. ⌜ (let d = recordOf (described 64 (now (input .entry))) in r .atoms ≡ atomCount (d .fluents) (d .actions) (d .horizon)) ⌝ }
-    ensures { λ r. ⌜ take (r .atoms) (r .values) ≡ leftIn (recordedIn (now (input .entry))) (replicate (r .atoms) 0) ⌝ }
+    ensures { λ r. ⌜ take (r .atoms) (r .values) ≡ valuesLeft (recordedIn (now (input .entry))) (replicate (r .atoms) 0) ⌝ }
     ensures { λ r. ⌜ drop (r .atoms) (r .values) ≡ replicate (1024 - r .atoms) 0 ⌝ }
     ensures { λ r. ⌜ (r .atoms ≤ 1024) × (length (r .values) ≡ 1024) ⌝ }
 {
-    let run = lent_laws::read_run(input, lent_laws::no_laws());
+    let run = held_laws::read_run(input, law_runs::no_laws());
     let read = run.read;
     let laws = run.laws;
     let answer = read.answer;
@@ -78,7 +78,7 @@ pub fn read_input(input: &[u8]) -> Input
         },
         Answer::Read(bytes, lines) => {
             let atoms = atom_count(description);
-            let said = text::read_history(input, &input[bytes..], &mut values[..atoms]);
+            let said = history_reader::read_history(input, &input[bytes..], &mut values[..atoms]);
             let answer = match said {
                 HistoryAnswer::Refused(number, place) => {
                     HistoryAnswer::Refused(number, moved_up(lines, number, place))

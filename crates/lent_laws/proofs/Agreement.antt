@@ -18,9 +18,9 @@ use Rattle.history.specs.Checks as history
 use Rattle.causal.specs.declared.Reading.{Reading}
 use Rattle.causal.specs.Readings as causal
 use Rattle.correctness.proofs.Demand3.{demand-3}
-use Rattle.lent_laws.specs.Gathered.{gathered}
+use Rattle.law_runs.specs.Internal.{gathered}
 use Rattle.lent_laws.specs.Promises.{PassesExactly, PathExactly}
-use Rattle.lent_laws.proofs.Gathered.{gathered-front}
+use Rattle.law_runs.proofs.Stored.{gathered-front}
 
 module _ (d : Description) (ls : List Law) where
   -- the same answer, whether the counts fit or not

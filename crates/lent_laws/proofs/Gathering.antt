@@ -37,11 +37,11 @@ use Rattle.description.specs.declared.Description.{Description}
 use Rattle.description.proofs.Law as T
 use Rattle.description.proofs.Description as D
 use Rattle.description.proofs.Description.Laws as D′
-use Rattle.lent_laws.specs.Gathered.{gathered}
-use Rattle.lent_laws.proofs.Answers.{answers}
-use Rattle.lent_laws.proofs.Records.{Run, run-ty, ref, run-typed, run-makes}
-use Rattle.lent_laws.proofs.gather as gather
-use Rattle.lent_laws.proofs.gather.Symbol.{name as #gather}
+use Rattle.law_runs.specs.Internal.{gathered}
+use Rattle.law_runs.proofs.Answers.{answers}
+use Rattle.law_runs.proofs.Records.{Run, run-ty, ref, run-typed, run-makes}
+use Rattle.law_runs.proofs.gather as gather
+use Rattle.law_runs.proofs.gather.Symbol.{name as #gather}
 
 -- the tokens of n + 1 lifetimes: the first one's, and the others'
 module _ {M : Type 1} (𝓤 : URA M) (H : Heap 𝓤) (A : Atoms 𝓤) (W : Given 𝓤 H A) (n : ℕ) (κ : Lft) (q : Share) (κs : Lfts n) (qs : Shares n) where

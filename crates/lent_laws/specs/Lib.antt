@@ -1,3 +1,2 @@
--- What the public functions over a lent run promise. Read in this order.
-pub mod Gathered
+-- What the functions over a lent run promise besides the definitions of the crates below: demand 3, of their own answers.
 pub mod Promises

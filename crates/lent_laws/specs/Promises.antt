@@ -8,6 +8,7 @@ use mathlib.Core.Option.{none}
 use Prim.Native.Nat.{ℕ, _≤_}
 use lib.ListN.{length}
 use Rattle.search.specs.Search.{Each}
+use Rattle.search.specs.Replies.{answered}
 use Rattle.answer_sets.specs.Verdicts.{passes}
 use Rattle.description.specs.declared.Law.{Law}
 use Rattle.description.specs.declared.Description.{Description}
@@ -30,7 +31,7 @@ pub record Complete (d : Description) (ls : List Law) (vs : List ℕ) : Type 0 w
 
 -- for a table that is long enough; else the refusal is 9
 unfoldable pub PassesExactly : Description → List Law → List ℕ → ℕ → Checked → Type 0
-PassesExactly d ls vs room r = Complete d ls vs → length (tableFor d ls) ≤ room → history.replyOf r ≡ history.judged passes ↔ PathOf d ls vs
+PassesExactly d ls vs room r = Complete d ls vs → length (tableFor d ls) ≤ room → history.replyOf r ≡ answered (history.judged passes) ↔ PathOf d ls vs
 
 unfoldable pub PathExactly : Description → List Law → List ℕ → Reading → Type 0
-PathExactly d ls vs r = Complete d ls vs → causal.replyOf r ≡ causal.judged path ↔ PathOf d ls vs
+PathExactly d ls vs r = Complete d ls vs → causal.replyOf r ≡ answered path ↔ PathOf d ls vs

@@ -4,9 +4,9 @@ use causal::Reading;
 use description::Description;
 use description::Law;
 use history::Checked;
+use history_reader::HistoryAnswer;
 use libc::STDIN_FILENO;
 use libc::STDOUT_FILENO;
-use text::HistoryAnswer;
 use translation::Translated;
 ghost use mathlib.Core.Path.{_≡_};
 ghost use Prim.Native.Nat.{_≤_};
@@ -88,7 +88,7 @@ fn print_reading(reading: Reading) {
 
 fn show_judged(d: Description, laws: [Law; 64], values: &[u8]) {
     let mut table = no_table();
-    let judged = lent_laws::judge(d, laws, values, &mut table);
+    let judged = held_laws::judge(d, laws, values, &mut table);
     let checked = judged.checked;
     let reading = judged.reading;
     print_checked(checked);
@@ -97,7 +97,7 @@ fn show_judged(d: Description, laws: [Law; 64], values: &[u8]) {
 
 fn show_laws(d: Description, laws: [Law; 64], values: &[u8]) {
     let mut table = no_table();
-    let translated = lent_laws::translate_run(d, laws, &mut table);
+    let translated = held_laws::translate_run(d, laws, &mut table);
     match translated {
         Translated::Refused(number, place) => print_refusal(number, place),
         Translated::Written(atoms, rules, words) => {

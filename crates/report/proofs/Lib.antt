@@ -1,4 +1,3 @@
-pub mod Examples
 pub mod Stores
 pub mod Decimals
 pub mod Composing

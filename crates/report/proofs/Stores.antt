@@ -8,7 +8,7 @@ use native.Mathlib.Omega.{arith}
 use native.Mathlib.Numerals.{add-one}
 use lib.ListN.{length, getD, set, drop, length-append}
 use lib.Seq.{sets, drop-cons}
-use Rattle.report.specs.Writing.{line}
+use Rattle.report.specs.Writing.{outputLine}
 
 -- a turn of the loop that stores each byte: one store, and the rest is left
 pub store-next : (l : List ℕ) (at i : ℕ) (xs : List ℕ) → i < length xs
@@ -36,6 +36,6 @@ three l at xs ys zs p q r = both l at (xs ++ ys) zs (both l at xs ys p q) r
 -- a line is stored in four parts
 pub line-stores : (l : List ℕ) (at : ℕ) (key value : List ℕ) {l₁ l₂ l₃ l₄ : List ℕ} {a₁ a₂ a₃ a₄ : ℕ}
     → Wrote l at key l₁ a₁ → Wrote l₁ a₁ (61 ∷ []) l₂ a₂ → Wrote l₂ a₂ value l₃ a₃ → Wrote l₃ a₃ (10 ∷ []) l₄ a₄
-    → Wrote l at (line key value) l₄ a₄
+    → Wrote l at (outputLine key value) l₄ a₄
 line-stores l at key value w₁ w₂ w₃ w₄ =
     both l at (key ++ (61 ∷ []) ++ value) (10 ∷ []) (both l at (key ++ (61 ∷ [])) value (both l at key (61 ∷ []) w₁ w₂) w₃) w₄

@@ -7,8 +7,8 @@ use lib.Dec.{ltb}
 use Rattle.io.specs.Digits.{digits}
 
 -- key=value and byte 10
-abbrev pub line : List ℕ → List ℕ → List ℕ
-line key value = key ++ (61 ∷ []) ++ value ++ (10 ∷ [])
+abbrev pub outputLine : List ℕ → List ℕ → List ℕ
+outputLine key value = key ++ (61 ∷ []) ++ value ++ (10 ∷ [])
 
 -- how many decimal digits a number below 10 to the k has, at least one
 abbrev pub placesIn : ℕ → ℕ → ℕ

@@ -10,7 +10,7 @@ ghost use lib.ListN.{length};
 ghost use lib.Seq.{sets};
 ghost use Rattle.history.specs.Checks;
 ghost use Rattle.causal.specs.Readings;
-ghost use Rattle.report.specs.Writing.{line, decimal, answerWord, passesWord, atWord, causalWord, timeWord, itemWord};
+ghost use Rattle.report.specs.Writing.{outputLine, decimal, answerWord, passesWord, atWord, causalWord, timeWord, itemWord};
 ghost use Rattle.report.specs.Output.{refusal, countLines, readingLines, checkedLines};
 
 // What the output says of a translation.
@@ -52,7 +52,7 @@ pub(crate) fn put_counts(
 // A verdict that names an atom, a rule or a literal code.
 pub(crate) fn put_verdict(out: &mut [u8], at: usize, word: &[u8], number: usize) -> usize
     requires { ⌜ (at ≤ 300) × (length (now word) ≤ 20) ⌝ }
-    ensures { λ r. ⌜ (let ws = line answerWord (now (word .entry)) ++ line atWord (decimal number) in
+    ensures { λ r. ⌜ (let ws = outputLine answerWord (now (word .entry)) ++ outputLine atWord (decimal number) in
         (r ≡ at + length ws) × (now (out .exit) ≡ sets (now (out .entry)) at ws)) ⌝ }
     ensures { λ r. ⌜ r ≤ at + 84 ⌝ }
 {
@@ -63,7 +63,7 @@ pub(crate) fn put_verdict(out: &mut [u8], at: usize, word: &[u8], number: usize)
 // The verdict passes, which names nothing.
 pub(crate) fn put_passes(out: &mut [u8], at: usize) -> usize
     requires { ⌜ at ≤ 300 ⌝ }
-    ensures { λ r. ⌜ (let ws = line answerWord passesWord ++ line atWord [] in
+    ensures { λ r. ⌜ (let ws = outputLine answerWord passesWord ++ outputLine atWord [] in
         (r ≡ at + length ws) × (now (out .exit) ≡ sets (now (out .entry)) at ws)) ⌝ }
     ensures { λ r. ⌜ r ≤ at + 84 ⌝ }
 {
@@ -74,7 +74,7 @@ pub(crate) fn put_passes(out: &mut [u8], at: usize) -> usize
 // A causal verdict with neither time nor item.
 pub(crate) fn put_bare(out: &mut [u8], at: usize, word: &[u8]) -> usize
     requires { ⌜ (at ≤ 500) × (length (now word) ≤ 20) ⌝ }
-    ensures { λ r. ⌜ (let ws = line causalWord (now (word .entry)) ++ line timeWord [] ++ line itemWord [] in
+    ensures { λ r. ⌜ (let ws = outputLine causalWord (now (word .entry)) ++ outputLine timeWord [] ++ outputLine itemWord [] in
         (r ≡ at + length ws) × (now (out .exit) ≡ sets (now (out .entry)) at ws)) ⌝ }
 {
     let said = put_line(out, at, b"causal", word);
@@ -98,7 +98,12 @@ fn put_reading(out: &mut [u8], at: usize, input: &[u8], reading: Reading) -> usi
         Reading::Uncaused(time, fluent) => {
             let said = put_line(out, at, b"causal", b"uncaused");
             let timed = put_number(out, said, b"time", time);
-            put_line(out, timed, b"item", text::fluent_name(input, fluent))
+            put_line(
+                out,
+                timed,
+                b"item",
+                description_reader::fluent_name(input, fluent),
+            )
         }
         Reading::Path => put_bare(out, at, b"path"),
     }

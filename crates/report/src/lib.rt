@@ -5,7 +5,7 @@ mod writing;
 use answers::Counts;
 use description::Description;
 use description::Law;
-use text::HistoryAnswer;
+use history_reader::HistoryAnswer;
 use translation::Translated;
 ghost use mathlib.Core.Path.{_≡_};
 ghost use Prim.Native.Nat.{_+_, _≤_, min};
@@ -37,7 +37,7 @@ fn put_outcome(
         Translated::Refused(number, place) => answers::put_refusal(out, 0, number, place),
         Translated::Written(atoms, rules, words) => {
             let mut table = no_table();
-            let judged = lent_laws::judge(d, laws, values, &mut table);
+            let judged = held_laws::judge(d, laws, values, &mut table);
             let checked = judged.checked;
             let reading = judged.reading;
             let counts = Counts {

@@ -3,7 +3,7 @@ ghost use mathlib.Core.Path.{_≡_};
 ghost use Prim.Native.Nat.{_+_, _<_, _≤_, _^_};
 ghost use lib.ListN.{length, set};
 ghost use lib.Seq.{sets};
-ghost use Rattle.report.specs.Writing.{line, decimal};
+ghost use Rattle.report.specs.Writing.{outputLine, decimal};
 
 // A byte, or nothing past the buffer's end.
 fn put_byte(out: &mut [u8], at: usize, byte: u8)
@@ -30,7 +30,7 @@ fn put_bytes(out: &mut [u8], at: usize, bytes: &[u8]) -> usize
 // A line: its key, an equals sign, its value and byte 10.
 pub(crate) fn put_line(out: &mut [u8], at: usize, key: &[u8], value: &[u8]) -> usize
     requires { ⌜ at + length (now key) + length (now value) + 2 < 2 ^ 64 ⌝ }
-    ensures { λ r. ⌜ (let ws = line (now (key .entry)) (now (value .entry)) in
+    ensures { λ r. ⌜ (let ws = outputLine (now (key .entry)) (now (value .entry)) in
         (r ≡ at + length ws) × (now (out .exit) ≡ sets (now (out .entry)) at ws)) ⌝ }
     ensures { λ r. ⌜ r ≡ at + length (now (key .entry)) + length (now (value .entry)) + 2 ⌝ }
 {
@@ -43,7 +43,7 @@ pub(crate) fn put_line(out: &mut [u8], at: usize, key: &[u8], value: &[u8]) -> u
 // A line whose value is a number in decimal.
 pub(crate) fn put_number(out: &mut [u8], at: usize, key: &[u8], number: usize) -> usize
     requires { ⌜ (at ≤ 1000) × (length (now key) ≤ 20) ⌝ }
-    ensures { λ r. ⌜ (let ws = line (now (key .entry)) (decimal number) in
+    ensures { λ r. ⌜ (let ws = outputLine (now (key .entry)) (decimal number) in
         (r ≡ at + length ws) × (now (out .exit) ≡ sets (now (out .entry)) at ws)) ⌝ }
     ensures { λ r. ⌜ r ≤ at + 42 ⌝ }
 {

@@ -1,7 +1,7 @@
 // Recipes, each followed by an empty line.
 use crate::verdicts::write_checked;
 use crate::verdicts::write_named;
-use text::HistoryAnswer;
+use history_reader::HistoryAnswer;
 ghost use Prim.Native.Nat.{_<_, _≤_};
 ghost use lib.ListN.{length};
 

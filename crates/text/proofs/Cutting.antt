@@ -4,7 +4,7 @@ use mathlib.Core.Path.{_≡_, ap}
 use mathlib.Core.Bool.{Bool}
 use mathlib.Core.List.{List, [], _∷_}
 use mathlib.Core.Option.{none, some}
-use Prim.Native.Nat.{ℕ, zero, suc, _+_, _-_, _≤_, _<_}
+use Prim.Native.Nat.{ℕ, zero, suc, _+_, _-_, _<_}
 use native.Mathlib.Omega.{arith}
 use lib.Dec.{eqb}
 use lib.ListN.{length, take, drop, length-drop, length-take}
@@ -13,7 +13,7 @@ use Rattle.search.specs.Search.{first}
 use Rattle.search.proofs.Tests.{first-some}
 use Rattle.text.specs.Bytes.{newline, comma, equalsSign, cut}
 use Rattle.text.specs.Lines.{keyNumber, firstLine}
-use Rattle.text.specs.Parts.{keyIn, lineOf, LineFits, itemAt, nextAt}
+use Rattle.text.specs.Internal.{keyIn, noLine, lineOf, LineFits, itemAt, nextAt}
 
 -- what is found stands inside
 pub first-inside : (p : ℕ → Bool) (xs : List ℕ) (j : ℕ) → first p 0 xs ≡ some j → j < length xs
@@ -39,8 +39,8 @@ module _ (text : List ℕ) (at : ℕ) (rest : List ℕ) (is : rest ≡ drop at t
     unfolding firstLine cut
     line-bare e = rw (← is, ends, e)
 
-    pub line-inside : at ≤ length text → at + size < length text
-    line-inside h = omega (arith, first-inside (eqb newline) rest size ends, ap length is, length-drop at text)
+    pub line-inside : at + size < length text
+    line-inside = omega (arith, first-inside (eqb newline) rest size ends, ap length is, length-drop at text)
 
     module _ (sign : ℕ) (splits : first (eqb equalsSign) 0 (take size rest) ≡ some sign) where
       pub sign-inside : sign < size
@@ -60,17 +60,15 @@ module _ (text : List ℕ) (at : ℕ) (rest : List ℕ) (is : rest ≡ drop at t
       unfolding lineOf firstLine cut
       line-whole k is-key = rw (value, behind, is-key, ← is, ends, splits)
 
-      pub line-fits : (k : ℕ) → at ≤ length text
-          → LineFits text at (record { key = k; from = at + sign + 1; to = at + size; next = at + size + 1 })
-      line-fits k h =
-          let inside = line-inside h in
+      pub line-fits : (k : ℕ) → LineFits text at (record { key = k; from = at + sign + 1; to = at + size; next = at + size + 1 })
+      line-fits k =
+          let inside = line-inside in
           let before = sign-inside in
           record { ordered = omega arith; inside = omega arith; within = omega arith; later = λ b. omega arith }
 
 -- where there is no line
-pub none-fits : (text : List ℕ) (at : ℕ) → at ≤ length text
-    → LineFits text at (record { key = 10; from = at; to = at; next = at })
-none-fits text at h = record { ordered = omega arith; inside = omega arith; within = omega arith; later = λ b. absurd (omega arith) }
+pub none-fits : (text : List ℕ) (at : ℕ) → LineFits text at (noLine (length text))
+none-fits text at = record { ordered = omega arith; inside = omega arith; within = omega arith; later = λ b. absurd (omega arith) }
 
 -- the item at a place of a list, where `rest` is the list from there on
 module _ (list : List ℕ) (from : ℕ) (rest : List ℕ) (is : rest ≡ drop from list) where
@@ -83,5 +81,5 @@ module _ (list : List ℕ) (from : ℕ) (rest : List ℕ) (is : rest ≡ drop fr
     unfolding itemAt nextAt
     item-cut = (rw (← is, ends), rw (← is, ends))
 
-    pub item-inside : from ≤ length list → from + size < length list
-    item-inside h = omega (arith, first-inside (eqb comma) rest size ends, ap length is, length-drop from list)
+    pub item-inside : from + size < length list
+    item-inside = omega (arith, first-inside (eqb comma) rest size ends, ap length is, length-drop from list)

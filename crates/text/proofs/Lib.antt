@@ -1,24 +1,6 @@
--- The round trip of writing and reading, and the full recipe as an example.
-pub mod Examples
-pub mod WrittenLines
-pub mod WrittenNames
-pub mod WrittenLists
-pub mod WrittenSteps
-pub mod Written
-pub mod WrittenSizes
-pub mod RoundTrip
-pub mod Accepted
-pub mod WrittenValues
-pub mod HistoryTrip
+-- What the functions' proofs share.
 pub mod Runs
 pub mod KeyTable
 pub mod Cutting
 pub mod Spelling
-pub mod Gathering
-pub mod Deciding
-pub mod Stepping
 pub mod Items
-pub mod Walking
-pub mod Answering
-pub mod Marking
-pub mod Recording

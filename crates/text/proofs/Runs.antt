@@ -45,3 +45,7 @@ module _ (xs : List ℕ) (s n : ℕ) where
 
   pub part-inside : take (s + n - s) (drop s xs) ≡ take n (drop s xs)
   part-inside = let e : s + n - s ≡ n = omega arith in rw e
+
+-- a part as long as the whole runs to the end
+pub part-all : (xs : List ℕ) (s : ℕ) → take (length xs) (drop s xs) ≡ drop s xs
+part-all xs s = take-all (length xs) (drop s xs) (omega (arith, length-drop s xs))

@@ -1,7 +1,7 @@
 -- The names that stand at some places of a text.
 -- Assumes nothing.
 use mathlib.Core.Path.{_≡_, refl, sym, _∙_}
-use mathlib.Core.Bool.{Bool, true, false, cond, not, _&&_}
+use mathlib.Core.Bool.{Bool, true, false, cond, not, _&&_, false≢true}
 use mathlib.Core.List.{List, [], _∷_, _++_, map}
 use mathlib.Core.Option.{Option, none, some}
 use Prim.Native.Nat.{ℕ, zero, suc, _+_, _-_, _*_, _≤_, _<_}
@@ -13,27 +13,71 @@ use lib.Seq.{getD-set-same, getD-set-other}
 use Rattle.search.specs.Search.{all, first, range}
 use Rattle.search.proofs.Tests.{and-iff, length-range}
 use Rattle.text.specs.declared.names.Names.{Names}
-use borrow.Author.Tests.{eq-eqb, ne-eqb, ltb-true}
+use borrow.Author.Tests.{eq-eqb, ne-eqb, ltb-true, ltb-false}
 use lib.Dec.{eqb, ltb, leb}
 use Rattle.text.specs.Bytes.{isLetter, isNameByte, same}
 use Rattle.text.specs.Names.{falseBytes, isName, declaredAt, inSort, literal}
-use Rattle.text.specs.Parts.{nameAt, spelled, CodeFits}
+use Rattle.text.specs.Internal.{nameAt, spelled, PlaceFits, CodeFits}
 
 pub first-mapped : {A B : Type 0} (p : B → Bool) (f : A → B) (k : ℕ) (xs : List A) → first p k (map f xs) ≡ first (λ x. p (f x)) k xs
 first-mapped p f k [] = refl
 first-mapped p f k (x ∷ xs) = rw (first-mapped p f (suc k) xs)
 
 -- the search for a name goes over the places
-pub search-starts : (text : List ℕ) (names : Names) (bs : List ℕ)
-    → first (λ i. same bs (nameAt text names i)) 0 (range 0 (names .count - 0)) ≡ declaredAt (spelled text names) bs
+search-mapped : (text : List ℕ) (names : Names) (bs : List ℕ)
+    → first (λ i. same bs (nameAt text names i)) 0 (range 0 (names .count - 0)) ≡ first (same bs) 0 (spelled text names)
 unfolding spelled
-search-starts text names bs =
+search-mapped text names bs =
     let e : names .count - 0 ≡ names .count = omega arith in
     rw e (sym (first-mapped (same bs) (λ i. nameAt text names i) 0 (range 0 (names .count))))
 
+pub search-starts : (text : List ℕ) (names : Names) (bs : List ℕ) → (length bs ≡ 0 → ⊥)
+    → first (λ i. same bs (nameAt text names i)) 0 (range 0 (names .count - 0)) ≡ declaredAt (spelled text names) bs
+search-starts text names [] h = absurd (h refl)
+search-starts text names (b ∷ bs) h = search-mapped text names (b ∷ bs)
+
+pub search-empty : (names : List (List ℕ)) (bs : List ℕ) → length bs ≡ 0 → none ≡ declaredAt names bs
+search-empty names [] h = refl
+search-empty names (b ∷ bs) h = absurd (omega arith)
+
+-- behind the 32 places every name is empty, and no bytes are no name: a name is found below 32
+pub name-past : (text : List ℕ) (names : Names) (i : ℕ) → length (names .lengths) ≡ 32 → 32 ≤ i → [] ≡ nameAt text names i
+name-past text names i size h = rw (List·getD-eq-default (names .lengths) 0 {n = i} (omega arith))
+
+mapped-found : (p : List ℕ → Bool) (f : ℕ → List ℕ) (k n i : ℕ) → first p k (map f (range k n)) ≡ some i → p (f i) ≡ true
+mapped-found p f k zero i e = let z : _≡_ {A = ℕ} 0 1 = cc in absurd (omega arith)
+mapped-found p f k (suc n) i e = go (p (f k)) refl (λ e′. mapped-found p f (suc k) n i e′)
+  where
+    go : (b : Bool) → p (f k) ≡ b → (first p (suc k) (map f (range (suc k) n)) ≡ some i → p (f i) ≡ true) → p (f i) ≡ true
+    go true t next =
+        let found : some k ≡ some i = rw t at e in
+        let q : k ≡ i = cc in
+        rw q at t
+    go false t next = next (rw t at e)
+
+found-below : (text : List ℕ) (names : Names) (b : ℕ) (bs : List ℕ) (i : ℕ) → length (names .lengths) ≡ 32
+    → first (same (b ∷ bs)) 0 (spelled text names) ≡ some i → i < 32
+unfolding spelled
+found-below text names b bs i size e = go (ltb i 32) refl
+  where
+    go : (c : Bool) → ltb i 32 ≡ c → i < 32
+    go true t = ltb-true i 32 t
+    go false t =
+        let past = name-past text names i size (ltb-false i 32 t) in
+        let is = mapped-found (same (b ∷ bs)) (λ j. nameAt text names j) 0 (names .count) i e in
+        absurd (false≢true (rw (← past) at is))
+
+pub place-fits : (text : List ℕ) (names : Names) (bs : List ℕ) → length (names .lengths) ≡ 32 → PlaceFits (declaredAt (spelled text names) bs)
+place-fits text names [] size = tt
+place-fits text names (b ∷ bs) size = go (first (same (b ∷ bs)) 0 (spelled text names)) refl
+  where
+    go : (o : Option ℕ) → first (same (b ∷ bs)) 0 (spelled text names) ≡ o → PlaceFits o
+    go none e = tt
+    go (some i) e = found-below text names b bs i size e
+
 -- a literal's spelling
 module _ (names : List (List ℕ)) (low high : ℕ) where
-  pub literal-empty : (xs : List ℕ) → length xs ≡ 0 → inSort low high 0 (declaredAt names xs) ≡ literal names low high xs
+  pub literal-empty : (xs : List ℕ) → length xs ≡ 0 → none ≡ literal names low high xs
   unfolding literal
   literal-empty [] h = refl
   literal-empty (x ∷ xs) h = absurd (omega arith)
@@ -101,7 +145,7 @@ sort-small low high sign (some i) s h = go (leb low i && ltb i high) refl
 
 pub literal-small : (names : List (List ℕ)) (low high : ℕ) (xs : List ℕ) → high ≤ 32 → CodeFits (literal names low high xs)
 unfolding literal
-literal-small names low high [] h = sort-small low high 0 (declaredAt names []) (omega arith) h
+literal-small names low high [] h = tt
 literal-small names low high (x ∷ xs) h = go (eqb x 45) refl
   where
     go : (b : Bool) → eqb x 45 ≡ b → CodeFits (cond b (inSort low high 1 (declaredAt names xs)) (inSort low high 0 (declaredAt names (x ∷ xs))))

@@ -44,7 +44,7 @@ pub(crate) fn is_letter(b: u8) -> bool
     97 <= b && b <= 122
 }
 
-pub(crate) fn is_digit(b: u8) -> bool
+pub fn is_digit(b: u8) -> bool
     ensures { λ r. ⌜ r ≡ isDigit b ⌝ }
 {
     48 <= b && b <= 57
@@ -64,7 +64,7 @@ pub(crate) fn is_name_byte(b: u8) -> bool
 }
 
 // The part of a text at a place, as far as the text goes.
-pub(crate) fn part(text: &[u8], start: usize, length: usize) -> &[u8]
+pub fn part(text: &[u8], start: usize, length: usize) -> &[u8]
     ensures { λ r. ⌜ now r ≡ take length (drop start (now (text .entry))) ⌝ }
 {
     let size = text.len();

@@ -3,11 +3,11 @@ use crate::bytes;
 use search::Found;
 ghost use mathlib.Core.Path.{_≡_};
 ghost use mathlib.Core.List.{[]};
-ghost use Prim.Native.Nat.{_≤_, _<_};
-ghost use lib.ListN.{length, getD, drop};
+ghost use Prim.Native.Nat.{_<_};
+ghost use lib.ListN.{getD, drop};
 ghost use Rattle.text.specs.Bytes.{same};
 ghost use Rattle.text.specs.Lines.{keys, keyNumber, firstLine};
-ghost use Rattle.text.specs.Parts.{keyIn, lineOf, LineFits};
+ghost use Rattle.text.specs.Internal.{keyIn, noLine, lineOf, LineFits};
 
 // The ten keys in the order of their numbers, 8 bytes each: the key's length, then its bytes.
 const KEYS: [u8; 80] = [
@@ -94,30 +94,30 @@ const KEYS: [u8; 80] = [
 ];
 
 // A key's number is its place in the table; NO_KEY stands for no key.
-pub(crate) const HORIZON: usize = 0;
+pub const HORIZON: usize = 0;
 
-pub(crate) const FLUENT: usize = 1;
+pub const FLUENT: usize = 1;
 
-pub(crate) const ACTION: usize = 2;
+pub const ACTION: usize = 2;
 
-pub(crate) const STATIC: usize = 3;
+pub const STATIC: usize = 3;
 
-pub(crate) const DYNAMIC: usize = 4;
+pub const DYNAMIC: usize = 4;
 
-pub(crate) const IF: usize = 5;
+pub const IF: usize = 5;
 
-pub(crate) const AFTER: usize = 6;
+pub const AFTER: usize = 6;
 
-pub(crate) const STATE: usize = 7;
+pub const STATE: usize = 7;
 
-pub(crate) const ACT: usize = 8;
+pub const ACT: usize = 8;
 
-pub(crate) const END: usize = 9;
+pub const END: usize = 9;
 
-pub(crate) const NO_KEY: usize = 10;
+pub const NO_KEY: usize = 10;
 
 // A line: its key's number (NO_KEY where the line or the key is lacking), where its value begins and ends, and where the next line begins.
-pub(crate) struct LineAt {
+pub struct LineAt {
     pub key: usize,
     pub from: usize,
     pub to: usize,
@@ -149,29 +149,31 @@ fn key_number(front: &[u8]) -> usize
     NO_KEY
 }
 
-// The line that begins at a place.
-pub(crate) fn line_at(text: &[u8], at: usize) -> LineAt
-    requires { ⌜ at ≤ length (now text) ⌝ }
+// No line.
+fn no_line(at: usize) -> LineAt
+    ensures { λ r. ⌜ r ≡ noLine at ⌝ }
+{
+    LineAt {
+        key: NO_KEY,
+        from: at,
+        to: at,
+        next: at,
+    }
+}
+
+// The line that begins at a place; behind the end of the text there is none.
+pub fn line_at(text: &[u8], at: usize) -> LineAt
     ensures { λ r. ⌜ lineOf (now (text .entry)) r ≡ firstLine (drop at (now (text .entry))) ⌝ }
     ensures { λ r. ⌜ LineFits (now (text .entry)) at r ⌝ }
 {
-    let rest = &text[at..];
+    let end = text.len();
+    let rest = bytes::part(text, at, end);
     let Found::At(size) = bytes::find(rest, 10) else {
-        return LineAt {
-            key: NO_KEY,
-            from: at,
-            to: at,
-            next: at,
-        };
+        return no_line(end);
     };
     let line = &rest[..size];
     let Found::At(equals) = bytes::find(line, 61) else {
-        return LineAt {
-            key: NO_KEY,
-            from: at,
-            to: at,
-            next: at,
-        };
+        return no_line(end);
     };
     LineAt {
         key: key_number(&line[..equals]),

@@ -2,17 +2,16 @@
 use crate::bytes;
 use search::Found;
 ghost use mathlib.Core.Path.{_≡_};
-ghost use mathlib.Core.List.{List, [], _∷_, _++_};
-ghost use Prim.Native.Nat.{ℕ, _+_, _≤_, _<_};
-ghost use lib.ListN.{getD, take, drop};
+ghost use mathlib.Core.List.{[]};
+ghost use Prim.Native.Nat.{_≤_};
+ghost use lib.ListN.{getD};
 ghost use Rattle.search.specs.Search.{all, placeOf};
 ghost use Rattle.text.specs.Bytes.{isNameByte, same};
-ghost use Rattle.text.specs.Names.{falseBytes, isName, declaredAt, inSort, literal};
-ghost use Rattle.text.specs.Descriptions.{isNew};
-ghost use Rattle.text.specs.Parts.{spelled};
+ghost use Rattle.text.specs.Names.{falseBytes, isName, isNew, declaredAt, inSort, literal};
+ghost use Rattle.text.specs.Internal.{nameAt, spelled, PlaceFits};
 
 // Where each declared name begins and how long it is, fluents first.
-pub(crate) struct Names {
+pub struct Names {
     pub starts: [usize; 32],
     pub lengths: [usize; 32],
     pub count: usize,
@@ -32,14 +31,14 @@ fn all_name_bytes(name: &[u8]) -> bool
     true
 }
 
-pub(crate) fn is_false(name: &[u8]) -> bool
+pub fn is_false(name: &[u8]) -> bool
     ensures { λ r. ⌜ r ≡ same (now (name .entry)) falseBytes ⌝ }
 {
     bytes::same(name, b"false")
 }
 
 // A letter, then up to 15 letters, digits or underscores; `false` is no name.
-pub(crate) fn is_name(name: &[u8]) -> bool
+fn is_name(name: &[u8]) -> bool
     ensures { λ r. ⌜ r ≡ isName (now (name .entry)) ⌝ }
 {
     if name.len() == 0 {
@@ -58,14 +57,26 @@ pub(crate) fn is_name(name: &[u8]) -> bool
     !is_false(name)
 }
 
-// The place of a name among those declared.
-pub(crate) fn find_name(text: &[u8], names: Names, name: &[u8]) -> Found
-    requires { ⌜ names .count ≤ 32 ⌝ }
+// The part of a text where the name at a place was declared. There are at most 32: behind them it is empty.
+fn name_at(text: &[u8], names: Names, i: usize) -> &[u8]
+    ensures { λ r. ⌜ now r ≡ nameAt (now (text .entry)) names i ⌝ }
+{
+    if 32 <= i {
+        return bytes::part(text, 0, 0);
+    }
+    bytes::part(text, names.starts[i], names.lengths[i])
+}
+
+// The place of a name among those declared; no bytes are no name.
+fn find_name(text: &[u8], names: Names, name: &[u8]) -> Found
     ensures { λ r. ⌜ placeOf r ≡ declaredAt (spelled (now (text .entry)) names) (now (name .entry)) ⌝ }
 {
+    if name.len() == 0 {
+        return Found::Nothing;
+    }
     let mut i = 0;
     while i < names.count {
-        let declared = bytes::part(text, names.starts[i], names.lengths[i]);
+        let declared = name_at(text, names, i);
         if bytes::same(name, declared) {
             return Found::At(i);
         }
@@ -75,8 +86,7 @@ pub(crate) fn find_name(text: &[u8], names: Names, name: &[u8]) -> Found
 }
 
 // Whether some bytes are a name that is not declared yet.
-pub(crate) fn is_new(text: &[u8], names: Names, name: &[u8]) -> bool
-    requires { ⌜ names .count ≤ 32 ⌝ }
+pub fn is_new(text: &[u8], names: Names, name: &[u8]) -> bool
     ensures { λ r. ⌜ r ≡ isNew (spelled (now (text .entry)) names) (now (name .entry)) ⌝ }
 {
     if !is_name(name) {
@@ -88,27 +98,9 @@ pub(crate) fn is_new(text: &[u8], names: Names, name: &[u8]) -> bool
     true
 }
 
-// The names and one more, at a place of the text.
-pub(crate) fn with_name(names: Names, start: usize, length: usize) -> Names
-    requires { ⌜ names .count < 32 ⌝ }
-    ensures { λ r. ⌜ r .count ≡ names .count + 1 ⌝ }
-    ensures { λ r. ⌜ ((text : List ℕ) → spelled text r ≡ spelled text names ++ (take length (drop start text) ∷ [])) ⌝ }
-{
-    let count = names.count;
-    let mut starts = names.starts;
-    let mut lengths = names.lengths;
-    starts[count] = start;
-    lengths[count] = length;
-    Names {
-        starts,
-        lengths,
-        count: count + 1,
-    }
-}
-
 // The code of a name's literal if the name is of the allowed sort: from place low up to, not including, place high.
 fn in_sort(place: Found, low: usize, high: usize, sign: usize) -> Found
-    requires { ⌜ (high ≤ 32) × (sign ≤ 1) ⌝ }
+    requires { ⌜ PlaceFits (placeOf place) × (sign ≤ 1) ⌝ }
     ensures { λ r. ⌜ placeOf r ≡ inSort low high sign (placeOf place) ⌝ }
 {
     let Found::At(i) = place else {
@@ -124,12 +116,11 @@ fn in_sort(place: Found, low: usize, high: usize, sign: usize) -> Found
 }
 
 // The code of a literal of the allowed sort: a name, or a hyphen and a name.
-pub(crate) fn literal(text: &[u8], names: Names, item: &[u8], low: usize, high: usize) -> Found
-    requires { ⌜ (names .count ≤ 32) × (high ≤ 32) ⌝ }
+pub fn literal(text: &[u8], names: Names, item: &[u8], low: usize, high: usize) -> Found
     ensures { λ r. ⌜ placeOf r ≡ literal (spelled (now (text .entry)) names) low high (now (item .entry)) ⌝ }
 {
     if item.len() == 0 {
-        return in_sort(find_name(text, names, item), low, high, 0);
+        return Found::Nothing;
     }
     let b = item[0];
     if b == 45 {
@@ -139,12 +130,11 @@ pub(crate) fn literal(text: &[u8], names: Names, item: &[u8], low: usize, high: 
 }
 
 // The part of the text where the name at a place was declared, empty behind the last.
-pub(crate) fn declared(text: &[u8], names: Names, i: usize) -> &[u8]
-    requires { ⌜ names .count ≤ 32 ⌝ }
+pub fn declared(text: &[u8], names: Names, i: usize) -> &[u8]
     ensures { λ r. ⌜ now r ≡ getD (spelled (now (text .entry)) names) i [] ⌝ }
 {
     if names.count <= i {
         return bytes::part(text, 0, 0);
     }
-    bytes::part(text, names.starts[i], names.lengths[i])
+    name_at(text, names, i)
 }

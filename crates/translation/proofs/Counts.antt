@@ -6,7 +6,6 @@ use Prim.Native.Nat.{ℕ, zero, suc, _+_, _*_}
 use native.Mathlib.Nat.{zero-mul, one-mul, suc-mul, add-mul, add-zero, zero-add}
 use native.Mathlib.Omega.{arith}
 use lib.ListN.{length, length-append, length-map}
-use Rattle.answer_sets.specs.Literals.{complement}
 use Rattle.answer_sets.specs.Rules.{Rule}
 use Rattle.answer_sets.specs.Words.{ruleWords, words}
 use Rattle.search.specs.Search.{range}
@@ -15,7 +14,7 @@ use Rattle.description.specs.declared.Kind.{Kind}
 use Rattle.description.specs.declared.Kind.the-variants.{Static, Dynamic}
 use Rattle.description.specs.declared.Law.{Law}
 use Rattle.description.specs.Laws.{ifList, afterList}
-use Rattle.translation.specs.Rules.{atTime, staticRule, dynamicRule, staticRules, dynamicRules, perLaw}
+use Rattle.translation.specs.Rules.{complement, atTime, staticRule, dynamicRule, staticRules, dynamicRules, perLaw}
 use Rattle.translation.specs.Rules.{choices, actionAtoms, choiceAtoms, translation}
 
 -- Words of rules
@@ -133,15 +132,6 @@ rule-count n m T ls =
       length-choices (choiceAtoms n m T),
       length-choiceAtoms n m T,
     )
-
--- each law is static or dynamic
-pub statics-dynamics : (ls : List Law) → statics ls + dynamics ls ≡ length ls
-statics-dynamics [] = refl
-statics-dynamics (l ∷ ls) = omega (arith, one (l .kind), statics-dynamics ls)
-  where
-    one : (k : Kind) → staticOf k + dynamicOf k ≡ 1
-    one Static = refl
-    one Dynamic = refl
 
 -- Words
 

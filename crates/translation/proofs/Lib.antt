@@ -1,9 +1,6 @@
--- Laws of the translation for an open horizon, what its writers cite, and its worked examples.
+-- What the functions' proofs cite: the translation's counts for an open horizon, what its writers store, its outcomes.
 pub mod Counts
-pub mod RuleByRule
-pub mod Bounds
 pub mod Sums
 pub mod Writing
 pub mod Turns
 pub mod Outcomes
-pub mod Examples

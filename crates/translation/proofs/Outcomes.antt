@@ -9,15 +9,16 @@ use native.Mathlib.Omega.{arith}
 use borrow.Author.Tests.{ltb-false, le-ltb, lt-ltb}
 use lib.Dec.{ltb}
 use lib.ListN.{length}
+use Rattle.search.specs.Replies.{Reply, refused, answered, orRefuse}
 use Rattle.description.specs.declared.Law.{Law}
 use Rattle.description.specs.declared.Description.{Description}
 use Rattle.description.specs.Atoms.{atomCount}
 use Rattle.description.specs.Acceptance.{badRecord, badHorizon}
 use Rattle.description.proofs.Laws.{accepted-counts, accepted-horizon}
-use Rattle.translation.specs.Translated.{Outcome, refused, written, orRefuse, tooShort, rulesFor, tableFor, outcome, overwritten, tableAfter}
+use Rattle.translation.specs.Translated.{Written, written, tooShort, rulesFor, tableFor, outcome, overwritten, tableAfter}
 
 -- no refusal was made where the end is no refusal
-passed : (o : Option ℕ) (number : ℕ) (next : Outcome) {a r w : ℕ} → orRefuse o number next ≡ written a r w → (o ≡ none) × (next ≡ written a r w)
+passed : (o : Option ℕ) (number : ℕ) (next : Reply Written) {w : Written} → orRefuse o number next ≡ answered w → (o ≡ none) × (next ≡ answered w)
 passed none number next e = (refl, e)
 passed (some place) number next e = absurd (let z : _≡_ {A = ℕ} 0 1 = cc in omega arith)
 
@@ -36,7 +37,7 @@ pub record Accepted (d : Description) (ls : List Law) (lent room a r w : ℕ) : 
   pub rules : r ≡ length (rulesFor d ls)
   pub words : w ≡ length (tableFor d ls)
 
-pub written-accepted : (d : Description) (ls : List Law) (lent room : ℕ) {a r w : ℕ} → outcome d ls lent room ≡ written a r w
+pub written-accepted : (d : Description) (ls : List Law) (lent room : ℕ) {a r w : ℕ} → outcome d ls lent room ≡ answered (written a r w)
     → Accepted d ls lent room a r w
 unfolding outcome
 written-accepted d ls lent room e =
@@ -52,16 +53,16 @@ written-accepted d ls lent room e =
       words = sym (ap wordsIn (p₃ .1));
     }
   where
-    atomsIn : Outcome → ℕ
-    atomsIn (written a r w) = a
+    atomsIn : Reply Written → ℕ
+    atomsIn (answered (written a r w)) = a
     atomsIn (refused k p) = 0
 
-    rulesIn : Outcome → ℕ
-    rulesIn (written a r w) = r
+    rulesIn : Reply Written → ℕ
+    rulesIn (answered (written a r w)) = r
     rulesIn (refused k p) = 0
 
-    wordsIn : Outcome → ℕ
-    wordsIn (written a r w) = w
+    wordsIn : Reply Written → ℕ
+    wordsIn (answered (written a r w)) = w
     wordsIn (refused k p) = 0
 
 -- what each outcome leaves in the table
@@ -70,13 +71,13 @@ pub refused-left : (d : Description) (ls : List Law) (lent : ℕ) (table : List 
 unfolding tableAfter
 refused-left d ls lent table e = rw e
 
-pub written-left : (d : Description) (ls : List Law) (lent : ℕ) (table : List ℕ) {a r w : ℕ} → outcome d ls lent (length table) ≡ written a r w
+pub written-left : (d : Description) (ls : List Law) (lent : ℕ) (table : List ℕ) {a r w : ℕ} → outcome d ls lent (length table) ≡ answered (written a r w)
     → overwritten (tableFor d ls) table ≡ tableAfter d ls lent table
 unfolding tableAfter
 written-left d ls lent table e = rw e
 
 -- the limits of a description whose translation is written
-pub written-limits : (d : Description) (ls : List Law) (lent room : ℕ) {a r w : ℕ} → outcome d ls lent room ≡ written a r w
+pub written-limits : (d : Description) (ls : List Law) (lent room : ℕ) {a r w : ℕ} → outcome d ls lent room ≡ answered (written a r w)
     → (d .fluents ≤ 24) × (d .actions ≤ 8) × (d .laws ≤ 64) × (d .horizon ≤ 30)
 written-limits d ls lent room e =
     let a = written-accepted d ls lent room e in
@@ -86,7 +87,8 @@ written-limits d ls lent room e =
 -- and the other way: an accepted description with room enough is written
 pub accepted-written : (d : Description) (ls : List Law) (lent room : ℕ) → badRecord d ls lent ≡ none → badHorizon (d .horizon) ≡ none
     → length (tableFor d ls) ≤ room
-    → outcome d ls lent room ≡ written (atomCount (d .fluents) (d .actions) (d .horizon)) (length (rulesFor d ls)) (length (tableFor d ls))
+    → outcome d ls lent room
+    ≡ answered (written (atomCount (d .fluents) (d .actions) (d .horizon)) (length (rulesFor d ls)) (length (tableFor d ls)))
 unfolding outcome
 accepted-written d ls lent room taken horizon enough = rw (taken, horizon, le-ltb room (length (tableFor d ls)) enough)
 

@@ -1,4 +1,3 @@
 -- What the translation's promise means. Read in this order.
 pub mod Rules
 pub mod Translated
-pub mod Examples

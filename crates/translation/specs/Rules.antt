@@ -1,8 +1,9 @@
 -- The published translation (000, section 4) as a list of rules, in 01's order, over n fluents, m actions and horizon T.
 -- Assumes nothing.
+use mathlib.Core.Bool.{cond}
 use mathlib.Core.List.{List, [], _∷_, _++_, map}
-use Prim.Native.Nat.{ℕ, zero, suc, _+_, _*_}
-use Rattle.answer_sets.specs.Literals.{complement}
+use Prim.Native.Nat.{ℕ, zero, suc, _+_, _-_, _*_, _%_}
+use lib.Dec.{eqb}
 use Rattle.answer_sets.specs.Rules.{Head, lit, falsum, Rule}
 use Rattle.search.specs.Search.{range}
 use Rattle.description.specs.declared.Head as described
@@ -21,6 +22,10 @@ atTime N t c = 2 * (t * N) + c
 abbrev pub headAt : ℕ → ℕ → described.Head → Head
 headAt N t (Lit c) = lit (atTime N t c)
 headAt N t False = falsum
+
+-- the literal complementary to c
+unfoldable pub complement : ℕ → ℕ
+complement c = cond (eqb (c % 2) 0) (c + 1) (c - 1)
 
 -- the complements of a list's literals at time t
 abbrev pub complementsAt : ℕ → ℕ → List ℕ → List ℕ

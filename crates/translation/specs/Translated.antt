@@ -6,6 +6,7 @@ use mathlib.Core.Option.{Option, none, some}
 use Prim.Native.Nat.{ℕ}
 use lib.Dec.{ltb}
 use lib.ListN.{length, drop}
+use Rattle.search.specs.Replies.{Reply, refused, answered, orRefuse, leftAfter}
 use Rattle.answer_sets.specs.Rules.{Rule}
 use Rattle.answer_sets.specs.Words.{words}
 use Rattle.description.specs.declared.Law.{Law}
@@ -15,17 +16,16 @@ use Rattle.description.specs.Atoms.{atomCount}
 use Rattle.description.specs.Acceptance.{badRecord, badHorizon}
 use Rattle.translation.specs.Rules.{translation}
 use Rattle.translation.specs.declared.Translated.{Translated}
-use Rattle.translation.specs.declared.Translated.the-variants.{Refused, Written}
+use Rattle.translation.specs.declared.Translated.the-variants as answers
 
--- a refusal's number and place, or the counts of atoms, rules and words written
-pub data Outcome : Type 0 where
-  refused : ℕ → ℕ → Outcome
-  written : ℕ → ℕ → ℕ → Outcome
+-- how many atoms, rules and words were written
+pub data Written : Type 0 where
+  written : ℕ → ℕ → ℕ → Written
 
 -- the number and the values that each case of the code's answer stands for
-abbrev pub outcomeOf : Translated → Outcome
-outcomeOf (Refused number place) = refused number place
-outcomeOf (Written atoms rules words) = written atoms rules words
+abbrev pub outcomeOf : Translated → Reply Written
+outcomeOf (answers.Refused number place) = refused number place
+outcomeOf (answers.Written atoms rules words) = answered (written atoms rules words)
 
 -- the rules of a description
 abbrev pub rulesFor : Description → List Law → List Rule
@@ -38,26 +38,18 @@ tableFor d ls = words (rulesFor d ls)
 abbrev pub tooShort : ℕ → ℕ → Option ℕ
 tooShort needed room = cond (ltb room needed) (some needed) none
 
-abbrev pub orRefuse : Option ℕ → ℕ → Outcome → Outcome
-orRefuse (some place) number next = refused number place
-orRefuse none number next = next
-
 -- the answer for laws of which some number is lent, and a table of some room
-unfoldable pub outcome : Description → List Law → ℕ → ℕ → Outcome
+unfoldable pub outcome : Description → List Law → ℕ → ℕ → Reply Written
 outcome d ls lent room =
     orRefuse (badRecord d ls lent) 8
     (orRefuse (badHorizon (d .horizon)) 3
     (orRefuse (tooShort (length (tableFor d ls)) room) 9
-    (written (atomCount (d .fluents) (d .actions) (d .horizon)) (length (rulesFor d ls)) (length (tableFor d ls)))))
+    (answered (written (atomCount (d .fluents) (d .actions) (d .horizon)) (length (rulesFor d ls)) (length (tableFor d ls))))))
 
 -- a table with these words in front, and what stood there before behind them
 abbrev pub overwritten : List ℕ → List ℕ → List ℕ
 overwritten ws table = ws ++ drop (length ws) table
 
--- what the table holds after an outcome
-abbrev pub leftIn : Outcome → List ℕ → List ℕ → List ℕ
-leftIn (refused number place) ws table = table
-leftIn (written atoms rules count) ws table = overwritten ws table
-
+-- what the table holds afterwards
 unfoldable pub tableAfter : Description → List Law → ℕ → List ℕ → List ℕ
-tableAfter d ls lent table = leftIn (outcome d ls lent (length table)) (tableFor d ls) table
+tableAfter d ls lent table = leftAfter (outcome d ls lent (length table)) (λ counts. overwritten (tableFor d ls) table) table

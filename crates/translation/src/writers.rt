@@ -11,12 +11,11 @@ ghost use mathlib.Core.List.{[], _∷_, map};
 ghost use Prim.Native.Nat.{_+_, _*_, _<_, _≤_};
 ghost use lib.ListN.{length, take};
 ghost use lib.Seq.{sets};
-ghost use Rattle.answer_sets.specs.Literals.{complement};
 ghost use Rattle.answer_sets.specs.Rules.{lit};
 ghost use Rattle.search.specs.Search.{range};
 ghost use Rattle.answer_sets.specs.Words.{headWord, ruleWords, words};
 ghost use Rattle.description.specs.Laws.{ifList};
-ghost use Rattle.translation.specs.Rules.{headAt, complementsAt, literalsAt, staticRule, dynamicRule, staticRules, dynamicRules, perLaw, choices, actionAtoms};
+ghost use Rattle.translation.specs.Rules.{complement, headAt, complementsAt, literalsAt, staticRule, dynamicRule, staticRules, dynamicRules, perLaw, choices, actionAtoms};
 ghost use Rattle.translation.specs.Translated.{tableFor, overwritten};
 
 // What is added to a literal's code for time t, over n fluents and actions.

@@ -4,10 +4,22 @@ use crate::reading::causal::Causal;
 use crate::reading::engine::Verdict;
 use crate::reading::Refusal;
 
+/// Codes up to this one are refusals by that number; every other answer has a code above it.
+pub const LAST_REFUSAL: u8 = 63;
+/// Codes of the verdicts on a set, the history check's `missing` among them.
+pub const PASSES: u8 = 64;
+pub const CLASH: u8 = 65;
+pub const BROKEN: u8 = 66;
+pub const UNFOUNDED: u8 = 67;
+pub const MISSING: u8 = 68;
+/// Codes of the causal reading's verdicts.
+pub const PATH: u8 = 80;
+pub const CONTRADICTED: u8 = 81;
+pub const UNCAUSED: u8 = 82;
 /// Code of a table written by the translation.
-pub const WRITTEN: u8 = 48;
+pub const WRITTEN: u8 = 96;
 /// Code of a history read into its values.
-pub const READ: u8 = 64;
+pub const READ: u8 = 112;
 
 /// An answer taken apart: the number is the code plus 256 times the value.
 #[derive(Clone, Copy, Debug, PartialEq, Eq)]
@@ -53,11 +65,11 @@ impl From<Refusal> for Answer {
 impl From<Verdict> for Answer {
     fn from(verdict: Verdict) -> Self {
         match verdict {
-            Verdict::Passes => Answer::new(16, 0),
-            Verdict::Clash(atom) => Answer::new(17, atom),
-            Verdict::Broken(rule) => Answer::new(18, rule),
-            Verdict::Unfounded(code) => Answer::new(19, code),
-            Verdict::Missing(atom) => Answer::new(20, atom),
+            Verdict::Passes => Answer::new(PASSES, 0),
+            Verdict::Clash(atom) => Answer::new(CLASH, atom),
+            Verdict::Broken(rule) => Answer::new(BROKEN, rule),
+            Verdict::Unfounded(code) => Answer::new(UNFOUNDED, code),
+            Verdict::Missing(atom) => Answer::new(MISSING, atom),
         }
     }
 }
@@ -65,9 +77,9 @@ impl From<Verdict> for Answer {
 impl From<Causal> for Answer {
     fn from(causal: Causal) -> Self {
         match causal {
-            Causal::Path => Answer::new(32, 0),
-            Causal::Contradicted { time, law } => Answer::new(33, 65_536 * time + law),
-            Causal::Uncaused { time, fluent } => Answer::new(34, 65_536 * time + fluent),
+            Causal::Path => Answer::new(PATH, 0),
+            Causal::Contradicted { time, law } => Answer::new(CONTRADICTED, 65_536 * time + law),
+            Causal::Uncaused { time, fluent } => Answer::new(UNCAUSED, 65_536 * time + fluent),
         }
     }
 }
@@ -75,15 +87,15 @@ impl From<Causal> for Answer {
 /// What a code means, for the printed tally.
 pub fn meaning(code: u8) -> &'static str {
     match code {
-        1..=12 => "refused",
-        16 => "passes",
-        17 => "clash",
-        18 => "broken",
-        19 => "unfounded",
-        20 => "missing",
-        32 => "path",
-        33 => "contradicted",
-        34 => "uncaused",
+        1..=LAST_REFUSAL => "refused",
+        PASSES => "passes",
+        CLASH => "clash",
+        BROKEN => "broken",
+        UNFOUNDED => "unfounded",
+        MISSING => "missing",
+        PATH => "path",
+        CONTRADICTED => "contradicted",
+        UNCAUSED => "uncaused",
         WRITTEN => "written",
         READ => "read",
         _ => "unknown",

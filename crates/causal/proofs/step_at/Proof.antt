@@ -3,7 +3,7 @@
 use mathlib.Core.Path.{_∙_, ap}
 use lib.ListN.{take}
 use borrow.Author.Needs.{needs}
-use Rattle.causal.specs.Readings.{judged}
+use Rattle.search.specs.Replies.{answered}
 use Rattle.causal.proofs.States.{part, step-parts}
 use Rattle.causal.proofs.step_at.Statement.{statement}
 use Rattle.causal.proofs.step_at.Tie as tie
@@ -57,7 +57,7 @@ returns : tie.Need-returns
 unfolding part
 returns c =
     let a = c .before .before .before .before .before .args in
-    c .step-fault .ensures ∙ ap judged (step-parts (a .n) (a .m) (a .values .now) (a .t) (take (a .count) (a .laws)))
+    c .step-fault .ensures ∙ ap answered (step-parts (a .n) (a .m) (a .values .now) (a .t) (take (a .count) (a .laws)))
 
 pub step-at-spec : {M : Type 1} → statement M
 step-at-spec =

@@ -8,7 +8,7 @@ use borrow.Author.Needs.{needs}
 use lib.ListN.{length, take}
 use Rattle.description.specs.Atoms.{atomCount}
 use Rattle.causal.specs.Verdicts.{stepsFrom}
-use Rattle.causal.specs.Readings.{judged}
+use Rattle.search.specs.Replies.{answered}
 use Rattle.causal.proofs.Faults.{steps-stop, steps-go, steps-done}
 use Rattle.causal.proofs.States.{step-within}
 use Rattle.causal.proofs.steps.Statement.{statement}
@@ -56,7 +56,7 @@ loop-again c =
     )
 
 returns-2 : tie.Need-returns-2 Inv-loop μ-loop
-returns-2 c = ap judged (steps-done _ _ _ (c .before .before .before .args .values .now) (c .before .loop .t) _ (c .loop-test .left) (c .before .loop .inv .2))
+returns-2 c = ap answered (steps-done _ _ _ (c .before .before .before .args .values .now) (c .before .loop .t) _ (c .loop-test .left) (c .before .loop .inv .2))
 
 pub steps-spec : {M : Type 1} → statement M
 steps-spec =

@@ -2,11 +2,8 @@
 -- Assumes nothing.
 use mathlib.Core.List.{List}
 use Prim.Native.Nat.{ℕ}
-use lib.Dec.{eqb}
 use lib.ListN.{take, length-take}
-use Rattle.search.specs.Search.{first}
-use Rattle.answer_sets.specs.Answers.{answer}
-use Rattle.history.specs.Checks.{orMissing, ofEngine}
+use Rattle.history.specs.Checks.{finding}
 use mathlib.Core.Path.{sym, ap, _∙_}
 use native.Mathlib.Omega.{arith}
 use Rattle.search.proofs.Loops.{at-place, no-place}
@@ -104,7 +101,7 @@ returns-4 c =
     let left = c4 .translate .ensures .1 ∙ sym (written-left _ _ _ table e) in
     let front = ap (take (c11 .measured2 .given .0 .1 .1 .0)) left ∙ words-front _ table _ (written-accepted _ _ _ _ e .words) in (
       says-verdict _ _ _ vs table e size small _
-          (c .judge .ensures ∙ ap (λ (ws : List ℕ). orMissing (first (eqb 0) 0 vs) (ofEngine (answer vs ws))) front),
+          (c .judge .ensures ∙ ap (finding vs) front),
       left ∙ leaves-table _ _ _ vs table e size small,
     )
 

@@ -3,8 +3,8 @@
 use mathlib.Core.Path.{sym, ap, _∙_}
 use native.Mathlib.Omega.{arith}
 use lib.ListN.{length-take, replicate}
-use Rattle.text.specs.Histories.{historyReplyOf}
-use Rattle.huntyghai.specs.Codes.{readingCode}
+use Rattle.history_reader.specs.Histories.{historyReplyOf}
+use Rattle.huntyghai.specs.Codes.{replyCode, causalCode}
 use Rattle.huntyghai.proofs.Texts.{reading-refused, reading-read}
 use borrow.Author.Needs.{needs}
 use Rattle.huntyghai.proofs.huntyghai_causal_reading.Statement.{statement}
@@ -51,7 +51,7 @@ returns-2 c =
     let input = i .before .before .args .input .now in
     let e = i .read-input .ensures in
     c .of-reading .ensures
-    ∙ ap readingCode (cr .causal-reading .ensures)
+    ∙ ap (replyCode causalCode) (cr .causal-reading .ensures)
     ∙ reading-read input (replicate (i .read-input .result .atoms) 0) (e .1 .0) (e .1 .1 .0) (e .1 .1 .1 .1 .0) (sym (ap historyReplyOf (told .enum-told .given .1)) ∙ e .0)
 
 pub huntyghai-causal-reading-spec : {M : Type 1} → statement M

@@ -2,9 +2,9 @@
 -- Assumes nothing.
 use mathlib.Core.Path.{sym, ap, _∙_}
 use lib.ListN.{length}
-use Rattle.text.specs.Answers.{replyOf}
-use Rattle.huntyghai.specs.Codes.{checkedCode}
-use Rattle.huntyghai.proofs.Texts.{check-turned, check-table-turned, check-read, check-table-read}
+use Rattle.description_reader.specs.Answers.{replyOf}
+use Rattle.huntyghai.specs.Codes.{replyCode, findingCode}
+use Rattle.huntyghai.proofs.Texts.{check-refused, check-table-refused, check-read, check-table-read}
 use borrow.Author.Needs.{needs}
 use Rattle.huntyghai.proofs.huntyghai_check_history.Statement.{statement}
 use Rattle.huntyghai.proofs.huntyghai_check_history.Tie as tie
@@ -37,7 +37,7 @@ returns c =
     let a = rd .before .before .before .before .before .args in
     let text = a .text .now in
     let e = sym (rd .read-run .ensures .0) ∙ ap replyOf (told .answer .given .1) in
-    (c .number .ensures ∙ check-turned text e (a .values .now) (length (a .table .now)), check-table-turned text e (a .values .now) (a .table .now))
+    (c .number .ensures ∙ check-refused text e (a .values .now) (length (a .table .now)), check-table-refused text e (a .values .now) (a .table .now))
 
 same-length : tie.Need-same-length
 same-length c = search needs
@@ -53,7 +53,7 @@ returns-2 c =
     let e = sym (rd .read-run .ensures .0) ∙ ap replyOf (told .answer2 .given .1) in
     let dis = rd .read-run .ensures .1 .0 in
     let lis = rd .read-run .ensures .1 .1 in (
-      c .of-checked .ensures ∙ ap checkedCode (t .check-history .ensures .0) ∙ check-read text old e dis lis (a .values .now) (length (a .table .now)),
+      c .of-checked .ensures ∙ ap (replyCode findingCode) (t .check-history .ensures .0) ∙ check-read text old e dis lis (a .values .now) (length (a .table .now)),
       t .check-history .ensures .1 ∙ check-table-read text old e dis lis (a .values .now) (a .table .now),
     )
 

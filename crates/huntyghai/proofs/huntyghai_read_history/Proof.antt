@@ -1,7 +1,7 @@
 -- `huntyghai_read_history` meets its contract.
 -- Assumes nothing.
 use mathlib.Core.Path.{_∙_, ap}
-use Rattle.huntyghai.specs.Codes.{historyCode}
+use Rattle.huntyghai.specs.Codes.{replyCode, readCode}
 use borrow.Author.Needs.{needs}
 use Rattle.huntyghai.proofs.huntyghai_read_history.Statement.{statement}
 use Rattle.huntyghai.proofs.huntyghai_read_history.Tie as tie
@@ -18,7 +18,7 @@ same-length c = search needs
 returns : tie.Need-returns
 returns c =
     let rh = c .before .before .before .read-history in
-    (c .of-history .ensures ∙ ap historyCode (rh .ensures .0), rh .ensures .1)
+    (c .of-history .ensures ∙ ap (replyCode readCode) (rh .ensures .0), rh .ensures .1)
 
 pub huntyghai-read-history-spec : {M : Type 1} → statement M
 huntyghai-read-history-spec =

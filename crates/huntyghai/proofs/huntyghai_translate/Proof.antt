@@ -2,9 +2,9 @@
 -- Assumes nothing.
 use mathlib.Core.Path.{sym, ap, _∙_}
 use lib.ListN.{length}
-use Rattle.text.specs.Answers.{replyOf}
-use Rattle.huntyghai.specs.Codes.{outcomeCode}
-use Rattle.huntyghai.proofs.Texts.{translate-turned, table-turned, translate-read, table-read}
+use Rattle.description_reader.specs.Answers.{replyOf}
+use Rattle.huntyghai.specs.Codes.{replyCode, writtenCode}
+use Rattle.huntyghai.proofs.Texts.{translate-refused, table-refused, translate-read, table-read}
 use borrow.Author.Needs.{needs}
 use Rattle.huntyghai.proofs.huntyghai_translate.Statement.{statement}
 use Rattle.huntyghai.proofs.huntyghai_translate.Tie as tie
@@ -37,7 +37,7 @@ returns c =
     let a = rd .before .before .before .before .args in
     let text = a .text .now in
     let e = sym (rd .read-run .ensures .0) ∙ ap replyOf (told .answer .given .1) in
-    (c .number .ensures ∙ translate-turned text e (length (a .table .now)), table-turned text e (a .table .now))
+    (c .number .ensures ∙ translate-refused text e (length (a .table .now)), table-refused text e (a .table .now))
 
 same-length : tie.Need-same-length
 same-length c = search needs
@@ -53,7 +53,7 @@ returns-2 c =
     let e = sym (rd .read-run .ensures .0) ∙ ap replyOf (told .answer2 .given .1) in
     let dis = rd .read-run .ensures .1 .0 in
     let lis = rd .read-run .ensures .1 .1 in (
-      c .of-translated .ensures ∙ ap outcomeCode (t .translate .ensures .0) ∙ translate-read text old e dis lis (length (a .table .now)),
+      c .of-translated .ensures ∙ ap (replyCode writtenCode) (t .translate .ensures .0) ∙ translate-read text old e dis lis (length (a .table .now)),
       t .translate .ensures .1 ∙ table-read text old e dis lis (a .table .now),
     )
 

@@ -7,10 +7,10 @@ use native.Mathlib.Omega.{arith}
 use lib.ListN.{length, take, drop, length-take, length-drop, length-append}
 use Rattle.description.specs.declared.Description.{Description}
 use Rattle.description.specs.Atoms.{atomCount}
-use Rattle.text.specs.Descriptions.{described}
-use Rattle.text.specs.Answers.{replyOf, recordOf, lawsLeft}
-use Rattle.text.specs.Histories.{historyReplyOf, historyReplied}
-use Rattle.inputs.proofs.Known.{known, limits, low-place, turned-down, recorded-turned, says-rejected, says-complete, values-read}
+use Rattle.description_reader.specs.Descriptions.{described}
+use Rattle.description_reader.specs.Answers.{replyOf, recordOf, lawsLeft}
+use Rattle.history_reader.specs.Histories.{historyReplyOf, historyReplied}
+use Rattle.inputs.proofs.Known.{known, limits, low-place, description-refused, recorded-refused, says-refused, says-read, values-read}
 use borrow.Author.Needs.{needs}
 use Rattle.inputs.proofs.read_input.Statement.{statement}
 use Rattle.inputs.proofs.read_input.Tie as tie
@@ -104,8 +104,8 @@ returns c =
     let v = n .before .before in
     let rd = v .before .before .before .before in
     let input = rd .before .before .before .args .input .now in
-    let is = turned-down input (sym (rd .read-run .ensures .0) ∙ ap replyOf (n .answer .given .1)) in (
-      sym (ap historyReplied (recorded-turned input is)),
+    let is = description-refused input (sym (rd .read-run .ensures .0) ∙ ap replyOf (n .answer .given .1)) in (
+      sym (ap historyReplied (recorded-refused input is)),
       (
         rd .read-run .ensures .1 .0,
         (
@@ -113,7 +113,7 @@ returns c =
           (
             rw is refl,
             (
-              rw (recorded-turned input is) refl,
+              rw (recorded-refused input is) refl,
               (
                 v .no-values .ensures,
                 (omega arith, ap length (v .no-values .ensures)),
@@ -145,7 +145,7 @@ returns-2 c =
     let whole : length last ≡ m = omega (arith, rh .read-history .kept .1 .1 .0, size) in
     let filled : length (last ++ drop m zs) ≡ 1024 = omega (arith, length-append last (drop m zs), length-drop m zs, whole, few, ap length (v .no-values .ensures)) in
     let vs = values-read input k (k .part) enough m zs last few (v .no-values .ensures) whole (rh .read-history .ensures .1) in
-    let is = says-rejected input k (k .part) enough (sym (ap historyReplyOf (said .said .given .1)) ∙ rh .read-history .ensures .0) in (
+    let is = says-refused input k (k .part) enough (sym (ap historyReplyOf (said .said .given .1)) ∙ rh .read-history .ensures .0) in (
       rw (c .moved-up .ensures) is,
       (
         rd .read-run .ensures .1 .0,
@@ -179,7 +179,7 @@ returns-3 c =
     let whole : length last ≡ m = omega (arith, rh .read-history .kept .1 .1 .0, size) in
     let filled : length (last ++ drop m zs) ≡ 1024 = omega (arith, length-append last (drop m zs), length-drop m zs, whole, few, ap length (v .no-values .ensures)) in
     let vs = values-read input k (k .part) enough m zs last few (v .no-values .ensures) whole (rh .read-history .ensures .1) in (
-      says-complete input k (k .part) enough (sym (ap historyReplyOf (c .enum-told .given .1)) ∙ rh .read-history .ensures .0),
+      says-read input k (k .part) enough (sym (ap historyReplyOf (c .enum-told .given .1)) ∙ rh .read-history .ensures .0),
       (
         rd .read-run .ensures .1 .0,
         (

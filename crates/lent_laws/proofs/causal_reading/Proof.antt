@@ -48,14 +48,14 @@ use Rattle.causal.proofs.causal_reading as core
 use Rattle.causal.proofs.causal_reading.Symbol as core-def
 use Rattle.causal.proofs.causal_reading.Symbol.{name as #core}
 use Rattle.causal.proofs.causal_reading.Met as core-thm
-use Rattle.lent_laws.specs.Gathered.{gathered}
+use Rattle.law_runs.specs.Internal.{gathered}
 use Rattle.lent_laws.proofs.Agreement.{same-reading, path-exactly}
-use Rattle.lent_laws.proofs.Walking.{walk-shows}
-use Rattle.lent_laws.proofs.Answers.{answers, says-both, ends-saying}
+use Rattle.law_runs.proofs.Walking.{walk-shows}
+use Rattle.law_runs.proofs.Answers.{answers, says-both, ends-saying}
 use Rattle.lent_laws.proofs.Gathering.{parted, rejoined, Gather, goes-on, gathers}
-use Rattle.lent_laws.proofs.gather.Symbol as gather-def
-use Rattle.lent_laws.proofs.gather.Symbol.{name as #gather}
-use Rattle.lent_laws.proofs.gather.Met as gather-thm
+use Rattle.law_runs.proofs.gather.Symbol as gather-def
+use Rattle.law_runs.proofs.gather.Symbol.{name as #gather}
+use Rattle.law_runs.proofs.gather.Met as gather-thm
 use Rattle.lent_laws.proofs.causal_reading.Key.{name as #self}
 use Rattle.lent_laws.proofs.causal_reading as self
 use Rattle.lent_laws.proofs.causal_reading.Statement as stated
@@ -161,5 +161,5 @@ causal-reading-spec 𝓤 H 𝓜 𝓖 𝓡 =
     entered 𝓤 H (tripleOf 𝓤 H (𝓖 .A) self.signature (self.spec 𝓤 H (𝓖 .A) (𝓜 .mem) (𝓡 .run)))
     (tables 𝓤 H 𝓜 𝓡 code.env .C) (tables 𝓤 H 𝓜 𝓡 code.env .Λ) #self code.function (code.unfolded 𝓤 H 𝓜 𝓡)
     (meets 𝓤 H (𝓖 .A) (givenOf 𝓤 H 𝓜 𝓖) (𝓜 .mem) (𝓡 .run) (tablesOf 𝓤 H 𝓜 (tables 𝓤 H 𝓜 𝓡 code.env))
-    (cited 𝓤 H (Gather 𝓤 H (𝓖 .A) (𝓜 .mem) (𝓡 .run)) 𝓜 𝓡 code.env #gather gather-def.routine code.calls-lent-laws·gather (gather-thm.met 𝓤 H 𝓜 𝓖 𝓡))
+    (cited 𝓤 H (Gather 𝓤 H (𝓖 .A) (𝓜 .mem) (𝓡 .run)) 𝓜 𝓡 code.env #gather gather-def.routine code.calls-law-runs·gather (gather-thm.met 𝓤 H 𝓜 𝓖 𝓡))
     (cited 𝓤 H (Core 𝓤 H (𝓖 .A) (𝓜 .mem) (𝓡 .run)) 𝓜 𝓡 code.env #core core-def.routine code.calls-causal·causal-reading (core-thm.met 𝓤 H 𝓜 𝓖 𝓡)))

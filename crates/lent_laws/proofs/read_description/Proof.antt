@@ -1,4 +1,4 @@
--- `read_description` meets its contract: a walk of its MIR, by hand. The run is lent as a `&[Law]` for a lifetime of its own and gathered, `text::read_description` does the work, and the run goes for good to `scatter`, at its own lifetime and ghost name.
+-- `read_description` meets its contract: a walk of its MIR, by hand. The run is lent as a `&[Law]` for a lifetime of its own and gathered, `description_reader::read_description` does the work, and the run goes for good to `scatter`, at its own lifetime and ghost name.
 -- Assumes nothing.
 use mathlib.Core.Path.{_≡_, refl, _∙_, ap, subst}
 use Prim.Native.Nat.{ℕ}
@@ -41,29 +41,30 @@ use denote.Triple.Clauses.{lasts}
 use denote.Exit.{yes}
 use Rattle.description.specs.declared.Law.{Law}
 use Rattle.description.proofs.Law as T
-use Rattle.text.specs.declared.Described.{Described}
-use Rattle.text.specs.Descriptions.{Outcome, described}
-use Rattle.text.specs.Answers.{replyOf, replied, recordOf, lawsLeft}
-use Rattle.text.proofs.Described as D
-use Rattle.text.proofs.Described.Laws as D′
-use Rattle.text.proofs.read_description as core
-use Rattle.text.proofs.read_description.Symbol as core-def
-use Rattle.text.proofs.read_description.Symbol.{name as #core}
-use Rattle.text.proofs.read_description.Met as core-thm
+use Rattle.description_reader.specs.declared.Described.{Described}
+use Rattle.search.specs.Replies.{Reply}
+use Rattle.description_reader.specs.Descriptions.{Taken, described}
+use Rattle.description_reader.specs.Answers.{replyOf, replied, recordOf, lawsLeft}
+use Rattle.description_reader.proofs.Described as D
+use Rattle.description_reader.proofs.Described.Laws as D′
+use Rattle.description_reader.proofs.read_description as core
+use Rattle.description_reader.proofs.read_description.Symbol as core-def
+use Rattle.description_reader.proofs.read_description.Symbol.{name as #core}
+use Rattle.description_reader.proofs.read_description.Met as core-thm
 use Rattle.lent_laws.specs.declared.Read.{Read}
-use Rattle.lent_laws.specs.Gathered.{gathered, scattered}
+use Rattle.law_runs.specs.Internal.{gathered, scattered}
 use Rattle.lent_laws.proofs.Read as S
 use Rattle.lent_laws.proofs.Read.Laws as S′
 use Rattle.lent_laws.proofs.Reading.{left-stored}
-use Rattle.lent_laws.proofs.Walking.{walk-shows}
-use Rattle.lent_laws.proofs.Answers.{answers, both-said, and-said, says-both, ends-saying}
-use Rattle.lent_laws.proofs.Records.{Run, run-typed, run-makes}
+use Rattle.law_runs.proofs.Walking.{walk-shows}
+use Rattle.law_runs.proofs.Answers.{answers, both-said, and-said, says-both, ends-saying}
+use Rattle.law_runs.proofs.Records.{Run, run-typed, run-makes}
 use Rattle.lent_laws.proofs.Gathering.{parted, rejoined, Gather}
 use Rattle.lent_laws.proofs.Lending.{Lender, Loan, Kept, lends-shared, comes-back}
-use Rattle.lent_laws.proofs.gather as gather
-use Rattle.lent_laws.proofs.gather.Symbol as gather-def
-use Rattle.lent_laws.proofs.gather.Symbol.{name as #gather}
-use Rattle.lent_laws.proofs.gather.Met as gather-thm
+use Rattle.law_runs.proofs.gather as gather
+use Rattle.law_runs.proofs.gather.Symbol as gather-def
+use Rattle.law_runs.proofs.gather.Symbol.{name as #gather}
+use Rattle.law_runs.proofs.gather.Met as gather-thm
 use Rattle.lent_laws.proofs.run_of as run-of
 use Rattle.lent_laws.proofs.run_of.Symbol as run-of-def
 use Rattle.lent_laws.proofs.run_of.Symbol.{name as #run-of}
@@ -72,14 +73,14 @@ use Rattle.lent_laws.proofs.count_of as count-of
 use Rattle.lent_laws.proofs.count_of.Symbol as count-of-def
 use Rattle.lent_laws.proofs.count_of.Symbol.{name as #count-of}
 use Rattle.lent_laws.proofs.count_of.Met as count-of-thm
-use Rattle.lent_laws.proofs.scatter as scatter
-use Rattle.lent_laws.proofs.scatter.Symbol as scatter-def
-use Rattle.lent_laws.proofs.scatter.Symbol.{name as #scatter}
-use Rattle.lent_laws.proofs.scatter.Met as scatter-thm
-use Rattle.lent_laws.proofs.answered as answered
-use Rattle.lent_laws.proofs.answered.Symbol as answered-def
-use Rattle.lent_laws.proofs.answered.Symbol.{name as #answered}
-use Rattle.lent_laws.proofs.answered.Met as answered-thm
+use Rattle.law_runs.proofs.scatter as scatter
+use Rattle.law_runs.proofs.scatter.Symbol as scatter-def
+use Rattle.law_runs.proofs.scatter.Symbol.{name as #scatter}
+use Rattle.law_runs.proofs.scatter.Met as scatter-thm
+use Rattle.lent_laws.proofs.read_of as read-of
+use Rattle.lent_laws.proofs.read_of.Symbol as read-of-def
+use Rattle.lent_laws.proofs.read_of.Symbol.{name as #read-of}
+use Rattle.lent_laws.proofs.read_of.Met as read-of-thm
 use Rattle.lent_laws.proofs.read_description.Key.{name as #self}
 use Rattle.lent_laws.proofs.read_description as self
 use Rattle.lent_laws.proofs.read_description.Statement as stated
@@ -102,8 +103,8 @@ module _ {M : Type 1} (𝓤 : URA M) (H : Heap 𝓤) (A : Atoms 𝓤) (μ : Memo
   abbrev Scatter : Contract 𝓤
   Scatter = tripleOf 𝓤 H A scatter.signature (scatter.spec 𝓤 H A μ run)
 
-  abbrev Answered : Contract 𝓤
-  Answered = tripleOf 𝓤 H A answered.signature (answered.spec 𝓤 H A μ run)
+  abbrev ReadOf : Contract 𝓤
+  ReadOf = tripleOf 𝓤 H A read-of.signature (read-of.spec 𝓤 H A μ run)
 
   -- and what the tables say of them
   pub record Known (C : Calls 𝓤 H) : Type 1 where
@@ -112,7 +113,7 @@ module _ {M : Type 1} (𝓤 : URA M) (H : Heap 𝓤) (A : Atoms 𝓤) (μ : Memo
     pub to-run : Triple 𝓤 (C #run-of) RunOf
     pub to-count : Triple 𝓤 (C #count-of) CountOf
     pub to-scatter : Triple 𝓤 (C #scatter) Scatter
-    pub to-answered : Triple 𝓤 (C #answered) Answered
+    pub to-read : Triple 𝓤 (C #read-of) ReadOf
 
 module _ {M : Type 1} (𝓤 : URA M) (H : Heap 𝓤) (A : Atoms 𝓤) (W : Given 𝓤 H A) (μ : Memory → SProp 𝓤) (run : Routine → Fun 𝓤) (κ κ′ : Lft) (q q′ : Share) (text : RefT (List ℕ)) (b o : ℕ) (γ : GName) (ls : List Law)
     (text-is : Is (ShrSlice (named 0) κ u8) text (slice-vals text)) where
@@ -171,7 +172,7 @@ module _ {M : Type 1} (𝓤 : URA M) (H : Heap 𝓤) (A : Atoms 𝓤) (W : Given
         owned ! Run (Is Run) (run-makes 𝓤 H A W) (gathered ls) (u ∷ []) is $ fjoin ! $ move ! (1 ∷ 0 ∷ []) $ fjoin ! $ move ! (1 ∷ 0 ∷ []) $ join ! $ frame ! $ done !
 
     -- what the core ensures
-    abbrev found : Outcome
+    abbrev found : Reply Taken
     found = described (length ls) (text .now)
 
     abbrev Said : Described → Type 0
@@ -211,8 +212,8 @@ module _ {M : Type 1} (𝓤 : URA M) (H : Heap 𝓤) (A : Atoms 𝓤) (W : Given
       abbrev at-count : CountOf 𝓤 H A μ run .Ghost
       at-count = ((tt, tt, tt, (r, tt), (w ∷ [], tt)), tt)
 
-      abbrev at-answered : Answered 𝓤 H A μ run .Ghost
-      at-answered = ((tt, tt, tt, (r, tt), (w ∷ [], tt)), tt)
+      abbrev at-read : ReadOf 𝓤 H A μ run .Ghost
+      at-read = ((tt, tt, tt, (r, tt), (w ∷ [], tt)), tt)
 
       goes-apart : ent 𝓤 (emp 𝓤) (RunOf 𝓤 H A μ run .pre at-run)
       goes-apart = qed W [] ∵ nothing ! $ owned ! D.the-row (Is D.the-row) (LL.makes D.the-type D′.the-plain 𝓤 H A) r (w ∷ []) r-is $ fjoin ! $ nothing ! $ join ! $ frame ! $ done !
@@ -266,9 +267,9 @@ module _ {M : Type 1} (𝓤 : URA M) (H : Heap 𝓤) (A : Atoms 𝓤) (W : Given
           answers ! tt scatter.ended (scatter.clauses 𝓤 H A μ run) (at-scatter rs n u′ m rs-is n-is) z (λ y zs. zs .0 ≡ scattered n rs ls) (λ y zs. id⊢ 𝓤 _) (λ y zs y-is stored.
           -- [nothing; the other token; what is left of scatter's; token; _10; …]
           land ! (from ! (stop !)) (init ! 8 refl (nothing-lawful 𝓤 H A W .typed y (z ∷ []) y-is .0)) $ drop ! $
-          use0 W (raw (Answered 𝓤 H A μ run .pre (at-answered d w d-is))) (goes-apart d w d-is) $
-          calls-at ! fm (Answered 𝓤 H A μ run) (known .to-answered) (at-answered d w d-is) (and-then ! (load ! (from ! (stop !)) (look ! 18 refl)) (no-more !)) (λ v.
-          answers ! tt answered.ended (answered.clauses 𝓤 H A μ run) (at-answered d w d-is) v (λ a ws. (a .answer ≡ d .answer) × (a .description ≡ d .description)) (λ a ws. both-said 𝓤 _ _) (λ a ws a-is told.
+          use0 W (raw (ReadOf 𝓤 H A μ run .pre (at-read d w d-is))) (goes-apart d w d-is) $
+          calls-at ! fm (ReadOf 𝓤 H A μ run) (known .to-read) (at-read d w d-is) (and-then ! (load ! (from ! (stop !)) (look ! 18 refl)) (no-more !)) (λ v.
+          answers ! tt read-of.ended (read-of.clauses 𝓤 H A μ run) (at-read d w d-is) v (λ a ws. (a .answer ≡ d .answer) × (a .description ≡ d .description)) (λ a ws. both-said 𝓤 _ _) (λ a ws a-is told.
           -- [the result; true; true; the other token; what is left of scatter's; token; _10; …]
           land ! (from ! (stop !)) (init ! 26 refl (LL.lawful S.the-type S′.the-laws 𝓤 H A W .typed a (v ∷ []) a-is .0)) $
           returns ! (look ! 26 refl) $ forget ! 6 refl $ forget ! 8 refl $ forget ! 10 refl $ forget ! 12 refl $ forget ! 14 refl $ forget ! 16 refl $ forget ! 18 refl $ forget ! 20 refl $ forget ! 22 refl $ forget ! 24 refl $ forget ! 26 refl $
@@ -292,10 +293,10 @@ read-description-spec 𝓤 H 𝓜 𝓖 𝓡 =
     (tables 𝓤 H 𝓜 𝓡 code.env .C) (tables 𝓤 H 𝓜 𝓡 code.env .Λ) #self code.function (code.unfolded 𝓤 H 𝓜 𝓡)
     (meets 𝓤 H (𝓖 .A) (givenOf 𝓤 H 𝓜 𝓖) (𝓜 .mem) (𝓡 .run) (tablesOf 𝓤 H 𝓜 (tables 𝓤 H 𝓜 𝓡 code.env))
     (record {
-      to-gather = cited 𝓤 H (Gather 𝓤 H (𝓖 .A) (𝓜 .mem) (𝓡 .run)) 𝓜 𝓡 code.env #gather gather-def.routine code.calls-lent-laws·gather (gather-thm.met 𝓤 H 𝓜 𝓖 𝓡);
-      to-core = cited 𝓤 H (Core 𝓤 H (𝓖 .A) (𝓜 .mem) (𝓡 .run)) 𝓜 𝓡 code.env #core core-def.routine code.calls-text·read-description (core-thm.met 𝓤 H 𝓜 𝓖 𝓡);
+      to-gather = cited 𝓤 H (Gather 𝓤 H (𝓖 .A) (𝓜 .mem) (𝓡 .run)) 𝓜 𝓡 code.env #gather gather-def.routine code.calls-law-runs·gather (gather-thm.met 𝓤 H 𝓜 𝓖 𝓡);
+      to-core = cited 𝓤 H (Core 𝓤 H (𝓖 .A) (𝓜 .mem) (𝓡 .run)) 𝓜 𝓡 code.env #core core-def.routine code.calls-description-reader·read-description (core-thm.met 𝓤 H 𝓜 𝓖 𝓡);
       to-run = cited 𝓤 H (RunOf 𝓤 H (𝓖 .A) (𝓜 .mem) (𝓡 .run)) 𝓜 𝓡 code.env #run-of run-of-def.routine code.calls-lent-laws·run-of (run-of-thm.met 𝓤 H 𝓜 𝓖 𝓡);
       to-count = cited 𝓤 H (CountOf 𝓤 H (𝓖 .A) (𝓜 .mem) (𝓡 .run)) 𝓜 𝓡 code.env #count-of count-of-def.routine code.calls-lent-laws·count-of (count-of-thm.met 𝓤 H 𝓜 𝓖 𝓡);
-      to-scatter = cited 𝓤 H (Scatter 𝓤 H (𝓖 .A) (𝓜 .mem) (𝓡 .run)) 𝓜 𝓡 code.env #scatter scatter-def.routine code.calls-lent-laws·scatter (scatter-thm.met 𝓤 H 𝓜 𝓖 𝓡);
-      to-answered = cited 𝓤 H (Answered 𝓤 H (𝓖 .A) (𝓜 .mem) (𝓡 .run)) 𝓜 𝓡 code.env #answered answered-def.routine code.calls-lent-laws·answered (answered-thm.met 𝓤 H 𝓜 𝓖 𝓡);
+      to-scatter = cited 𝓤 H (Scatter 𝓤 H (𝓖 .A) (𝓜 .mem) (𝓡 .run)) 𝓜 𝓡 code.env #scatter scatter-def.routine code.calls-law-runs·scatter (scatter-thm.met 𝓤 H 𝓜 𝓖 𝓡);
+      to-read = cited 𝓤 H (ReadOf 𝓤 H (𝓖 .A) (𝓜 .mem) (𝓡 .run)) 𝓜 𝓡 code.env #read-of read-of-def.routine code.calls-lent-laws·read-of (read-of-thm.met 𝓤 H 𝓜 𝓖 𝓡);
     }))

@@ -3,7 +3,7 @@
 use mathlib.Core.Path.{_≡_, sym, ap, _∙_}
 use native.Mathlib.Omega.{arith}
 use lib.ListN.{length, take, replicate, length-take}
-use Rattle.text.specs.Histories.{historyReplyOf}
+use Rattle.history_reader.specs.Histories.{historyReplyOf}
 use Rattle.report.specs.Output.{output}
 use Rattle.report.proofs.Reported.{from-first, says-refused, says-values}
 use Rattle.report.proofs.Short.{short-too}

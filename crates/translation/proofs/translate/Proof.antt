@@ -3,7 +3,7 @@
 use mathlib.Core.Path.{_≡_, refl, sym, ap, _∙_}
 use borrow.Author.Needs.{needs}
 use lib.ListN.{length}
-use Rattle.translation.specs.Translated.{Outcome, refused, written, outcomeOf, outcome}
+use Rattle.translation.specs.Translated.{outcomeOf, outcome}
 use Rattle.translation.proofs.Outcomes.{written-accepted, refused-left, written-left, written-limits}
 use Rattle.translation.proofs.translate.Statement.{statement}
 use Rattle.translation.proofs.translate.Tie as tie

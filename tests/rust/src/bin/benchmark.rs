@@ -7,7 +7,7 @@
 mod lent;
 
 use lent::Lent;
-use readings::answer::Answer;
+use readings::answer::{Answer, PASSES};
 use readings::calls::{Calls, Reading};
 use readings::clingo;
 use readings::measure::{pair, readable, Pair};
@@ -51,7 +51,7 @@ fn sample(label: &str, text: Vec<u8>) -> Sample {
 
 /// Both sides must say that the sample passes; anything else is no measure of the same work.
 fn agree(sample: &Sample) {
-    let passes = Answer::new(16, 0);
+    let passes = Answer::new(PASSES, 0);
     let mut table = vec![0; sample.table.len()];
     assert_eq!(
         LIBRARY.check_set(&sample.values, &sample.table),

@@ -2,7 +2,7 @@
 
 use super::brute::is_answer_set;
 use super::{run, Plan};
-use crate::answer::Answer;
+use crate::answer::{Answer, BROKEN, CLASH, MISSING, PASSES, UNCAUSED, UNFOUNDED, WRITTEN};
 use crate::calls::{Calls, Reading};
 use crate::generate::texts::text;
 use crate::random::Random;
@@ -67,8 +67,8 @@ impl Calls for Mutant {
     fn check_set(&self, values: &[u8], table: &[u16]) -> Answer {
         let answer = Reading.check_set(values, table);
         match self.0 {
-            Slip::NoDerivation if answer.code == 19 => Answer::new(16, 0),
-            Slip::AlwaysPasses if answer.code >= 18 => Answer::new(16, 0),
+            Slip::NoDerivation if answer.code == UNFOUNDED => Answer::new(PASSES, 0),
+            Slip::AlwaysPasses if matches!(answer.code, BROKEN | UNFOUNDED) => Answer::new(PASSES, 0),
             Slip::Place if answer.code == 12 => Answer {
                 value: answer.value + 1,
                 ..answer
@@ -81,8 +81,8 @@ impl Calls for Mutant {
         let answer = Reading.translate(text, table);
         let words = (answer.value >> 32) as usize;
         match self.0 {
-            Slip::TableLong if answer.code == 48 && words < table.len() => table[words] ^= 1,
-            Slip::TableShort if answer.code == 48 => table[words - 1] ^= 1,
+            Slip::TableLong if answer.code == WRITTEN && words < table.len() => table[words] ^= 1,
+            Slip::TableShort if answer.code == WRITTEN => table[words - 1] ^= 1,
             Slip::TableRefused if answer.code == 9 && !table.is_empty() => table[0] ^= 1,
             _ => (),
         }
@@ -100,7 +100,7 @@ impl Calls for Mutant {
     fn check_history(&self, text: &[u8], values: &[u8], table: &mut [u16]) -> Answer {
         let answer = Reading.check_history(text, values, table);
         match values.iter().position(|value| *value == 3) {
-            Some(atom) if self.0 == Slip::MissingLate && answer.code == 20 => Answer::new(17, atom),
+            Some(atom) if self.0 == Slip::MissingLate && answer.code == MISSING => Answer::new(CLASH, atom),
             _ => answer,
         }
     }
@@ -108,7 +108,7 @@ impl Calls for Mutant {
     fn causal_reading(&self, input: &[u8]) -> Answer {
         let answer = Reading.causal_reading(input);
         match self.0 {
-            Slip::CausalTime if answer.code == 34 => Answer {
+            Slip::CausalTime if answer.code == UNCAUSED => Answer {
                 value: answer.value - 65_536,
                 ..answer
             },
@@ -178,7 +178,7 @@ fn definition_and_engine_agree_on_one_atom() {
         for second in &rules {
             let table = [first.clone(), second.clone()].concat();
             for value in 0..4 {
-                let passes = Answer::from(check_set(&[value], &table).unwrap()).code == 16;
+                let passes = Answer::from(check_set(&[value], &table).unwrap()).code == PASSES;
                 assert_eq!(passes, is_answer_set(&[value], &table), "{value} {table:?}");
             }
         }

@@ -3,7 +3,7 @@
 use super::brute::{is_answer_set, MOST_ATOMS};
 use super::tally::{Call, Tally};
 use super::Difference;
-use crate::answer::Answer;
+use crate::answer::{Answer, LAST_REFUSAL, PASSES};
 use crate::calls::{Calls, Reading};
 use crate::generate::tables::{case, Case};
 use crate::random::Random;
@@ -19,10 +19,10 @@ pub fn compare(library: &impl Calls, random: &mut Random, tally: &mut Tally) -> 
     if ours != theirs {
         return Err(difference(&made, ours, theirs, "the reading"));
     }
-    if made.values.len() <= MOST_ATOMS && ours.code >= 16 {
+    if made.values.len() <= MOST_ATOMS && ours.code > LAST_REFUSAL {
         let wanted = is_answer_set(&made.values, &made.table);
         tally.defined(wanted);
-        if wanted != (ours.code == 16) {
+        if wanted != (ours.code == PASSES) {
             return Err(difference(&made, ours, theirs, "both, against the definition"));
         }
     }

@@ -1,6 +1,6 @@
 //! How many cases of each kind and how many answers of each code were seen.
 
-use crate::answer::meaning;
+use crate::answer::{meaning, BROKEN, CLASH, CONTRADICTED, MISSING, PASSES, PATH, READ, UNCAUSED, UNFOUNDED, WRITTEN};
 use crate::generate::{tables, texts};
 use crate::reading::MAX_HORIZON;
 use std::io::{self, Write};
@@ -17,26 +17,30 @@ pub enum Call {
     CausalReading,
 }
 
+/// The verdicts of the history check, and those of the causal reading.
+const CHECKED: [u8; 5] = [PASSES, CLASH, BROKEN, UNFOUNDED, MISSING];
+const CAUSAL: [u8; 3] = [PATH, CONTRADICTED, UNCAUSED];
+
 /// All calls: name, and the codes each can give according to the header. For the report these are the codes of the
 /// answers it prints.
-const CALLS: [(Call, &str, &[u8]); 6] = [
+const CALLS: [(Call, &str, &[&[u8]]); 6] = [
+    (Call::Report, "report", &[&[1, 2, 3, 4, 5, 6, 7], &CHECKED, &CAUSAL]),
     (
-        Call::Report,
-        "report",
-        &[1, 2, 3, 4, 5, 6, 7, 16, 17, 18, 19, 20, 32, 33, 34],
+        Call::CheckSet,
+        "check_set",
+        &[&[10, 11, 12, PASSES, CLASH, BROKEN, UNFOUNDED]],
     ),
-    (Call::CheckSet, "check_set", &[10, 11, 12, 16, 17, 18, 19]),
-    (Call::Translate, "translate", &[1, 2, 3, 4, 5, 6, 9, 48]),
-    (Call::ReadHistory, "read_history", &[1, 2, 3, 4, 5, 6, 7, 10, 64]),
+    (Call::Translate, "translate", &[&[1, 2, 3, 4, 5, 6, 9, WRITTEN]]),
+    (Call::ReadHistory, "read_history", &[&[1, 2, 3, 4, 5, 6, 7, 10, READ]]),
     (
         Call::CheckHistory,
         "check_history",
-        &[1, 2, 3, 4, 5, 6, 9, 10, 11, 16, 17, 18, 19, 20],
+        &[&[1, 2, 3, 4, 5, 6, 9, 10, 11], &CHECKED],
     ),
     (
         Call::CausalReading,
         "causal_reading",
-        &[1, 2, 3, 4, 5, 6, 7, 11, 32, 33, 34],
+        &[&[1, 2, 3, 4, 5, 6, 7, 11], &CAUSAL],
     ),
 ];
 
@@ -133,8 +137,8 @@ impl Tally {
     pub fn too_rare(&self, least: u64) -> Vec<String> {
         let mut rare = Vec::new();
         for (call, name, codes) in CALLS {
-            for code in codes {
-                let count = self.codes[call as usize][usize::from(*code)];
+            for code in codes.concat() {
+                let count = self.codes[call as usize][usize::from(code)];
                 if count < least {
                     rare.push(format!("{name} code {code}: {count}, wanted {least}"));
                 }

@@ -2,7 +2,7 @@
 
 use super::tally::{Call, Tally};
 use super::Difference;
-use crate::answer::Answer;
+use crate::answer::{Answer, BROKEN, CLASH, CONTRADICTED, MISSING, PASSES, PATH, UNCAUSED, UNFOUNDED};
 use crate::calls::{Calls, Reading};
 use crate::generate::texts::text;
 use crate::random::Random;
@@ -164,21 +164,21 @@ impl<'a, C: Calls> Case<'a, C> {
         let printed = String::from_utf8_lossy(printed);
         for line in printed.lines() {
             let code = match line {
-                "answer=passes" => 16,
-                "answer=clash" => 17,
-                "answer=broken" => 18,
-                "answer=unfounded" => 19,
-                "answer=missing" => 20,
-                "causal=path" => 32,
-                "causal=contradicted" => 33,
-                "causal=uncaused" => 34,
+                "answer=passes" => PASSES,
+                "answer=clash" => CLASH,
+                "answer=broken" => BROKEN,
+                "answer=unfounded" => UNFOUNDED,
+                "answer=missing" => MISSING,
+                "causal=path" => PATH,
+                "causal=contradicted" => CONTRADICTED,
+                "causal=uncaused" => UNCAUSED,
                 _ => match line.strip_prefix("refused=") {
                     Some(number) => number.parse().expect("a refusal is a number"),
                     None => continue,
                 },
             };
             self.tally.code(Call::Report, code);
-            if let (16, Some(known)) = (code, &self.known) {
+            if let (PASSES, Some(known)) = (code, &self.known) {
                 self.tally.passing(known.description.horizon);
             }
         }

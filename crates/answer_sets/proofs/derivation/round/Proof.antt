@@ -9,7 +9,7 @@ use lib.ListN.{length}
 use Rattle.answer_sets.specs.Words.{rulesOf}
 use lib.ListN.{length-replicate}
 use Rattle.answer_sets.specs.Verdicts.{round}
-use Rattle.answer_sets.specs.Parts.{marked, Sound}
+use Rattle.answer_sets.specs.Internal.{marked, Sound}
 use Rattle.answer_sets.proofs.Stores.{clear-marks}
 use Rattle.answer_sets.proofs.Fronts.{derives-literal, sound-size, sound-head, sound-rest, left-behind, shorter, rules-end, round-turn}
 use Rattle.answer_sets.proofs.derivation.round.Statement.{statement}

@@ -3,9 +3,9 @@
 use mathlib.Core.Path.{ap}
 use native.Mathlib.Omega.{arith}
 use borrow.Author.Needs.{needs}
+use Rattle.search.specs.Replies.{answered}
 use Rattle.search.proofs.Loops.{at-place, no-place}
-use Rattle.answer_sets.specs.Parts.{marked}
-use Rattle.answer_sets.specs.Answers.{judged}
+use Rattle.answer_sets.specs.Internal.{marked}
 use Rattle.answer_sets.proofs.Fronts.{accepted-sound}
 use Rattle.answer_sets.proofs.Judging.{says-clash, says-broken, says-unfounded, says-passes}
 use Rattle.answer_sets.proofs.faults.judge.Statement.{statement}
@@ -27,7 +27,7 @@ returns : tie.Need-returns
 returns c =
     let c3 = c .before .before .before in
     let c5 = c3 .before .before in
-    ap judged
+    ap answered
     (says-clash _ _ _ (marked (c5 .marks-of .result)) (c5 .marks-of .ensures) (at-place (c3 .first-clash .ensures) (c .before .atom .given .1)))
 
 enum-told : tie.Need-enum-told
@@ -50,7 +50,7 @@ returns-2 c =
     let c5 = c3 .before .before in
     let c7 = c5 .before .before in
     let c9 = c7 .before .before in
-    ap judged
+    ap answered
     (says-broken _ _ _ (marked (c9 .marks-of .result)) (c9 .marks-of .ensures) (no-place (c7 .first-clash .ensures) (c5 .enum-told .given .1))
     (at-place (c3 .first-broken .ensures) (c .before .rule .given .1)))
 
@@ -88,7 +88,7 @@ returns-3 c =
     let c11 = c9 .before .before in
     let c13 = c11 .before .before in
     let c15 = c13 .before .before in
-    ap judged
+    ap answered
     (says-unfounded _ _ _ (marked (c15 .marks-of .result)) (c15 .marks-of .ensures) (no-place (c13 .first-clash .ensures) (c11 .enum-told .given .1))
     (no-place (c9 .first-broken .ensures) (c7 .enum-told2 .given .1)) (marked (c6 .derive .result)) (c6 .derive .ensures)
     (at-place (c3 .first-unfounded .ensures) (c .before .code .given .1)))
@@ -105,7 +105,7 @@ returns-4 c =
     let c10 = c8 .before .before in
     let c12 = c10 .before .before in
     let c14 = c12 .before .before in
-    ap judged
+    ap answered
     (says-passes _ _ _ (marked (c14 .marks-of .result)) (c14 .marks-of .ensures) (no-place (c12 .first-clash .ensures) (c10 .enum-told .given .1))
     (no-place (c8 .first-broken .ensures) (c6 .enum-told2 .given .1)) (marked (c5 .derive .result)) (c5 .derive .ensures)
     (no-place (c2 .first-unfounded .ensures) (c .enum-told3 .given .1)))

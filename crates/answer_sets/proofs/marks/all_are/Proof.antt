@@ -7,7 +7,7 @@ use mathlib.Core.Bool.{true, false}
 use Prim.Native.Nat.{ℕ, _≤_, _-_}
 use lib.ListN.{length, drop}
 use Rattle.search.specs.Search.{all}
-use Rattle.answer_sets.specs.Parts.{marked, is}
+use Rattle.answer_sets.specs.Internal.{marked, is}
 use Rattle.search.proofs.Loops.{all-stop, all-go, all-done}
 use Rattle.answer_sets.proofs.Stores.{differs}
 use Rattle.answer_sets.proofs.marks.all_are.Statement.{statement}

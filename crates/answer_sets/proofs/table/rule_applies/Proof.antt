@@ -1,6 +1,6 @@
 -- `answer_sets::table::rule_applies` meets its contract.
 -- Assumes nothing.
-use Rattle.answer_sets.specs.Parts.{marked}
+use Rattle.answer_sets.specs.Internal.{marked}
 use Rattle.answer_sets.proofs.Fronts.{applies-stop, applies-go}
 use borrow.Author.Needs.{needs}
 use Rattle.answer_sets.proofs.table.rule_applies.Statement.{statement}

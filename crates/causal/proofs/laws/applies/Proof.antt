@@ -4,7 +4,7 @@ use mathlib.Core.Path.{_≡_, _∙_}
 use Rattle.search.proofs.Loops.{and-stop, and-go}
 use Rattle.description.specs.Laws.{ifList}
 use Rattle.description.specs.Meaning.{holds}
-use Rattle.causal.specs.Parts.{read}
+use Rattle.causal.specs.Verdicts.{read}
 use Rattle.causal.proofs.States.{alone}
 use borrow.Author.Needs.{needs}
 use Rattle.causal.proofs.laws.applies.Statement.{statement}

@@ -2,7 +2,7 @@
 -- Assumes nothing.
 use mathlib.Core.Path.{_∙_, ap}
 use Rattle.description.specs.Meaning.{satisfies}
-use Rattle.causal.specs.Parts.{read}
+use Rattle.causal.specs.Verdicts.{read}
 use Rattle.causal.proofs.States.{alone}
 use borrow.Author.Needs.{needs}
 use Rattle.causal.proofs.laws.head_holds.Statement.{statement}

@@ -7,7 +7,7 @@ use borrow.Author.Tests.{not-true, not-false}
 use lib.ListN.{length, take, drop}
 use Rattle.description.specs.Meaning.{holds, together}
 use Rattle.search.proofs.Loops.{all-prefix-stop, all-prefix-go, all-prefix-done}
-use Rattle.causal.specs.Parts.{read}
+use Rattle.causal.specs.Verdicts.{read}
 use Rattle.causal.proofs.Lists.{take-least}
 use Rattle.causal.proofs.literals.holds.Statement.{statement}
 use Rattle.causal.proofs.literals.holds.Tie as tie

@@ -6,8 +6,8 @@ use native.Mathlib.Omega.{arith}
 use lib.ListN.{length, take, drop}
 use Rattle.search.specs.Search.{first}
 use Rattle.search.proofs.Loops.{prefix-stop, prefix-go, prefix-done}
-use Rattle.causal.specs.Verdicts.{contradicts}
-use Rattle.causal.specs.Parts.{read, applies}
+use Rattle.causal.specs.Verdicts.{read, contradicts}
+use Rattle.causal.specs.Internal.{applies}
 use Rattle.causal.proofs.Lists.{take-least}
 use Rattle.causal.proofs.searches.first_contradiction.Statement.{statement}
 use Rattle.causal.proofs.searches.first_contradiction.Tie as tie

@@ -10,8 +10,7 @@ use lib.ListN.{take}
 use Rattle.search.specs.Search.{first, range}
 use Rattle.search.proofs.Loops.{range-stop, range-go, range-done}
 use Rattle.description.specs.declared.Law.{Law}
-use Rattle.causal.specs.Verdicts.{literalIn, someCause, appliesInStep}
-use Rattle.causal.specs.Parts.{read}
+use Rattle.causal.specs.Verdicts.{read, literalIn, someCause, appliesInStep}
 use Rattle.causal.proofs.searches.first_uncaused.Statement.{statement}
 use Rattle.causal.proofs.searches.first_uncaused.Tie as tie
 

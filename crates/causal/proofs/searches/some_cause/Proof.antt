@@ -5,8 +5,7 @@ use Prim.Native.Nat.{_≤_, _-_, _+_, _*_}
 use native.Mathlib.Omega.{arith}
 use lib.ListN.{length, take, drop}
 use mathlib.Core.Bool.{cond}
-use Rattle.causal.specs.Verdicts.{literalIn, someCause, appliesInStep}
-use Rattle.causal.specs.Parts.{read}
+use Rattle.causal.specs.Verdicts.{read, literalIn, someCause, appliesInStep}
 use Rattle.causal.proofs.Lists.{take-least, cause-stop, cause-go, cause-done}
 use Rattle.causal.proofs.searches.some_cause.Statement.{statement}
 use Rattle.causal.proofs.searches.some_cause.Tie as tie

@@ -2,7 +2,7 @@
 -- Assumes nothing.
 use mathlib.Core.List.{[], _++_}
 use Rattle.causal.specs.Readings.{replyOf}
-use Rattle.report.specs.Writing.{line, decimal, answerWord, atWord, passesWord, missingWord, clashWord, brokenWord, unfoundedWord}
+use Rattle.report.specs.Writing.{outputLine, decimal, answerWord, atWord, passesWord, missingWord, clashWord, brokenWord, unfoundedWord}
 use Rattle.report.specs.Output.{noCausal, readingLines}
 use Rattle.report.proofs.Stores.{both}
 use borrow.Author.Needs.{needs}
@@ -97,7 +97,7 @@ returns-2 c =
     let e = w₁ .before .before .before .before in
     let a = e .before .before .before .before .args in
     rw (e .checked2 .given .1)
-    (both (a .out .now) (a .at) (line answerWord missingWord ++ line atWord (decimal (e .checked2 .given .0 .0))) noCausal
+    (both (a .out .now) (a .at) (outputLine answerWord missingWord ++ outputLine atWord (decimal (e .checked2 .given .0 .0))) noCausal
     (w₁ .put-verdict .ensures .0) (w₂ .put-bare .ensures))
 
 same-length-3 : tie.Need-same-length-3
@@ -110,7 +110,7 @@ returns-3 c =
     let e = w₁ .before .before .before .before in
     let a = e .before .before .before .before .args in
     rw (e .checked3 .given .1)
-    (both (a .out .now) (a .at) (line answerWord clashWord ++ line atWord (decimal (e .checked3 .given .0 .0))) noCausal
+    (both (a .out .now) (a .at) (outputLine answerWord clashWord ++ outputLine atWord (decimal (e .checked3 .given .0 .0))) noCausal
     (w₁ .put-verdict2 .ensures .0) (w₂ .put-bare2 .ensures))
 
 same-length-4 : tie.Need-same-length-4
@@ -123,7 +123,7 @@ returns-4 c =
     let e = w₁ .before .before .before .before in
     let a = e .before .before .before .before .args in
     rw (e .checked4 .given .1)
-    (both (a .out .now) (a .at) (line answerWord brokenWord ++ line atWord (decimal (e .checked4 .given .0 .0))) (readingLines (a .input .now) (replyOf (a .reading)))
+    (both (a .out .now) (a .at) (outputLine answerWord brokenWord ++ outputLine atWord (decimal (e .checked4 .given .0 .0))) (readingLines (a .input .now) (replyOf (a .reading)))
     (w₁ .put-verdict3 .ensures .0) (w₂ .put-reading .ensures))
 
 same-length-5 : tie.Need-same-length-5
@@ -136,7 +136,7 @@ returns-5 c =
     let e = w₁ .before .before .before .before in
     let a = e .before .before .before .before .args in
     rw (e .checked5 .given .1)
-    (both (a .out .now) (a .at) (line answerWord unfoundedWord ++ line atWord (decimal (e .checked5 .given .0 .0))) (readingLines (a .input .now) (replyOf (a .reading)))
+    (both (a .out .now) (a .at) (outputLine answerWord unfoundedWord ++ outputLine atWord (decimal (e .checked5 .given .0 .0))) (readingLines (a .input .now) (replyOf (a .reading)))
     (w₁ .put-verdict4 .ensures .0) (w₂ .put-reading2 .ensures))
 
 same-length-6 : tie.Need-same-length-6
@@ -149,7 +149,7 @@ returns-6 c =
     let e = w₁ .before .before in
     let a = e .before .before .before .before .args in
     rw (e .enum-told .given .1)
-    (both (a .out .now) (a .at) (line answerWord passesWord ++ line atWord []) (readingLines (a .input .now) (replyOf (a .reading)))
+    (both (a .out .now) (a .at) (outputLine answerWord passesWord ++ outputLine atWord []) (readingLines (a .input .now) (replyOf (a .reading)))
     (w₁ .put-passes .ensures .0) (w₂ .put-reading3 .ensures))
 
 pub put-answer-spec : {M : Type 1} → statement M

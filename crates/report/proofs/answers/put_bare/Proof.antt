@@ -2,7 +2,7 @@
 -- Assumes nothing.
 use mathlib.Core.List.{[]}
 use Rattle.report.proofs.Stores.{three}
-use Rattle.report.specs.Writing.{line, causalWord, timeWord, itemWord}
+use Rattle.report.specs.Writing.{outputLine, causalWord, timeWord, itemWord}
 use borrow.Author.Needs.{needs}
 use Rattle.report.proofs.answers.put_bare.Statement.{statement}
 use Rattle.report.proofs.answers.put_bare.Tie as tie
@@ -40,7 +40,7 @@ returns c =
     let w₂ = w₃ .before .before .before .before .before .before in
     let w₁ = w₂ .before .before .before .before .before .before in
     let a = w₁ .before .before .before .before .before .args in
-    three (a .out .now) (a .at) (line causalWord (a .word .now)) (line timeWord []) (line itemWord [])
+    three (a .out .now) (a .at) (outputLine causalWord (a .word .now)) (outputLine timeWord []) (outputLine itemWord [])
     (w₁ .put-line .ensures .0) (w₂ .put-line2 .ensures .0) (w₃ .put-line3 .ensures .0)
 
 pub put-bare-spec : {M : Type 1} → statement M

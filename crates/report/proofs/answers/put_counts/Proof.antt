@@ -3,7 +3,7 @@
 use mathlib.Core.List.{_++_}
 use native.Mathlib.Omega.{arith}
 use Rattle.report.proofs.Stores.{both}
-use Rattle.report.specs.Writing.{line, decimal, horizonWord, atomsWord, rulesWord, wordsWord}
+use Rattle.report.specs.Writing.{outputLine, decimal, horizonWord, atomsWord, rulesWord, wordsWord}
 use borrow.Author.Needs.{needs}
 use Rattle.report.proofs.answers.put_counts.Statement.{statement}
 use Rattle.report.proofs.answers.put_counts.Tie as tie
@@ -42,11 +42,11 @@ returns c =
     let w₂ = w₃ .before .before .before .before .before in
     let w₁ = w₂ .before .before .before .before .before in
     let a = w₁ .before .before .before .before .args in
-    let h = line horizonWord (decimal (a .horizon)) in
-    let n = line atomsWord (decimal (a .atoms)) in
-    let r = line rulesWord (decimal (a .rules)) in
+    let h = outputLine horizonWord (decimal (a .horizon)) in
+    let n = outputLine atomsWord (decimal (a .atoms)) in
+    let r = outputLine rulesWord (decimal (a .rules)) in
     let l = a .out .now in (
-      both l 0 (h ++ n ++ r) (line wordsWord (decimal (a .words)))
+      both l 0 (h ++ n ++ r) (outputLine wordsWord (decimal (a .words)))
           (both l 0 (h ++ n) r (both l 0 h n (w₁ .put-number .ensures .0) (w₂ .put-number2 .ensures .0)) (w₃ .put-number3 .ensures .0))
           (w₄ .put-number4 .ensures .0),
       omega arith,

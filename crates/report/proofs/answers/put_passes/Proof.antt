@@ -3,7 +3,7 @@
 use mathlib.Core.List.{[]}
 use native.Mathlib.Omega.{arith}
 use Rattle.report.proofs.Stores.{both}
-use Rattle.report.specs.Writing.{line, answerWord, passesWord, atWord}
+use Rattle.report.specs.Writing.{outputLine, answerWord, passesWord, atWord}
 use borrow.Author.Needs.{needs}
 use Rattle.report.proofs.answers.put_passes.Statement.{statement}
 use Rattle.report.proofs.answers.put_passes.Tie as tie
@@ -34,7 +34,7 @@ returns c =
     let w₂ = c .before .before in
     let w₁ = w₂ .before .before .before .before .before .before in
     let a = w₁ .before .before .before .before .before .args in (
-      both (a .out .now) (a .at) (line answerWord passesWord) (line atWord []) (w₁ .put-line .ensures .0) (w₂ .put-line2 .ensures .0),
+      both (a .out .now) (a .at) (outputLine answerWord passesWord) (outputLine atWord []) (w₁ .put-line .ensures .0) (w₂ .put-line2 .ensures .0),
       omega arith,
     )
 

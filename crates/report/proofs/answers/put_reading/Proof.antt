@@ -1,7 +1,7 @@
 -- `put_reading` meets its contract. Three lines in each case.
 -- Assumes nothing.
-use Rattle.text.specs.Shown.{shownFluent}
-use Rattle.report.specs.Writing.{line, decimal, causalWord, timeWord, itemWord, contradictedWord, uncausedWord}
+use Rattle.description_reader.specs.Shown.{shownFluent}
+use Rattle.report.specs.Writing.{outputLine, decimal, causalWord, timeWord, itemWord, contradictedWord, uncausedWord}
 use Rattle.report.proofs.Stores.{three}
 use borrow.Author.Needs.{needs}
 use Rattle.report.proofs.answers.put_reading.Statement.{statement}
@@ -98,7 +98,7 @@ returns-2 c =
     let time = e .reading .given .0 .0 in
     let law = e .reading .given .0 .1 .0 in
     rw (e .reading .given .1)
-    (three (a .out .now) (a .at) (line causalWord contradictedWord) (line timeWord (decimal time)) (line itemWord (decimal law))
+    (three (a .out .now) (a .at) (outputLine causalWord contradictedWord) (outputLine timeWord (decimal time)) (outputLine itemWord (decimal law))
     (w₁ .put-line .ensures .0) (w₂ .put-number .ensures .0) (w₃ .put-number2 .ensures .0))
 
 same-length-3 : tie.Need-same-length-3
@@ -115,7 +115,7 @@ returns-3 c =
     let time = e .reading2 .given .0 .0 in
     let fluent = e .reading2 .given .0 .1 .0 in
     rw (e .reading2 .given .1)
-    (three (a .out .now) (a .at) (line causalWord uncausedWord) (line timeWord (decimal time)) (line itemWord (shownFluent (a .input .now) fluent))
+    (three (a .out .now) (a .at) (outputLine causalWord uncausedWord) (outputLine timeWord (decimal time)) (outputLine itemWord (shownFluent (a .input .now) fluent))
     (w₁ .put-line2 .ensures .0) (w₂ .put-number3 .ensures .0) (rw (n .fluent-name .ensures) at (w₃ .put-line3 .ensures .0)))
 
 same-length-4 : tie.Need-same-length-4

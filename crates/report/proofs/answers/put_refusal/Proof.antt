@@ -1,7 +1,7 @@
 -- `put_refusal` meets its contract. Two lines, one behind the other.
 -- Assumes nothing.
 use Rattle.report.proofs.Stores.{both}
-use Rattle.report.specs.Writing.{line, decimal, refusedWord, placeWord}
+use Rattle.report.specs.Writing.{outputLine, decimal, refusedWord, placeWord}
 use borrow.Author.Needs.{needs}
 use Rattle.report.proofs.answers.put_refusal.Statement.{statement}
 use Rattle.report.proofs.answers.put_refusal.Tie as tie
@@ -26,7 +26,7 @@ returns c =
     let w₂ = c .before .before in
     let w₁ = w₂ .before .before .before .before .before in
     let a = w₁ .before .before .before .before .args in
-    both (a .out .now) (a .at) (line refusedWord (decimal (a .number))) (line placeWord (decimal (a .place)))
+    both (a .out .now) (a .at) (outputLine refusedWord (decimal (a .number))) (outputLine placeWord (decimal (a .place)))
     (w₁ .put-number .ensures .0) (w₂ .put-number2 .ensures .0)
 
 pub put-refusal-spec : {M : Type 1} → statement M

@@ -2,7 +2,7 @@
 -- Assumes nothing.
 use native.Mathlib.Omega.{arith}
 use Rattle.report.proofs.Stores.{both}
-use Rattle.report.specs.Writing.{line, decimal, answerWord, atWord}
+use Rattle.report.specs.Writing.{outputLine, decimal, answerWord, atWord}
 use borrow.Author.Needs.{needs}
 use Rattle.report.proofs.answers.put_verdict.Statement.{statement}
 use Rattle.report.proofs.answers.put_verdict.Tie as tie
@@ -27,7 +27,7 @@ returns c =
     let w₂ = c .before .before in
     let w₁ = w₂ .before .before .before .before .before in
     let a = w₁ .before .before .before .before .before .args in (
-      both (a .out .now) (a .at) (line answerWord (a .word .now)) (line atWord (decimal (a .number)))
+      both (a .out .now) (a .at) (outputLine answerWord (a .word .now)) (outputLine atWord (decimal (a .number)))
           (w₁ .put-line .ensures .0) (w₂ .put-number .ensures .0),
       omega arith,
     )

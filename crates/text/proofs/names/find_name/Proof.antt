@@ -7,48 +7,39 @@ use Rattle.search.specs.Search.{first, range}
 use Rattle.search.proofs.Loops.{range-stop, range-go, range-done}
 use Rattle.text.specs.Bytes.{same}
 use Rattle.text.specs.Names.{declaredAt}
-use Rattle.text.specs.Parts.{nameAt, spelled}
-use Rattle.text.proofs.Spelling.{search-starts}
+use Rattle.text.specs.Internal.{nameAt, spelled}
+use Rattle.text.proofs.Spelling.{search-starts, search-empty}
 use Rattle.text.proofs.names.find_name.Statement.{statement}
 use Rattle.text.proofs.names.find_name.Tie as tie
 
 abbrev Inv-loop : tie.InvT-loop
-Inv-loop text name names i₀ i =
-    (i ≤ names .count) × (names .count ≤ 32) × (first (λ j. same name (nameAt text names j)) i (range i (names .count - i)) ≡ declaredAt (spelled text names) name)
+Inv-loop text names name i₀ i =
+    (i ≤ names .count) × (first (λ j. same name (nameAt text names j)) i (range i (names .count - i)) ≡ declaredAt (spelled text names) name)
 
 abbrev μ-loop : tie.MeasureT-loop
-μ-loop text name names i₀ i = names .count - i
+μ-loop text names name i₀ i = names .count - i
+
+returns : tie.Need-returns Inv-loop μ-loop
+returns c = search-empty _ (c .before .before .before .args .name .now) (c .if1 .taken)
 
 loop-holds : tie.Need-loop-holds Inv-loop μ-loop
-loop-holds c = (omega arith, c .before .before .pre, search-starts _ _ (c .before .before .args .name .now))
+loop-holds c = (omega arith, search-starts _ _ (c .before .before .before .args .name .now) (c .if1 .left))
 
-mul-part : tie.Need-mul-part Inv-loop μ-loop
-mul-part c = omega arith
-
-element-copy-out-part : tie.Need-element-copy-out-part Inv-loop μ-loop
-element-copy-out-part c = omega arith
-
-mul-part-2 : tie.Need-mul-part-2 Inv-loop μ-loop
-mul-part-2 c = omega arith
-
-element-copy-out-part-2 : tie.Need-element-copy-out-part-2 Inv-loop μ-loop
-element-copy-out-part-2 c = omega arith
-
-part-requires : tie.Need-part-requires Inv-loop μ-loop
-part-requires c κs = tt
+name-at-requires : tie.Need-name-at-requires Inv-loop μ-loop
+name-at-requires c κs = tt
 
 same-requires : tie.Need-same-requires Inv-loop μ-loop
 same-requires c κs = tt
 
 -- what was compared is the name at the place
-compared : (c : tie.After-same Inv-loop μ-loop) → let h = c .before .before .before .before .before in let a = h .before .before .before .args in
-    c .same .result ≡ same (a .name .now) (nameAt (a .text .now) (a .t2) (h .loop .i))
-compared c = rw (← c .before .part .ensures) (c .same .ensures)
+compared : (c : tie.After-same Inv-loop μ-loop) → let h = c .before .before .before .before in let a = h .before .before .before .before .args in
+    c .same .result ≡ same (a .name .now) (nameAt (a .text .now) (a .names) (h .loop .i))
+compared c = rw (← c .before .name-at .ensures) (c .same .ensures)
 
-returns : tie.Need-returns Inv-loop μ-loop
-returns c =
-    let h = c .before .before .before .before .before .before in
-    range-stop _ (h .loop .i) _ (c .before .before .before .before .before .loop-test .taken) (h .loop .inv .2) (sym (compared (c .before)) ∙ c .if1 .taken)
+returns-2 : tie.Need-returns-2 Inv-loop μ-loop
+returns-2 c =
+    let h = c .before .before .before .before .before in
+    range-stop _ (h .loop .i) _ (c .before .before .before .if2 .taken) (h .loop .inv .1) (sym (compared (c .before)) ∙ c .if3 .taken)
 
 add-i : tie.Need-add-i Inv-loop μ-loop
 add-i c = omega arith
@@ -58,15 +49,13 @@ loop-less c = omega arith
 
 loop-again : tie.Need-loop-again Inv-loop μ-loop
 loop-again c =
-    let h = c .before .before .before .before .before .before in (
+    let h = c .before .before .before .before .before in (
       omega arith,
-      omega arith,
-      range-go _ (h .loop .i) _ (c .before .before .before .before .before .loop-test .taken) (h .loop .inv .2)
-          (sym (compared (c .before)) ∙ c .if1 .left),
+      range-go _ (h .loop .i) _ (c .before .before .before .if2 .taken) (h .loop .inv .1) (sym (compared (c .before)) ∙ c .if3 .left),
     )
 
-returns-2 : tie.Need-returns-2 Inv-loop μ-loop
-returns-2 c = range-done _ (c .before .loop .i) _ (c .loop-test .left) (c .before .loop .inv .2)
+returns-3 : tie.Need-returns-3 Inv-loop μ-loop
+returns-3 c = range-done _ (c .before .before .loop .i) _ (c .if2 .left) (c .before .before .loop .inv .1)
 
 pub find-name-spec : {M : Type 1} → statement M
 find-name-spec =
@@ -74,15 +63,12 @@ find-name-spec =
     (tie.spec
     Inv-loop
     μ-loop
-    loop-holds
-    mul-part
-    element-copy-out-part
-    mul-part-2
-    element-copy-out-part-2
-    part-requires
-    same-requires
     returns
+    loop-holds
+    name-at-requires
+    same-requires
+    returns-2
     add-i
     loop-less
     loop-again
-    returns-2)
+    returns-3)

@@ -2,7 +2,7 @@
 -- Assumes nothing.
 use borrow.Author.Needs.{needs}
 use borrow.Author.Tests.{eq-eqb, ne-eqb}
-use Rattle.answer_sets.specs.Literals.{complement}
+use Rattle.translation.specs.Rules.{complement}
 use Rattle.translation.proofs.writers.part_word.Statement.{statement}
 use Rattle.translation.proofs.writers.part_word.Tie as tie
 

@@ -8,7 +8,7 @@ use native.Mathlib.Nat.{add-zero}
 use native.Mathlib.Omega.{arith}
 use lib.ListN.{length-set, length-take, drop-of-length-le, length, take, drop}
 use lib.Seq.{getD-take, sets}
-use Rattle.answer_sets.specs.Literals.{complement}
+use Rattle.translation.specs.Rules.{complement}
 use Rattle.translation.proofs.Writing.{store-next}
 use Rattle.translation.proofs.writers.write_codes.Statement.{statement}
 use Rattle.translation.proofs.writers.write_codes.Tie as tie

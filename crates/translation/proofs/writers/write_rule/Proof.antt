@@ -3,9 +3,8 @@
 use native.Mathlib.Omega.{arith}
 use lib.ListN.{take}
 use borrow.Author.Needs.{needs}
-use Rattle.answer_sets.specs.Literals.{complement}
 use Rattle.description.specs.Laws.{ifList}
-use Rattle.translation.specs.Rules.{headAt, atTime}
+use Rattle.translation.specs.Rules.{complement, headAt, atTime}
 use Rattle.translation.proofs.Writing.{rule-stores}
 use Rattle.translation.proofs.writers.write_rule.Statement.{statement}
 use Rattle.translation.proofs.writers.write_rule.Tie as tie

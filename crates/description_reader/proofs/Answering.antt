@@ -1,0 +1,49 @@
+-- What the reader's ending answers: the reply, the record, the laws and the names shown.
+-- Assumes nothing.
+use mathlib.Core.Path.{_≡_, sym}
+use mathlib.Core.List.{List, []}
+use Prim.Native.Nat.{ℕ, _+_, _-_, _≤_, _<_}
+use native.Mathlib.Omega.{arith}
+use borrow.Author.Tests.{eq-eqb, ne-eqb}
+use lib.ListN.{length, take, drop, length-take, length-drop, take-append-drop}
+use Rattle.description.specs.declared.Law.{Law}
+use Rattle.description_reader.specs.declared.states.Reading.{Reading}
+use Rattle.description_reader.specs.declared.descriptions.Ending.{Ending}
+use Rattle.search.specs.Replies.{refused, answered}
+use Rattle.description_reader.specs.Descriptions.{read, descriptionOf}
+use Rattle.description_reader.specs.Answers.{behind, replied, lawsLeft}
+use Rattle.description_reader.specs.Shown.{actionName}
+use Rattle.description_reader.specs.Internal.{draftOf, takenOf, Ended, Limits}
+use Rattle.text.proofs.Spelling.{spelled-length, spelled-past}
+use Rattle.description_reader.proofs.Stepping.{sound-64}
+
+module _ (text : List ℕ) (e : Ending) where
+  pub ends-refused : 0 < e .state .refused → takenOf text e ≡ refused (e .state .refused) (e .line)
+  unfolding takenOf
+  ends-refused h = rw (ne-eqb (e .state .refused) 0 (λ z. absurd (omega arith)))
+
+  pub ends-read : e .state .refused ≤ 0 → takenOf text e ≡ answered (read (draftOf text (e .state .reading)) (drop (e .at) text) (e .line))
+  unfolding takenOf
+  ends-read h = rw (eq-eqb (e .state .refused) 0 (omega arith))
+
+-- a description that was read
+module _ (text : List ℕ) (e : Ending) (laws : List Law) (ended : Ended laws text e) where
+  taken : length (take (e .state .reading .run .count) (e .state .reading .run .laws)) ≡ e .state .reading .run .count
+  taken =
+      omega (arith, length-take (e .state .reading .run .count) (e .state .reading .run .laws), ended .sound .held, sound-64 (ended .sound))
+
+  pub read-reply : answered (behind (e .at) (e .line)) ≡ replied text (answered (read (draftOf text (e .state .reading)) (drop (e .at) text) (e .line)))
+  read-reply =
+      let at : length text - length (drop (e .at) text) ≡ e .at = omega (arith, length-drop (e .at) text, ended .within) in
+      rw at
+
+  pub read-record : record { fluents = e .state .reading .fluents; actions = e .state .reading .names .count - e .state .reading .fluents; laws = e .state .reading .run .count; horizon = e .state .reading .horizon }
+      ≡ descriptionOf (draftOf text (e .state .reading))
+  read-record = rw (spelled-length, taken)
+
+  pub read-laws : e .state .reading .run .laws ≡ lawsLeft (answered (read (draftOf text (e .state .reading)) (drop (e .at) text) (e .line))) laws
+  read-laws = rw (taken, ← ended .follows) (sym (take-append-drop (e .state .reading .run .count) (e .state .reading .run .laws)))
+
+-- no action has a number of 8 or more
+pub no-action : (text : List ℕ) (r : Reading) → Limits r → (k : ℕ) → 8 ≤ k → [] ≡ actionName (draftOf text r) k
+no-action text r limits k h = spelled-past text (r .names) (r .fluents + k) (omega (arith, limits .actions))

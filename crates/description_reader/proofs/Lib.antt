@@ -1,0 +1,6 @@
+-- What the functions' proofs share.
+pub mod Gathering
+pub mod Deciding
+pub mod Stepping
+pub mod Walking
+pub mod Answering

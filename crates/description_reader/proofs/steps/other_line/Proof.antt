@@ -1,0 +1,97 @@
+-- `steps::other_line` meets its contract: the key decides.
+-- Assumes nothing.
+use borrow.Author.Tests.{eq-eqb, ne-eqb}
+use Rattle.text.proofs.Spelling.{spelled-length}
+use borrow.Author.Needs.{needs}
+use Rattle.description_reader.proofs.steps.other_line.Statement.{statement}
+use Rattle.description_reader.proofs.steps.other_line.Tie as tie
+
+sub-horizon-line : tie.Need-sub-horizon-line
+sub-horizon-line c = search needs
+
+part-horizon-line-start : tie.Need-part-horizon-line-start
+part-horizon-line-start c = search needs
+
+part-horizon-line-end : tie.Need-part-horizon-line-end
+part-horizon-line-end c = search needs
+
+horizon-line-requires : tie.Need-horizon-line-requires
+horizon-line-requires c κs = search needs
+
+returns : tie.Need-returns
+returns c =
+    (rw (eq-eqb _ _ (c .before .before .if1 .taken)) (c .horizon-line .ensures .0 _), c .horizon-line .ensures .1)
+
+name-line-requires : tie.Need-name-line-requires
+name-line-requires c κs = search needs
+
+returns-2 : tie.Need-returns-2
+returns-2 c =
+    (rw (ne-eqb _ _ (c .before .before .if1 .left), eq-eqb _ _ (c .before .if2 .taken)) (c .name-line .ensures .0), c .name-line .ensures .1)
+
+name-line-requires-2 : tie.Need-name-line-requires-2
+name-line-requires-2 c κs = search needs
+
+returns-3 : tie.Need-returns-3
+returns-3 c =
+    let d = c .before .before in
+    (rw (ne-eqb _ _ (d .before .if1 .left), ne-eqb _ _ (d .if2 .left), eq-eqb _ _ (c .before .if3 .taken), spelled-length) (c .name-line2 .ensures .0), c .name-line2 .ensures .1)
+
+law-line-requires : tie.Need-law-line-requires
+law-line-requires c κs = search needs
+
+returns-4 : tie.Need-returns-4
+returns-4 c =
+    let d = c .before .before .before in
+    (rw (ne-eqb _ _ (d .before .if1 .left), ne-eqb _ _ (d .if2 .left), ne-eqb _ _ (c .before .before .if3 .left), eq-eqb _ _ (c .before .if4 .taken)) (c .law-line .ensures .0), c .law-line .ensures .1)
+
+law-line-requires-2 : tie.Need-law-line-requires-2
+law-line-requires-2 c κs = search needs
+
+returns-5 : tie.Need-returns-5
+returns-5 c =
+    let e = c .before .before in
+    let d = e .before .before in
+    (rw (ne-eqb _ _ (d .before .if1 .left), ne-eqb _ _ (d .if2 .left), ne-eqb _ _ (e .before .if3 .left), ne-eqb _ _ (e .if4 .left), eq-eqb _ _ (c .before .if5 .taken)) (c .law-line2 .ensures .0), c .law-line2 .ensures .1)
+
+sub-end-line : tie.Need-sub-end-line
+sub-end-line c = search needs
+
+part-end-line-start : tie.Need-part-end-line-start
+part-end-line-start c = search needs
+
+part-end-line-end : tie.Need-part-end-line-end
+part-end-line-end c = search needs
+
+end-line-requires : tie.Need-end-line-requires
+end-line-requires c κs = search needs
+
+returns-6 : tie.Need-returns-6
+returns-6 c =
+    let e = c .before .before .before in
+    let d = e .before .before in
+    let p = d .before .before .before .pre .1 in
+    (rw (ne-eqb _ _ (d .before .if1 .left), ne-eqb _ _ (d .if2 .left), ne-eqb _ _ (e .before .if3 .left), ne-eqb _ _ (e .if4 .left), ne-eqb _ _ (c .before .before .if5 .left), ne-eqb _ _ (p .0), ne-eqb _ _ (p .1)) (c .end-line .ensures .0 _), c .end-line .ensures .1)
+
+pub other-line-spec : {M : Type 1} → statement M
+other-line-spec =
+    tie.close
+    (tie.spec
+    sub-horizon-line
+    part-horizon-line-start
+    part-horizon-line-end
+    horizon-line-requires
+    returns
+    name-line-requires
+    returns-2
+    name-line-requires-2
+    returns-3
+    law-line-requires
+    returns-4
+    law-line-requires-2
+    returns-5
+    sub-end-line
+    part-end-line-start
+    part-end-line-end
+    end-line-requires
+    returns-6)

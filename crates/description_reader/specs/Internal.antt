@@ -1,0 +1,166 @@
+-- Internal: what the crate's own functions promise each other. No public promise rests on it; a reader may pass it over.
+-- Assumes nothing.
+use mathlib.Core.Path.{_≡_}
+use mathlib.Core.Bool.{Bool, false, cond, not, _&&_, _||_}
+use mathlib.Core.List.{List, []}
+use mathlib.Core.Option.{Option, none, some}
+use Prim.Native.Nat.{ℕ, _+_, _-_, _*_, _≤_, _<_}
+use lib.Dec.{eqb, ltb}
+use lib.ListN.{length, take, drop, replicate}
+use Rattle.description.specs.declared.Law.{Law}
+use Rattle.description_reader.specs.declared.Run.{Run}
+use Rattle.description_reader.specs.declared.states.Reading.{Reading}
+use Rattle.description_reader.specs.declared.states.State.{State}
+use Rattle.description_reader.specs.declared.descriptions.Ending.{Ending}
+use Rattle.description_reader.specs.declared.states.Due as code
+use Rattle.description_reader.specs.declared.states.Due.the-variants as code-due
+use Rattle.description_reader.specs.declared.codes.Codes.{Codes}
+use Rattle.text.specs.Bytes.{isDigit}
+use Rattle.text.specs.Lines.{ifKey, afterKey}
+use Rattle.text.specs.Lists as lists
+use Rattle.text.specs.Lists.{Listed, codes, added}
+use Rattle.text.specs.Internal.{spelled}
+use Rattle.description_reader.specs.LineSteps.{Due, horizonDue, firstFluentDue, fluentDue, actionDue, lawDue, ifDue, afterDue, Draft, allowed}
+use Rattle.description_reader.specs.LineSteps as step
+use Rattle.description_reader.specs.LineSteps.{Step, next, finish, inHorizon, ifLine, afterLine, lawIn, byKey}
+use Rattle.description.specs.Laws.{padded, noLaw}
+use Rattle.search.specs.Replies.{Reply, refused, answered}
+use Rattle.description_reader.specs.Descriptions.{Taken, read}
+
+-- a list's codes so far, or its refusal
+abbrev pub noCodes : Codes
+noCodes = record { codes = replicate 6 0; count = 0; refused = 0 }
+
+pub record Padded (l : Codes) : Type 0 where
+  pub few : l .count ≤ 6
+  pub padding : l .codes ≡ padded (take (l .count) (l .codes))
+
+unfoldable pub listedOf : Codes → Listed
+listedOf l = cond (eqb (l .refused) 0) (codes (take (l .count) (l .codes))) (lists.refused (l .refused))
+
+-- one more item behind those of a list: refusal 5 of a seventh, then 6
+unfoldable pub oneMore : List ℕ → Option ℕ → Listed
+oneMore done code = cond (ltb (length done) 6) (added done code codes) (lists.refused 5)
+
+abbrev pub twoDigits : ℕ → ℕ → Option ℕ
+twoDigits a b = cond (isDigit a && isDigit b && not (eqb a 48)) (inHorizon (10 * (a - 48) + (b - 48))) none
+
+-- what is due, where the law is the one that has begun
+abbrev pub dueOf : code.Due → Law → Due
+dueOf code-due.Horizon l = horizonDue
+dueOf code-due.FirstFluent l = firstFluentDue
+dueOf code-due.Fluent l = fluentDue
+dueOf code-due.Action l = actionDue
+dueOf code-due.NewLaw l = lawDue
+dueOf code-due.If l = ifDue l
+dueOf code-due.After l = afterDue l
+
+abbrev pub dueAt : State → Due
+dueAt s = dueOf (s .due) (s .law)
+
+-- the draft that the code's record stands for, and the step that its state does
+abbrev pub draftOf : List ℕ → Reading → Draft
+draftOf text r =
+    record {
+      horizon = r .horizon;
+      fluents = r .fluents;
+      names = spelled text (r .names);
+      laws = take (r .run .count) (r .run .laws);
+    }
+
+unfoldable pub stepOf : List ℕ → State → Step
+stepOf text s =
+    cond (eqb (s .refused) 0)
+    (cond (s .ended) (finish (draftOf text (s .reading))) (next (dueAt s) (draftOf text (s .reading))))
+    (step.refused (s .refused))
+
+-- a law that is being read has a place in the run
+abbrev pub HasRoom : Due → ℕ → Type 0
+HasRoom horizonDue n = n ≤ 64
+HasRoom firstFluentDue n = n ≤ 64
+HasRoom fluentDue n = n ≤ 64
+HasRoom actionDue n = n ≤ 64
+HasRoom lawDue n = n ≤ 64
+HasRoom (ifDue l) n = n < 64
+HasRoom (afterDue l) n = n < 64
+
+-- the counts that a reading keeps to
+pub record Sound (due : Due) (r : Reading) : Type 0 where
+  pub time : r .horizon ≤ 30
+  pub few : r .fluents ≤ 24
+  pub declared : r .fluents ≤ r .names .count
+  pub actions : r .names .count ≤ r .fluents + 8
+  pub room : HasRoom due (r .run .count)
+  pub held : length (r .run .laws) ≡ 64
+
+-- the laws behind those read are the old ones
+abbrev pub Follows : List Law → Run → Type 0
+Follows old run = drop (run .count) (run .laws) ≡ drop (run .count) old
+
+-- what every line's step keeps
+pub record Goes (s r : State) : Type 0 where
+  pub sound : Sound (dueAt r) (r .reading)
+  pub follows : (old : List Law) → Follows old (s .reading .run) → Follows old (r .reading .run)
+
+-- whether one more action, or one more fluent, can be declared
+abbrev pub hasPlace : Bool → ℕ → ℕ → Bool
+hasPlace action fluents names = cond action (ltb names (fluents + 8)) (ltb fluents 24)
+
+-- a line's step where its list, if it is an if- or after-list, is read already
+unfoldable pub stepWith : ℕ → Due → Draft → ℕ → List ℕ → Listed → Step
+stepWith lent due d key value list =
+    cond (allowed due key)
+    (cond (eqb key ifKey) (ifLine d (lawIn due) list) (cond (eqb key afterKey) (afterLine d (lawIn due) list) (byKey lent due d key value)))
+    (step.refused 2)
+
+-- a reading with one more law
+pub record Pushed (s r : Reading) : Type 0 where
+  pub horizon : r .horizon ≡ s .horizon
+  pub fluents : r .fluents ≡ s .fluents
+  pub names : r .names ≡ s .names
+  pub count : r .run .count ≡ s .run .count + 1
+  pub held : length (r .run .laws) ≡ 64
+  pub follows : (old : List Law) → Follows old (s .run) → Follows old (r .run)
+
+abbrev pub blankState : List Law → State
+blankState laws =
+    record {
+      refused = 0;
+      ended = false;
+      due = code-due.Horizon;
+      law = noLaw;
+      reading =
+          record {
+            horizon = 0;
+            fluents = 0;
+            names = record { starts = replicate 32 0; lengths = replicate 32 0; count = 0 };
+            run = record { laws = laws; count = 0 };
+          };
+    }
+
+abbrev pub isListKey : ℕ → Bool
+isListKey key = eqb key ifKey || eqb key afterKey
+
+-- where a line's items begin: behind the end where there are none to read
+unfoldable pub itemsFrom : Due → ℕ → ℕ → ℕ
+itemsFrom due key size = cond (ltb 0 size && (allowed due key && isListKey key)) 0 (size + 1)
+
+unfoldable pub highFor : ℕ → Reading → ℕ
+highFor key r = cond (eqb key afterKey) (r .names .count) (r .fluents)
+
+-- what the reader's ending stands for
+unfoldable pub takenOf : List ℕ → Ending → Reply Taken
+takenOf text e =
+    cond (eqb (e .state .refused) 0) (answered (read (draftOf text (e .state .reading)) (drop (e .at) text) (e .line))) (refused (e .state .refused) (e .line))
+
+pub record Ended (old : List Law) (text : List ℕ) (e : Ending) : Type 0 where
+  pub sound : Sound (dueAt (e .state)) (e .state .reading)
+  pub follows : Follows old (e .state .reading .run)
+  pub within : e .at ≤ length text
+
+-- the limits of a description that was read
+pub record Limits (r : Reading) : Type 0 where
+  pub time : r .horizon ≤ 30
+  pub few : r .fluents ≤ 24
+  pub declared : r .fluents ≤ r .names .count
+  pub actions : r .names .count ≤ r .fluents + 8

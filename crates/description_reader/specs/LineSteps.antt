@@ -1,0 +1,150 @@
+-- What one line of a description does (01, "Text" and "Where a call can be turned down").
+-- Assumes nothing.
+use mathlib.Core.Bool.{Bool, true, false, not, cond, _&&_, _||_}
+use mathlib.Core.List.{List, [], _∷_, _++_}
+use mathlib.Core.Option.{Option, none, some}
+use Prim.Native.Nat.{ℕ, suc, _+_, _-_, _*_, min}
+use lib.Dec.{eqb, ltb, leb}
+use lib.ListN.{length}
+use Rattle.description.specs.declared.Head.{Head}
+use Rattle.description.specs.declared.Head.the-variants.{Lit, False}
+use Rattle.description.specs.declared.Kind.{Kind}
+use Rattle.description.specs.declared.Kind.the-variants.{Static, Dynamic}
+use Rattle.description.specs.declared.Law.{Law}
+use Rattle.description.specs.Laws.{padded, lawOf, noLaw}
+use Rattle.text.specs.Bytes.{isDigit, same}
+use Rattle.text.specs.Lines.{horizonKey, fluentKey, actionKey, staticKey, dynamicKey, ifKey, afterKey, endKey}
+use Rattle.text.specs.Names.{falseBytes, isNew, literal}
+use Rattle.text.specs.Lists as lists
+use Rattle.text.specs.Lists.{Listed, codes, listOf}
+
+-- what is due: the horizon, the first fluent, a further fluent or what follows, an action or what follows, a law or the end,
+-- the if-list of a law that has begun, its after-list
+pub data Due : Type 0 where
+  horizonDue firstFluentDue fluentDue actionDue lawDue : Due
+  ifDue afterDue : Law → Due
+
+-- what has been read: the horizon, how many of the names are fluents, the names (fluents first), and the laws
+pub record Draft : Type 0 where
+  pub horizon : ℕ
+  pub fluents : ℕ
+  pub names : List (List ℕ)
+  pub laws : List Law
+
+-- the keys that may stand where something is due
+abbrev pub allowed : Due → ℕ → Bool
+allowed horizonDue k = eqb k horizonKey
+allowed firstFluentDue k = eqb k fluentKey
+allowed fluentDue k = eqb k fluentKey || eqb k actionKey || eqb k staticKey || eqb k dynamicKey || eqb k endKey
+allowed actionDue k = eqb k actionKey || eqb k staticKey || eqb k dynamicKey || eqb k endKey
+allowed lawDue k = eqb k staticKey || eqb k dynamicKey || eqb k endKey
+allowed (ifDue l) k = eqb k ifKey
+allowed (afterDue l) k = eqb k afterKey
+
+-- what a line comes to: a refusal's number, what is due next, or the end of the description
+pub data Step : Type 0 where
+  refused : ℕ → Step
+  next : Due → Draft → Step
+  finish : Draft → Step
+
+-- 1 to 30 without a leading zero
+abbrev pub inHorizon : ℕ → Option ℕ
+inHorizon T = cond (leb 1 T && leb T 30) (some T) none
+
+unfoldable pub horizonOf : List ℕ → Option ℕ
+horizonOf [] = none
+horizonOf (a ∷ []) = cond (isDigit a) (inHorizon (a - 48)) none
+horizonOf (a ∷ b ∷ []) = cond (isDigit a && isDigit b && not (eqb a 48)) (inHorizon (10 * (a - 48) + (b - 48))) none
+horizonOf (a ∷ b ∷ c ∷ bs) = none
+
+abbrev pub horizonLine : Draft → Option ℕ → Step
+horizonLine d none = refused 3
+horizonLine d (some T) =
+    next firstFluentDue (record { horizon = T; fluents = d .fluents; names = d .names; laws = d .laws })
+
+-- a line that declares a name, where there is a place for it; fluents is their number behind it
+abbrev pub nameLine : Bool → Due → ℕ → Draft → List ℕ → Step
+nameLine fits due fluents d value =
+    cond fits
+    (cond (isNew (d .names) value)
+    (next due (record { horizon = d .horizon; fluents = fluents; names = d .names ++ (value ∷ []); laws = d .laws }))
+    (refused 4))
+    (refused 5)
+
+abbrev pub fluentLine : Draft → List ℕ → Step
+fluentLine d value = nameLine (ltb (d .fluents) 24) fluentDue (suc (d .fluents)) d value
+
+abbrev pub actionLine : Draft → List ℕ → Step
+actionLine d value = nameLine (ltb (length (d .names)) (d .fluents + 8)) actionDue (d .fluents) d value
+
+-- a law's head: false or a fluent literal
+abbrev pub litHead : Option ℕ → Option Head
+litHead none = none
+litHead (some c) = some (Lit c)
+
+unfoldable pub headOf : List (List ℕ) → ℕ → List ℕ → Option Head
+headOf names fluents value = cond (same value falseBytes) (some False) (litHead (literal names 0 fluents value))
+
+abbrev pub begun : Draft → Kind → Option Head → Step
+begun d kind none = refused 6
+begun d kind (some h) = next (ifDue (lawOf kind h [] [])) d
+
+-- a new law, of at most 64 and of those lent: 5 before its head's spelling
+abbrev pub lawLine : ℕ → Draft → Kind → List ℕ → Step
+lawLine lent d kind value =
+    cond (ltb (length (d .laws)) (min 64 lent)) (begun d kind (headOf (d .names) (d .fluents) value)) (refused 5)
+
+-- a law is whole behind its if-list if it is static, else behind its after-list
+abbrev pub whole : Draft → Law → Draft
+whole d l = record { horizon = d .horizon; fluents = d .fluents; names = d .names; laws = d .laws ++ (l ∷ []) }
+
+abbrev pub withIf : Draft → Kind → Head → List ℕ → Step
+withIf d Static head cs = next lawDue (whole d (lawOf Static head cs []))
+withIf d Dynamic head cs = next (afterDue (lawOf Dynamic head cs [])) d
+
+abbrev pub ifLine : Draft → Law → Listed → Step
+ifLine d l (lists.refused k) = refused k
+ifLine d l (codes cs) = withIf d (l .kind) (l .head) cs
+
+abbrev pub withAfter : Law → List ℕ → Law
+withAfter l cs =
+    record {
+      kind = l .kind;
+      head = l .head;
+      «if_count» = l .«if_count»;
+      «if_codes» = l .«if_codes»;
+      «after_count» = length cs;
+      «after_codes» = padded cs;
+    }
+
+abbrev pub afterLine : Draft → Law → Listed → Step
+afterLine d l (lists.refused k) = refused k
+afterLine d l (codes cs) = next lawDue (whole d (withAfter l cs))
+
+abbrev pub endLine : Draft → List ℕ → Step
+endLine d [] = finish d
+endLine d (b ∷ bs) = refused 2
+
+-- the law that has begun; no list is allowed where none has
+abbrev pub lawIn : Due → Law
+lawIn horizonDue = noLaw
+lawIn firstFluentDue = noLaw
+lawIn fluentDue = noLaw
+lawIn actionDue = noLaw
+lawIn lawDue = noLaw
+lawIn (ifDue l) = l
+lawIn (afterDue l) = l
+
+-- a line whose key is allowed, by its key; a fluent literal's place is below the number of fluents
+abbrev pub byKey : ℕ → Due → Draft → ℕ → List ℕ → Step
+byKey lent due d key value =
+    cond (eqb key horizonKey) (horizonLine d (horizonOf value))
+    (cond (eqb key fluentKey) (fluentLine d value)
+    (cond (eqb key actionKey) (actionLine d value)
+    (cond (eqb key staticKey) (lawLine lent d Static value)
+    (cond (eqb key dynamicKey) (lawLine lent d Dynamic value)
+    (cond (eqb key ifKey) (ifLine d (lawIn due) (listOf (d .names) 0 (d .fluents) 6 value))
+    (cond (eqb key afterKey) (afterLine d (lawIn due) (listOf (d .names) 0 (length (d .names)) 6 value)) (endLine d value)))))))
+
+unfoldable pub lineStep : ℕ → Due → Draft → ℕ → List ℕ → Step
+lineStep lent due d key value = cond (allowed due key) (byKey lent due d key value) (refused 2)

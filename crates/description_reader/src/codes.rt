@@ -1,0 +1,54 @@
+// The codes of a law's list, gathered item by item.
+use search::Found;
+ghost use mathlib.Core.Path.{_≡_};
+ghost use lib.ListN.{take};
+ghost use Rattle.search.specs.Search.{placeOf};
+ghost use Rattle.text.specs.Internal.{CodeFits};
+ghost use Rattle.description_reader.specs.Internal.{noCodes, Padded, listedOf, oneMore};
+
+// The codes of a list's first items, 0 behind them, or a refusal's number.
+pub(crate) struct Codes {
+    pub codes: [u8; 6],
+    pub count: usize,
+    pub refused: u8,
+}
+
+pub(crate) fn no_codes() -> Codes
+    ensures { λ r. ⌜ r ≡ noCodes ⌝ }
+{
+    Codes {
+        codes: [0; 6],
+        count: 0,
+        refused: 0,
+    }
+}
+
+// The codes and one more item: refusal 5 of a seventh, before its spelling, and 6 of one that is no literal of the allowed sort.
+pub(crate) fn with_item(list: Codes, code: Found) -> Codes
+    requires { ⌜ Padded list × CodeFits (placeOf code) ⌝ }
+    ensures { λ r. ⌜ listedOf r ≡ oneMore (take (list .count) (list .codes)) (placeOf code) ⌝ }
+    ensures { λ r. ⌜ (r .refused ≡ 0 → Padded r) ⌝ }
+{
+    let count = list.count;
+    let mut codes = list.codes;
+    if 6 <= count {
+        return Codes {
+            codes,
+            count,
+            refused: 5,
+        };
+    }
+    let Found::At(c) = code else {
+        return Codes {
+            codes,
+            count,
+            refused: 6,
+        };
+    };
+    codes[count] = c as u8;
+    Codes {
+        codes,
+        count: count + 1,
+        refused: 0,
+    }
+}

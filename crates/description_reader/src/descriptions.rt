@@ -1,0 +1,154 @@
+// Reading a description, line by line; the first bad line decides.
+use crate::Run;
+use crate::codes;
+use crate::states;
+use crate::states::Due;
+use crate::states::Reading;
+use crate::states::State;
+use crate::steps;
+use description::Head;
+use description::Kind;
+use description::Law;
+use text::lines;
+use text::lists;
+use text::names::Names;
+ghost use mathlib.Core.Path.{_≡_};
+ghost use Prim.Native.Nat.{_≤_, _<_};
+ghost use lib.ListN.{length};
+ghost use Rattle.description.specs.declared.Law.{Law};
+ghost use Rattle.description_reader.specs.Descriptions.{described};
+ghost use Rattle.description_reader.specs.Internal.{dueOf, blankState, itemsFrom, highFor, takenOf, Ended, Limits};
+
+// Where the reader stopped: its state, the line, and the place behind the line.
+pub struct Ending {
+    pub state: State,
+    pub line: usize,
+    pub at: usize,
+}
+
+// Nothing is read yet.
+fn begun(laws: [Law; 64]) -> State
+    ensures { λ r. ⌜ r ≡ blankState laws ⌝ }
+{
+    let names = Names {
+        starts: [0; 32],
+        lengths: [0; 32],
+        count: 0,
+    };
+    let run = Run { laws, count: 0 };
+    let law = steps::new_law(Kind::Static, Head::Lit(0));
+    let reading = Reading {
+        horizon: 0,
+        fluents: 0,
+        names,
+        run,
+    };
+    State {
+        refused: 0,
+        ended: false,
+        due: Due::Horizon,
+        law,
+        reading,
+    }
+}
+
+// Where the items of a line's list begin: behind the end where the line has none to be read.
+fn first_item(due: Due, key: usize, size: usize) -> usize
+    requires { ⌜ size < 9223372036854775808 ⌝ }
+    ensures { λ r. ⌜ ((law : Law) → r ≡ itemsFrom (dueOf due law) key size) ⌝ }
+{
+    if size == 0 {
+        return size + 1;
+    }
+    if !states::is_allowed(due, key) {
+        return size + 1;
+    }
+    if key == lines::IF {
+        return 0;
+    }
+    if key == lines::AFTER {
+        return 0;
+    }
+    size + 1
+}
+
+// Up to which place the names of a line's list go: the fluents in an if-list, all names in an after-list.
+fn sort_end(reading: Reading, key: usize) -> usize
+    ensures { λ r. ⌜ r ≡ highFor key reading ⌝ }
+{
+    let names = reading.names;
+    if key == lines::AFTER {
+        return names.count;
+    }
+    reading.fluents
+}
+
+// Reads line by line to the end line or to the first bad line; laws are counted up to those lent.
+fn read_lines(text: &[u8], laws: [Law; 64], lent: usize) -> Ending
+    requires { ⌜ length (now text) ≤ 65535 ⌝ }
+    ensures { λ r. ⌜ takenOf (now (text .entry)) r ≡ described lent (now (text .entry)) ⌝ }
+    ensures { λ r. ⌜ Ended laws (now (text .entry)) r ⌝ }
+{
+    let mut state = begun(laws);
+    let mut at: usize = 0;
+    let mut line: usize = 1;
+    'lines: loop {
+        let l = lines::line_at(text, at);
+        let from = l.from;
+        let to = l.to;
+        let list = &text[from..to];
+        let due = state.due;
+        let reading = state.reading;
+        let names = reading.names;
+        let high = sort_end(reading, l.key);
+        let mut gathered = codes::no_codes();
+        let mut i = first_item(due, l.key, list.len());
+        while i <= list.len() {
+            let item = lists::next_item(list, i, text, names, 0, high);
+            let code = item.code;
+            gathered = codes::with_item(gathered, code);
+            if 0 < gathered.refused {
+                state = steps::refused(state, gathered.refused);
+                break 'lines;
+            }
+            i = item.next;
+        }
+        state = steps::line_step(text, from, to, l.key, gathered, state, lent);
+        at = l.next;
+        if states::stops(state) {
+            break 'lines;
+        }
+        line += 1;
+    }
+    Ending { state, line, at }
+}
+
+// Reads a description of at most 65,535 bytes.
+pub(crate) fn read(text: &[u8], laws: [Law; 64], lent: usize) -> Ending
+    ensures { λ r. ⌜ takenOf (now (text .entry)) r ≡ described lent (now (text .entry)) ⌝ }
+    ensures { λ r. ⌜ Ended laws (now (text .entry)) r ⌝ }
+{
+    if 65535 < text.len() {
+        let state = steps::refused(begun(laws), 1);
+        return Ending {
+            state,
+            line: 0,
+            at: 0,
+        };
+    }
+    read_lines(text, laws, lent)
+}
+
+// Laws that nobody looks at.
+fn no_laws() -> [Law; 64] {
+    let law = steps::new_law(Kind::Static, Head::Lit(0));
+    [law; 64]
+}
+
+// Reads a description where no law run counts, for its names.
+pub fn read_alone(text: &[u8]) -> Ending
+    ensures { λ r. ⌜ takenOf (now (text .entry)) r ≡ described 64 (now (text .entry)) ⌝ }
+    ensures { λ r. ⌜ Limits (r .state .reading) ⌝ }
+{
+    read(text, no_laws(), 64)
+}

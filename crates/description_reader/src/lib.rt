@@ -1,0 +1,82 @@
+// Reading a description from text, and showing the names that it declares.
+mod codes;
+pub mod descriptions;
+mod shown;
+pub mod states;
+mod steps;
+
+use description::Description;
+use description::Law;
+ghost use mathlib.Core.Path.{_≡_};
+ghost use Rattle.description_reader.specs.Descriptions.{described};
+ghost use Rattle.description_reader.specs.Shown.{shownFluent, shownAction};
+ghost use Rattle.description_reader.specs.Answers.{replyOf, replied, recordOf, lawsLeft};
+
+// The refusal's number and place, or where the description ends: behind how many bytes and lines.
+pub enum Answer {
+    Refused(u8, usize),
+    Read(usize, usize),
+}
+
+// A run of law records by value, of which some number is counted.
+pub struct Run {
+    pub laws: [Law; 64],
+    pub count: usize,
+}
+
+// What the description reader gives: on a refusal the run is the one that was handed in.
+pub struct Described {
+    pub answer: Answer,
+    pub description: Description,
+    pub run: Run,
+}
+
+// Reads a description's text. Laws are counted up to those lent, at most 64; on a refusal the laws are those handed in.
+pub fn read_description(text: &[u8], laws: [Law; 64], lent: usize) -> Described
+    ensures { λ r. ⌜ replyOf (r .answer) ≡ replied (now (text .entry)) (described lent (now (text .entry))) ⌝ }
+    ensures { λ r. ⌜ r .description ≡ recordOf (described lent (now (text .entry))) ⌝ }
+    ensures { λ r. ⌜ r .run .laws ≡ lawsLeft (described lent (now (text .entry))) laws ⌝ }
+    ensures { λ r. ⌜ r .run .count ≡ recordOf (described lent (now (text .entry))) .laws ⌝ }
+{
+    let end = descriptions::read(text, laws, lent);
+    let state = end.state;
+    if 0 < state.refused {
+        return Described {
+            answer: Answer::Refused(state.refused, end.line),
+            description: Description {
+                fluents: 0,
+                actions: 0,
+                laws: 0,
+                horizon: 0,
+            },
+            run: Run { laws, count: 0 },
+        };
+    }
+    let reading = state.reading;
+    let names = reading.names;
+    let run = reading.run;
+    Described {
+        answer: Answer::Read(end.at, end.line),
+        description: Description {
+            fluents: reading.fluents,
+            actions: names.count - reading.fluents,
+            laws: run.count,
+            horizon: reading.horizon,
+        },
+        run,
+    }
+}
+
+// The part of the description text where a fluent was declared; empty for a number that nothing declares, and in a text that is refused.
+pub fn fluent_name(text: &[u8], fluent: usize) -> &[u8]
+    ensures { λ r. ⌜ now r ≡ shownFluent (now (text .entry)) fluent ⌝ }
+{
+    shown::name(text, false, fluent)
+}
+
+// The same for an action.
+pub fn action_name(text: &[u8], action: usize) -> &[u8]
+    ensures { λ r. ⌜ now r ≡ shownAction (now (text .entry)) action ⌝ }
+{
+    shown::name(text, true, action)
+}

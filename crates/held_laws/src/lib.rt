@@ -1,0 +1,62 @@
+// The same functions for programs: each takes 64 law records by value, lends them to the function over a lent run, and hands back
+// what that says. Covered code can't lend a local array of records.
+use causal::Reading;
+use description::Description;
+use description::Law;
+use history::Checked;
+use lent_laws::Read;
+use translation::Translated;
+ghost use mathlib.Core.Path.{_≡_};
+ghost use lib.ListN.{length};
+ghost use Rattle.translation.specs.Translated.{outcomeOf, outcome, tableAfter};
+ghost use Rattle.history.specs.Checks;
+ghost use Rattle.causal.specs.Readings;
+ghost use Rattle.description_reader.specs.Descriptions.{described};
+ghost use Rattle.description_reader.specs.Answers.{replyOf, replied, recordOf, lawsLeft};
+ghost use Rattle.lent_laws.specs.Promises.{PassesExactly, PathExactly};
+
+// What the description reader answers, and the run that it was lent.
+pub struct ReadRun {
+    pub read: Read,
+    pub laws: [Law; 64],
+}
+
+// Lends a run by value to the description reader, and hands it out as the reader left it.
+pub fn read_run(text: &[u8], laws: [Law; 64]) -> ReadRun
+    ensures { λ r. ⌜ replyOf (r .read .answer) ≡ replied (now (text .entry)) (described 64 (now (text .entry))) ⌝ }
+    ensures { λ r. ⌜ r .read .description ≡ recordOf (described 64 (now (text .entry))) ⌝ }
+    ensures { λ r. ⌜ r .laws ≡ lawsLeft (described 64 (now (text .entry))) laws ⌝ }
+{
+    let mut laws = laws;
+    let read = lent_laws::read_description(text, &mut laws);
+    ReadRun { read, laws }
+}
+
+// Lends a run by value to be translated into the table.
+pub fn translate_run(d: Description, laws: [Law; 64], table: &mut [u16]) -> Translated
+    ensures { λ r. ⌜ outcomeOf r ≡ outcome d laws 64 (length (now (table .entry))) ⌝ }
+    ensures { λ _. ⌜ now (table .exit) ≡ tableAfter d laws 64 (now (table .entry)) ⌝ }
+{
+    lent_laws::translate(d, &laws, table)
+}
+
+// What the check of a history and the reading of it say.
+pub struct Judged {
+    pub checked: Checked,
+    pub reading: Reading,
+}
+
+// Lends a run by value to be checked against a history, and then to be read with it. The table is left as the check leaves it: with
+// the description's translation, or as it was where the check refuses.
+pub fn judge(d: Description, laws: [Law; 64], values: &[u8], table: &mut [u16]) -> Judged
+    ensures { λ r. ⌜ Checks.replyOf (r .checked) ≡ Checks.checked d laws 64 (now (values .entry)) (length (now (table .entry))) ⌝ }
+    ensures { λ r. ⌜ Readings.replyOf (r .reading) ≡ Readings.reading d laws 64 (now (values .entry)) ⌝ }
+    ensures { λ _. ⌜ now (table .exit) ≡ Checks.tableAfter d laws 64 (now (values .entry)) (now (table .entry)) ⌝ }
+    ensures { λ r. ⌜ PassesExactly d laws (now (values .entry)) (length (now (table .entry))) (r .checked) ⌝ }
+    ensures { λ r. ⌜ PathExactly d laws (now (values .entry)) (r .reading) ⌝ }
+{
+    let run: &[Law] = &laws;
+    let checked = lent_laws::check_history(d, run, values, table);
+    let reading = lent_laws::causal_reading(d, run, values);
+    Judged { checked, reading }
+}

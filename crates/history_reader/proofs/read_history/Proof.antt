@@ -1,0 +1,98 @@
+-- `read_history` meets its contract: the description's refusal, 10, 1, the readHistory's refusal, or its values.
+-- Assumes nothing.
+use native.Mathlib.Omega.{arith}
+use mathlib.Core.Path.{sym, _∙_, ap}
+use Prim.Native.Nat.{_≤_}
+use lib.ListN.{length, drop}
+use Rattle.history_reader.specs.Histories.{valuesLeft, byNames, readHistory, historyReplied}
+use Rattle.description_reader.proofs.Answering.{ends-refused, ends-read}
+use Rattle.history_reader.proofs.Recording.{history-room, history-long, history-lines, record-refuses, record-values}
+use borrow.Author.Needs.{needs}
+use Rattle.history_reader.proofs.read_history.Statement.{statement}
+use Rattle.history_reader.proofs.read_history.Tie as tie
+
+read-alone-requires : tie.Need-read-alone-requires
+read-alone-requires c κs = search needs
+
+returns : tie.Need-returns
+unfolding readHistory
+returns c =
+    let r = c .before .before .before in
+    let a = r .before .before .before .before .args in
+    let h = ap (λ x. byNames x (a .text .now) (length (a .values .now))) (sym (r .read-alone .ensures .0) ∙ ends-refused (a .description .now) (r .read-alone .result) (c .if1 .taken)) in
+    (sym (ap historyReplied h), sym (ap (λ x. valuesLeft x (a .values .now)) h))
+
+atom-count-requires : tie.Need-atom-count-requires
+atom-count-requires c κs = search needs
+
+returns-2 : tie.Need-returns-2
+unfolding readHistory
+returns-2 c =
+    let r = c .before .before .before .before .before .before in
+    let a = r .before .before .before .before .args in
+    let e = r .read-alone .result in
+    let h = ap (λ x. byNames x (a .text .now) (length (a .values .now))) (sym (r .read-alone .ensures .0) ∙ ends-read (a .description .now) e (c .before .before .before .if1 .left))
+    ∙ history-room (a .description .now) (e .state .reading) (drop (e .at) (a .description .now)) (e .line) (a .text .now) (length (a .values .now)) (λ q. c .if2 .taken (q ∙ sym (c .before .atom-count .ensures .0))) in
+    (sym (ap historyReplied h), sym (ap (λ x. valuesLeft x (a .values .now)) h))
+
+returns-3 : tie.Need-returns-3
+unfolding readHistory
+returns-3 c =
+    let r = c .before .before .before .before .before .before .before in
+    let a = r .before .before .before .before .args in
+    let e = r .read-alone .result in
+    let h = ap (λ x. byNames x (a .text .now) (length (a .values .now))) (sym (r .read-alone .ensures .0) ∙ ends-read (a .description .now) e (c .before .before .before .before .if1 .left))
+    ∙ history-long (a .description .now) (e .state .reading) (drop (e .at) (a .description .now)) (e .line) (a .text .now) (length (a .values .now)) (c .before .if2 .left ∙ c .before .before .atom-count .ensures .0) (c .if3 .taken) in
+    (sym (ap historyReplied h), sym (ap (λ x. valuesLeft x (a .values .now)) h))
+
+read-requires : tie.Need-read-requires
+read-requires c κs = search needs
+
+returns-4 : tie.Need-returns-4
+unfolding readHistory
+returns-4 c =
+    let m = c .before .before in
+    let k = m .before .before .before in
+    let r = k .before .before .before .before .before in
+    let a = r .before .before .before .before .args in
+    let e = r .read-alone .result in
+    let room : length (a .values .now) ≤ 1024 = omega (arith, m .before .before .if2 .left, k .atom-count .ensures .1) in
+    let h = ap (λ x. byNames x (a .text .now) (length (a .values .now))) (sym (r .read-alone .ensures .0) ∙ ends-read (a .description .now) e (k .before .before .if1 .left))
+    ∙ history-lines (a .description .now) (e .state .reading) (drop (e .at) (a .description .now)) (e .line) (a .text .now) (length (a .values .now)) (m .before .before .if2 .left ∙ k .atom-count .ensures .0) (m .before .if3 .left)
+    ∙ sym (m .read .ensures (length (a .values .now)) room) ∙ record-refuses (length (a .values .now)) (m .read .result) (c .if4 .taken) in
+    (sym (ap historyReplied h), sym (ap (λ x. valuesLeft x (a .values .now)) h))
+
+copy-out-requires : tie.Need-copy-out-requires
+copy-out-requires c κs = search needs
+
+same-length : tie.Need-same-length
+same-length c = search needs
+
+returns-5 : tie.Need-returns-5
+unfolding readHistory
+returns-5 c =
+    let m = c .before .before .before .before .before .before .before in
+    let k = m .before .before .before in
+    let r = k .before .before .before .before .before in
+    let a = r .before .before .before .before .args in
+    let e = r .read-alone .result in
+    let room : length (a .values .now) ≤ 1024 = omega (arith, m .before .before .if2 .left, k .atom-count .ensures .1) in
+    let h = ap (λ x. byNames x (a .text .now) (length (a .values .now))) (sym (r .read-alone .ensures .0) ∙ ends-read (a .description .now) e (k .before .before .if1 .left))
+    ∙ history-lines (a .description .now) (e .state .reading) (drop (e .at) (a .description .now)) (e .line) (a .text .now) (length (a .values .now)) (m .before .before .if2 .left ∙ k .atom-count .ensures .0) (m .before .if3 .left)
+    ∙ sym (m .read .ensures (length (a .values .now)) room) ∙ record-values (length (a .values .now)) (m .read .result) (c .before .before .before .before .before .if4 .left) in
+    (sym (ap historyReplied h), c .before .before .copy-out .ensures ∙ sym (ap (λ x. valuesLeft x (a .values .now)) h))
+
+pub read-history-spec : {M : Type 1} → statement M
+read-history-spec =
+    tie.close
+    (tie.spec
+    read-alone-requires
+    returns
+    atom-count-requires
+    returns-2
+    returns-3
+    read-requires
+    returns-4
+    copy-out-requires
+    same-length
+    returns-5)

@@ -1,0 +1,225 @@
+// Reading a history: state and act lines in turn, then the end line.
+use description_reader::states::Reading;
+use search::Found;
+use text::lines;
+use text::lists;
+ghost use mathlib.Core.Path.{_≡_};
+ghost use mathlib.Core.Bool.{cond};
+ghost use mathlib.Core.List.{List, [], _∷_};
+ghost use Prim.Native.Nat.{ℕ, _+_, _≤_, _<_};
+ghost use lib.Dec.{eqb};
+ghost use lib.ListN.{length, take, drop, replicate};
+ghost use Rattle.text.specs.Lines.{firstLine};
+ghost use Rattle.history_reader.specs.Histories.{withTrue, withFalse, marked, historyEnd, statesFrom};
+ghost use Rattle.description_reader.specs.Internal.{draftOf};
+ghost use Rattle.history_reader.specs.Internal.{endingOf, wantedAt, placeFrom, leftOf, LinesFit, valuesRead, atomsOf};
+ghost use Rattle.description_reader.specs.Internal.{Limits};
+
+// A value byte with one more literal of its atom.
+fn with_literal(v: u8, sign: usize) -> u8
+    ensures { λ r. ⌜ r ≡ cond (eqb sign 0) (withTrue v) (withFalse v) ⌝ }
+{
+    if sign == 0 {
+        if v % 2 == 0 {
+            return v + 1;
+        }
+        return v;
+    }
+    if v < 2 {
+        return v + 2;
+    }
+    v
+}
+
+// The values with a literal of one time, whose values begin at place base.
+fn with_code(values: [u8; 1024], base: usize, code: usize) -> [u8; 1024]
+    requires { ⌜ (base ≤ 1024) × (code < 256) ⌝ }
+    ensures { λ r. ⌜ ((n : ℕ) → n ≤ 1024 → take n r ≡ marked base (take n values) (code ∷ [])) ⌝ }
+{
+    let place = base + code / 2;
+    if 1024 <= place {
+        return values;
+    }
+    let mut next = values;
+    let v = next[place];
+    next[place] = with_literal(v, code % 2);
+    next
+}
+
+// How the end line is: a refusal's number (0: none) and place.
+struct EndAt {
+    refused: u8,
+    line: usize,
+}
+
+// The end line: 2 where it is lacking or has a value, 7 where bytes remain behind it.
+fn end_at(text: &[u8], at: usize, line: usize) -> EndAt
+    requires { ⌜ line < 100 ⌝ }
+    ensures { λ r. ⌜ ((vs : List ℕ) → endingOf r vs ≡ historyEnd (firstLine (drop at (now (text .entry)))) line vs) ⌝ }
+{
+    let l = lines::line_at(text, at);
+    if l.key != lines::END {
+        return EndAt { refused: 2, line };
+    }
+    if l.from < l.to {
+        return EndAt { refused: 2, line };
+    }
+    if l.next < text.len() {
+        return EndAt {
+            refused: 7,
+            line: line + 1,
+        };
+    }
+    EndAt { refused: 0, line }
+}
+
+fn no_values() -> [u8; 1024]
+    ensures { λ r. ⌜ r ≡ replicate 1024 0 ⌝ }
+{
+    [0; 1024]
+}
+
+// What a line of literals must be: its key, the places of the names of its sort, and where the values of its time begin.
+struct Wanted {
+    key: usize,
+    low: usize,
+    high: usize,
+    base: usize,
+}
+
+// Odd lines are states, even ones acts.
+fn line_due(reading: Reading, line: usize) -> Wanted
+    requires { ⌜ Limits reading × (1 ≤ line) × (line < 100) ⌝ }
+    ensures { λ r. ⌜ r ≡ wantedAt (reading .fluents) (reading .names .count) line ⌝ }
+{
+    let names = reading.names;
+    let base = (line - 1) / 2 * names.count;
+    if line % 2 == 1 {
+        return Wanted {
+            key: lines::STATE,
+            low: 0,
+            high: reading.fluents,
+            base,
+        };
+    }
+    Wanted {
+        key: lines::ACT,
+        low: reading.fluents,
+        high: names.count,
+        base,
+    }
+}
+
+// Where the items of a list begin: behind the end of an empty one.
+fn first_place(size: usize) -> usize
+    requires { ⌜ size < 100000 ⌝ }
+    ensures { λ r. ⌜ r ≡ placeFrom size ⌝ }
+{
+    if size == 0 {
+        return 1;
+    }
+    0
+}
+
+// Where the lines of literals ended: the values, a refusal's number (0: none), the line and its place.
+struct Lines {
+    values: [u8; 1024],
+    refused: u8,
+    line: usize,
+    at: usize,
+}
+
+// Reads the state and act lines up to the end line or to the first bad line, by the names of the description.
+fn read_lines(description: &[u8], text: &[u8], reading: Reading) -> Lines
+    requires { ⌜ (length (now text) ≤ 65535) × Limits reading ⌝ }
+    ensures { λ r. ⌜ ((n : ℕ) → n ≤ 1024 → leftOf (now (text .entry)) n r ≡ statesFrom (reading .horizon) (draftOf (now (description .entry)) reading) 0 1 (replicate n 0) (now (text .entry))) ⌝ }
+    ensures { λ r. ⌜ LinesFit (now (text .entry)) r ⌝ }
+{
+    let names = reading.names;
+    let last = 2 * reading.horizon + 1;
+    let mut values = no_values();
+    let mut refused: u8 = 0;
+    let mut at: usize = 0;
+    let mut line: usize = 1;
+    'lines: while line <= last {
+        let l = lines::line_at(text, at);
+        let w = line_due(reading, line);
+        if l.key != w.key {
+            refused = 2;
+            break 'lines;
+        }
+        let from = l.from;
+        let to = l.to;
+        let list = &text[from..to];
+        let mut i = first_place(list.len());
+        while i <= list.len() {
+            let item = lists::next_item(list, i, description, names, w.low, w.high);
+            let code = item.code;
+            let Found::At(c) = code else {
+                refused = 6;
+                break 'lines;
+            };
+            let marked = with_code(values, w.base, c);
+            values = marked;
+            i = item.next;
+        }
+        at = l.next;
+        line += 1;
+    }
+    Lines {
+        values,
+        refused,
+        line,
+        at,
+    }
+}
+
+// A history that was read: its values, or a refusal's number and line.
+pub(crate) struct Record {
+    pub values: [u8; 1024],
+    pub refused: u8,
+    pub line: usize,
+}
+
+// Reads a history of at most 65,535 bytes by the names of the description.
+pub(crate) fn read(description: &[u8], text: &[u8], reading: Reading) -> Record
+    requires { ⌜ (length (now text) ≤ 65535) × Limits reading ⌝ }
+    ensures { λ r. ⌜ ((n : ℕ) → n ≤ 1024 → valuesRead n r ≡ statesFrom (reading .horizon) (draftOf (now (description .entry)) reading) 0 1 (replicate n 0) (now (text .entry))) ⌝ }
+{
+    let found = read_lines(description, text, reading);
+    let values = found.values;
+    if 0 < found.refused {
+        return Record {
+            values,
+            refused: found.refused,
+            line: found.line,
+        };
+    }
+    let end = end_at(text, found.at, found.line);
+    Record {
+        values,
+        refused: end.refused,
+        line: end.line,
+    }
+}
+
+// How many atoms there are.
+pub(crate) fn atom_count(reading: Reading) -> usize
+    requires { ⌜ Limits reading ⌝ }
+    ensures { λ r. ⌜ (r ≡ atomsOf reading) × (r ≤ 1024) ⌝ }
+{
+    let names = reading.names;
+    reading.horizon * names.count + reading.fluents
+}
+
+// Fills the buffer with the first values.
+pub(crate) fn copy_out(values: &mut [u8], found: [u8; 1024])
+    requires { ⌜ length (now values) ≤ 1024 ⌝ }
+    ensures { λ r. ⌜ now (values .exit) ≡ take (length (now (values .entry))) found ⌝ }
+{
+    let mut i = 0;
+    while i < values.len() {
+        values[i] = found[i];
+        i += 1;
+    }
+}

@@ -1,0 +1,40 @@
+// Reading a history from text, by the names of its description's text.
+mod histories;
+
+use description_reader::descriptions;
+ghost use mathlib.Core.Path.{_≡_};
+ghost use lib.ListN.{length};
+ghost use Rattle.history_reader.specs.Histories.{readHistory, valuesLeft, historyReplyOf, historyReplied};
+
+// The refusal's number and place, or that the whole history is read.
+pub enum HistoryAnswer {
+    Refused(u8, usize),
+    Complete,
+}
+
+// Reads a history's text by the names of its description's text, and leaves its values; on a refusal the buffer stays as it was.
+pub fn read_history(description: &[u8], text: &[u8], values: &mut [u8]) -> HistoryAnswer
+    ensures { λ r. ⌜ historyReplyOf r ≡ historyReplied (readHistory (now (description .entry)) (now (text .entry)) (length (now (values .entry)))) ⌝ }
+    ensures { λ r. ⌜ now (values .exit) ≡ valuesLeft (readHistory (now (description .entry)) (now (text .entry)) (length (now (values .entry)))) (now (values .entry)) ⌝ }
+{
+    let end = descriptions::read_alone(description);
+    let state = end.state;
+    if 0 < state.refused {
+        return HistoryAnswer::Refused(state.refused, end.line);
+    }
+    let reading = state.reading;
+    let room = values.len();
+    if room != histories::atom_count(reading) {
+        return HistoryAnswer::Refused(10, room);
+    }
+    if 65535 < text.len() {
+        return HistoryAnswer::Refused(1, 0);
+    }
+    let record = histories::read(description, text, reading);
+    if 0 < record.refused {
+        return HistoryAnswer::Refused(record.refused, record.line);
+    }
+    let found = record.values;
+    histories::copy_out(values, found);
+    HistoryAnswer::Complete
+}

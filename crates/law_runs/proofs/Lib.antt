@@ -1,0 +1,4 @@
+pub mod Stored
+pub mod Walking
+pub mod Answers
+pub mod Records

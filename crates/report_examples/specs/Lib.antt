@@ -1,0 +1,2 @@
+-- Example outputs as bytes.
+pub mod Examples

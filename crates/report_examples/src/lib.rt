@@ -1,0 +1,1 @@
+// Worked examples of what the program prints: theorems, and no function.

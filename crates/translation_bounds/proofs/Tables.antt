@@ -1,0 +1,50 @@
+-- The engine never refuses a translated table.
+-- Assumes nothing.
+use mathlib.Core.Path.{_≡_, ap}
+use mathlib.Core.Bool.{Bool, cond}
+use mathlib.Core.List.{List}
+use mathlib.Core.Option.{none, some}
+use Prim.Native.Nat.{ℕ, _+_, _≤_}
+use native.Mathlib.Nat.{mul-le-mul}
+use native.Mathlib.Omega.{arith}
+use borrow.Author.Tests.{le-ltb}
+use lib.ListN.{length}
+use Rattle.search.specs.Replies.{answered}
+use Rattle.answer_sets.specs.Literals.{setOf}
+use Rattle.answer_sets.specs.Verdicts.{verdict}
+use Rattle.answer_sets.specs.Words.{rulesOf, badRule}
+use Rattle.answer_sets.specs.Answers as engine
+use Rattle.answer_sets.proofs.Decoding.{words-accepted}
+use Rattle.answer_sets.proofs.Theorems.{accepted-judged}
+use Rattle.description.specs.declared.Law.{Law}
+use Rattle.description.specs.declared.Description.{Description}
+use Rattle.description.specs.Laws.{lawsOf}
+use Rattle.description.specs.Atoms.{atomCount}
+use Rattle.description.proofs.Laws.{accepted-law, accepted-few}
+use Rattle.translation.specs.Translated.{written, rulesFor, tableFor, outcome}
+use Rattle.translation.proofs.Outcomes.{Accepted, written-accepted, written-limits}
+use Rattle.translation_bounds.proofs.Bounds.{at-most-4096, codes-below}
+
+module _ (d : Description) (ls : List Law) (lent room : ℕ) {a r w : ℕ} (e : outcome d ls lent room ≡ answered (written a r w)) where
+  accepted : Accepted d ls lent room a r w
+  accepted = written-accepted d ls lent room e
+
+  pub few-atoms : a ≤ 1024
+  few-atoms =
+      let l = written-limits d ls lent room e in
+      omega (arith, accepted .atoms, mul-le-mul {n₁ = d .horizon} {m₁ = d .fluents + d .actions} {n₂ = 30} {m₂ = 32} (l .3) (omega (arith, l .0, l .1)))
+
+  -- every code of the table is below twice the atoms, and there are at most 4,096 rules
+  pub table-accepted : badRule a (tableFor d ls) ≡ none
+  table-accepted =
+      let l = written-limits d ls lent room e in
+      let fit = accepted-law d ls lent (accepted .taken) in
+      rw (accepted .atoms)
+      (words-accepted (atomCount (d .fluents) (d .actions) (d .horizon)) (rulesFor d ls)
+      (codes-below (d .fluents) (d .actions) (d .horizon) (lawsOf d ls) fit)
+      (at-most-4096 (d .fluents) (d .actions) (d .horizon) (lawsOf d ls) (l .0) (l .1) (l .3) (accepted-few d ls lent (accepted .taken))))
+
+  pub engine-judges : (vs : List ℕ) → length vs ≡ a → engine.badValue vs ≡ none
+      → engine.answer vs (tableFor d ls) ≡ answered (verdict (length vs) (rulesOf (tableFor d ls)) (setOf vs))
+  engine-judges vs size small =
+      accepted-judged vs (tableFor d ls) (ap (λ (b : Bool). cond b (some (length vs)) none) (le-ltb 1024 (length vs) (omega (arith, few-atoms))), small, rw size table-accepted)

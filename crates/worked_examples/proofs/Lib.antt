@@ -1,0 +1,5 @@
+-- The worked examples hold.
+pub mod Tables
+pub mod Program11
+pub mod Transitions
+pub mod Worked

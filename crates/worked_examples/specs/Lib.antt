@@ -1,0 +1,4 @@
+-- Worked examples of all layers. Read in this order.
+pub mod Tables
+pub mod Program11
+pub mod Worked

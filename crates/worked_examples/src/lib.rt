@@ -1,0 +1,1 @@
+// Worked examples of all layers, as theorems about the definitions; no code.

@@ -1,0 +1,12 @@
+-- Both round trips, and the full recipe as an example.
+pub mod Examples
+pub mod WrittenLines
+pub mod WrittenNames
+pub mod WrittenLists
+pub mod WrittenSteps
+pub mod Written
+pub mod WrittenSizes
+pub mod RoundTrip
+pub mod Accepted
+pub mod WrittenValues
+pub mod HistoryTrip

@@ -1,0 +1,61 @@
+-- What a description that can be written keeps to.
+-- Assumes nothing.
+use mathlib.Core.Path.{_≡_, refl}
+use mathlib.Core.Bool.{true}
+use mathlib.Core.List.{List, [], _∷_, _++_}
+use Prim.Native.Nat.{ℕ, _+_, _*_, _≤_}
+use native.Mathlib.Omega.{arith}
+use lib.ListN.{length, length-take, length-append}
+use lib.Seq.{take-append-seam}
+use Rattle.search.specs.Search.{Each}
+use Rattle.search.proofs.Tests.{each-map}
+use Rattle.description.specs.declared.Head.{Head}
+use Rattle.description.specs.declared.Kind.{Kind}
+use Rattle.description.specs.declared.Kind.the-variants.{Static, Dynamic}
+use Rattle.description.specs.declared.Law.{Law}
+use Rattle.description.specs.Laws.{ifList, afterList}
+use Rattle.description.specs.Acceptance.{lawFits}
+use Rattle.description.proofs.Laws.{fits-if, fits-after}
+use Rattle.description.proofs.Fits.{CodesBelow, HeadBelow, AfterBelow, law-fits}
+use Rattle.description_reader.specs.LineSteps.{Draft}
+use Rattle.description.specs.Laws.{noLaw, lawOf}
+use Rattle.written_form.specs.Writable.{aftersOf, Tidy, Writable}
+
+-- the records that the reader makes are tidy
+pub tidy-static : (h : Head) (ifs : List ℕ) → Tidy (lawOf Static h ifs [])
+tidy-static h ifs = rw (take-append-seam ifs _)
+
+pub tidy-dynamic : (h : Head) (ifs afters : List ℕ) → Tidy (lawOf Dynamic h ifs afters)
+tidy-dynamic h ifs afters = rw (take-append-seam ifs _, take-append-seam afters _)
+
+-- a law within the limits, n fluents among all names
+pub record Bounded (n names : ℕ) (l : Law) : Type 0 where
+  pub head : HeadBelow (2 * n) (l .head)
+  pub ifs : CodesBelow (2 * n) (ifList l)
+  pub few-ifs : length (ifList l) ≤ 6
+  pub afters : CodesBelow (2 * names) (aftersOf (l .kind) l)
+  pub few-afters : length (aftersOf (l .kind) l) ≤ 6
+
+afters-below : (n m : ℕ) (l : Law) (k : Kind) → AfterBelow (2 * (n + m)) k l → CodesBelow (2 * (n + m)) (aftersOf k l)
+afters-below n m l Static h = tt
+afters-below n m l Dynamic h = h
+
+pub bounded : (n m : ℕ) (l : Law) → lawFits n m l ≡ true → Bounded n (n + m) l
+bounded n m l e =
+    let fits = law-fits n m l e in
+    record {
+      head = fits .head;
+      ifs = fits .if-list;
+      few-ifs = omega (arith, length-take (l .«if_count») (l .«if_codes»), fits-if n m l e .0);
+      afters = afters-below n m l (l .kind) (fits .after-list);
+      few-afters = few (l .kind) refl;
+    }
+  where
+    few : (k : Kind) → l .kind ≡ k → length (aftersOf k l) ≤ 6
+    few Static q = omega arith
+    few Dynamic q = omega (arith, length-take (l .«after_count») (l .«after_codes»), fits-after n m l e q .0)
+
+pub written-laws : (lent T : ℕ) (fluents actions : List (List ℕ)) (ls : List Law) → Writable lent T fluents actions ls
+    → Each (Bounded (length fluents) (length (fluents ++ actions))) ls
+written-laws lent T fluents actions ls w =
+    rw (length-append fluents actions) (each-map (λ l e. bounded (length fluents) (length actions) l e) ls (w .laws-fit))

@@ -1,0 +1,131 @@
+-- The size of a written description: at least a byte for each line, and at most 20,000 bytes.
+-- Assumes nothing.
+use mathlib.Core.Path.{_≡_}
+use mathlib.Core.Bool.{Bool, true, false, cond}
+use mathlib.Core.List.{List, [], _∷_, _++_}
+use Prim.Native.Nat.{ℕ, _+_, _*_, _/_, _%_, _≤_}
+use native.Mathlib.Omega.{arith}
+use lib.Dec.{ltb}
+use lib.ListN.{length, getD, length-append}
+use Rattle.search.specs.Search.{Each}
+use Rattle.search.proofs.Tests.{each-map, each-append}
+use Rattle.description.specs.declared.Head.{Head}
+use Rattle.description.specs.declared.Head.the-variants.{Lit, False}
+use Rattle.description.specs.declared.Kind.{Kind}
+use Rattle.description.specs.declared.Kind.the-variants.{Static, Dynamic}
+use Rattle.description.specs.declared.Law.{Law}
+use Rattle.description.specs.Laws.{ifList, afterList}
+use Rattle.description.proofs.Fits.{HeadBelow}
+use Rattle.written_form.specs.Writable.{aftersOf, lawLines, lawsLines, linesWritten, Writable, AreNames}
+use Rattle.text.specs.Bytes.{newline, equalsSign}
+use Rattle.text.specs.Lines.{keys, horizonKey, fluentKey, actionKey, staticKey, dynamicKey, ifKey, afterKey, endKey}
+use Rattle.text.specs.Names.{isName}
+use Rattle.written_form.specs.Writing.{lineText, horizonText, listText, headText, lawText, lawsText, namesText, descriptionText}
+use Rattle.written_form.proofs.WrittenNames.{named, literal-size}
+use Rattle.written_form.proofs.WrittenLists.{list-size}
+use Rattle.written_form.proofs.Written.{Bounded, written-laws}
+
+pub line-size : (k : ℕ) (value : List ℕ) → length (lineText k value) ≡ length (getD keys k []) + length value + 2
+line-size k value =
+    let key = getD keys k [] in
+    omega (
+      arith,
+      length-append (key ++ (equalsSign ∷ []) ++ value) (newline ∷ []),
+      length-append (key ++ (equalsSign ∷ [])) value,
+      length-append key (equalsSign ∷ []),
+    )
+
+names-size : (key : ℕ) (xs : List (List ℕ)) → length (getD keys key []) ≤ 6 → AreNames xs
+    → (length xs ≤ length (namesText key xs)) × (length (namesText key xs) ≤ 24 * length xs)
+names-size key [] short are = omega arith
+names-size key (x ∷ xs) short are =
+    omega (
+      arith,
+      line-size key x,
+      named x (are .0) .short,
+      length-append (lineText key x) (namesText key xs),
+      names-size key xs short (are .1),
+    )
+
+module _ (names : List (List ℕ)) (are : AreNames names) (n : ℕ) (held : n ≤ length names) where
+  head-size : (h : Head) → HeadBelow (2 * n) h → length (headText names h) ≤ 17
+  head-size (Lit c) below = literal-size names are c (omega arith) .1
+  head-size False below = omega arith
+
+  law-size : (l : Law) → Bounded n (length names) l
+      → (lawLines (l .kind) ≤ length (lawText names (l .kind) l)) × (length (lawText names (l .kind) l) ≤ 256)
+  law-size l b = go (l .kind) (list-size names are (aftersOf (l .kind) l) (b .afters)) (b .few-afters)
+    where
+      head : length (headText names (l .head)) ≤ 17
+      head = head-size (l .head) (b .head)
+
+      ifs : length (listText names (ifList l)) ≤ 18 * length (ifList l)
+      ifs = list-size names are (ifList l) (each-map (λ c h. omega arith) (ifList l) (b .ifs)) .1
+
+      go : (k : Kind)
+          → (length (aftersOf k l) ≤ length (listText names (aftersOf k l))) × (length (listText names (aftersOf k l)) ≤ 18 * length (aftersOf k l))
+          → length (aftersOf k l) ≤ 6
+          → (lawLines k ≤ length (lawText names k l)) × (length (lawText names k l) ≤ 256)
+      go Static afters few =
+          omega (
+            arith,
+            b .few-ifs,
+            head,
+            ifs,
+            line-size staticKey (headText names (l .head)),
+            line-size ifKey (listText names (ifList l)),
+            length-append (lineText staticKey (headText names (l .head))) (lineText ifKey (listText names (ifList l))),
+          )
+      go Dynamic afters few =
+          let front = lineText dynamicKey (headText names (l .head)) in
+          let middle = lineText ifKey (listText names (ifList l)) in
+          let back = lineText afterKey (listText names (afterList l)) in
+          omega (
+            arith,
+            b .few-ifs,
+            head,
+            ifs,
+            line-size dynamicKey (headText names (l .head)),
+            line-size ifKey (listText names (ifList l)),
+            line-size afterKey (listText names (afterList l)),
+            length-append (front ++ middle) back,
+            length-append front middle,
+          )
+
+  laws-size : (ls : List Law) → Each (Bounded n (length names)) ls
+      → (lawsLines ls ≤ length (lawsText names ls)) × (length (lawsText names ls) ≤ 256 * length ls)
+  laws-size [] b = omega arith
+  laws-size (l ∷ ls) b =
+      omega (arith, law-size l (b .0), laws-size ls (b .1), length-append (lawText names (l .kind) l) (lawsText names ls))
+
+horizon-size : (k : ℕ) → length (horizonText k) ≤ 2
+horizon-size k = go (ltb k 10)
+  where
+    go : (b : Bool) → length (cond b ((48 + k) ∷ []) ((48 + k / 10) ∷ (48 + k % 10) ∷ [])) ≤ 2
+    go true = omega arith
+    go false = omega arith
+
+pub description-size : (lent T : ℕ) (fluents actions : List (List ℕ)) (ls : List Law) → Writable lent T fluents actions ls
+    → (linesWritten fluents actions ls ≤ length (descriptionText T fluents actions ls)) × (length (descriptionText T fluents actions ls) ≤ 20000)
+unfolding descriptionText
+description-size lent T fluents actions ls w =
+    let names = fluents ++ actions in
+    let (are-fluents, are-actions) = each-append (λ x. isName x ≡ true) fluents actions .0 (w .are-names) in
+    let size = length-append fluents actions in
+    let top = lineText horizonKey (horizonText T) in
+    let first = top ++ namesText fluentKey fluents in
+    let declared = first ++ namesText actionKey actions in
+    let body = declared ++ lawsText names ls in
+    omega (
+      arith,
+      w,
+      line-size horizonKey (horizonText T),
+      horizon-size T,
+      names-size fluentKey fluents (omega arith) are-fluents,
+      names-size actionKey actions (omega arith) are-actions,
+      laws-size names (w .are-names) (length fluents) (omega arith) ls (written-laws lent T fluents actions ls w),
+      length-append body (lineText endKey []),
+      length-append declared (lawsText names ls),
+      length-append first (namesText actionKey actions),
+      length-append top (namesText fluentKey fluents),
+    )

@@ -1,0 +1,139 @@
+-- What the description reader makes of each written line, and of lines one after another.
+-- Assumes nothing.
+use mathlib.Core.Path.{_≡_, refl, ap, _∙_}
+use mathlib.Core.Bool.{Bool, true, false, cond}
+use mathlib.Core.List.{List, [], _∷_, _++_, append-assoc}
+use mathlib.Core.Option.{none, some}
+use Prim.Native.Nat.{ℕ, suc, _+_, _/_, _%_, _≤_, _<_, min}
+use native.Mathlib.Omega.{arith}
+use borrow.Author.Tests.{lt-ltb, ne-eqb}
+use lib.Dec.{eqb, ltb}
+use lib.ListN.{length}
+use Rattle.search.specs.Search.{all, range}
+use Rattle.search.specs.Replies.{answered}
+use Rattle.description.specs.declared.Head.{Head}
+use Rattle.description.specs.declared.Kind.the-variants.{Static, Dynamic}
+use Rattle.description.specs.declared.Law.{Law}
+use Rattle.text.specs.Bytes.{newline}
+use Rattle.text.specs.Lines.{horizonKey, fluentKey, actionKey, staticKey, dynamicKey, ifKey, afterKey, endKey}
+use Rattle.text.specs.Names.{isName, declaredAt}
+use Rattle.text.specs.Lists.{codes, listOf}
+use Rattle.written_form.specs.Writable.{draft}
+use Rattle.description_reader.specs.LineSteps.{Due, firstFluentDue, fluentDue, actionDue, ifDue, afterDue, Draft, allowed, next, finish, horizonOf, horizonLine, headOf, begun, ifLine, afterLine, lineStep}
+use Rattle.description.specs.Laws.{lawOf}
+use Rattle.description_reader.specs.Descriptions.{read, afterStep, afterFirst, linesFrom}
+use Rattle.written_form.specs.Writing.{lineText, horizonText}
+use Rattle.written_form.proofs.WrittenLines.{Lacks, answers, answers-some, passed-by, first-line}
+
+-- the horizon, number by number
+
+decimals : all (λ T. answers T (horizonOf (horizonText T))) (range 1 30) ≡ true
+unfolding horizonOf
+decimals = refl
+
+pub horizon-read : (T : ℕ) → 1 ≤ T → T ≤ 30 → horizonOf (horizonText T) ≡ some T
+horizon-read T one few =
+    answers-some T (horizonOf (horizonText T)) (passed-by (λ t. answers t (horizonOf (horizonText t))) 1 30 decimals T one (omega arith))
+
+pub horizon-clean : (k : ℕ) → Lacks newline (horizonText k)
+horizon-clean k = go (ltb k 10)
+  where
+    digit : (i : ℕ) → eqb newline (48 + i) ≡ false
+    digit i = ne-eqb newline (48 + i) (omega arith)
+
+    go : (b : Bool) → Lacks newline (cond b ((48 + k) ∷ []) ((48 + k / 10) ∷ (48 + k % 10) ∷ []))
+    go true = (digit k, tt)
+    go false = (digit (k / 10), (digit (k % 10), tt))
+
+-- lines
+
+module _ (lent : ℕ) (due : Due) (d : Draft) where
+  pub horizon-step : (T : ℕ) → 1 ≤ T → T ≤ 30 → allowed due horizonKey ≡ true
+      → lineStep lent due d horizonKey (horizonText T) ≡ next firstFluentDue (draft T (d .fluents) (d .names) (d .laws))
+  unfolding lineStep
+  horizon-step T one few may = rw may (ap (horizonLine d) (horizon-read T one few))
+
+  pub fluent-step : (x : List ℕ) → allowed due fluentKey ≡ true → d .fluents < 24 → isName x ≡ true → declaredAt (d .names) x ≡ none
+      → lineStep lent due d fluentKey x ≡ next fluentDue (draft (d .horizon) (suc (d .fluents)) (d .names ++ (x ∷ [])) (d .laws))
+  unfolding lineStep
+  fluent-step x may few name new = rw (may, lt-ltb (d .fluents) 24 few, name, new)
+
+  pub action-step : (x : List ℕ) → allowed due actionKey ≡ true → length (d .names) < d .fluents + 8 → isName x ≡ true → declaredAt (d .names) x ≡ none
+      → lineStep lent due d actionKey x ≡ next actionDue (draft (d .horizon) (d .fluents) (d .names ++ (x ∷ [])) (d .laws))
+  unfolding lineStep
+  action-step x may few name new = rw (may, lt-ltb (length (d .names)) (d .fluents + 8) few, name, new)
+
+  pub static-step : (x : List ℕ) (h : Head) → allowed due staticKey ≡ true → length (d .laws) < min 64 lent
+      → headOf (d .names) (d .fluents) x ≡ some h
+      → lineStep lent due d staticKey x ≡ next (ifDue (lawOf Static h [] [])) d
+  unfolding lineStep
+  static-step x h may few head = rw (may, lt-ltb (length (d .laws)) (min 64 lent) few) (ap (begun d Static) head)
+
+  pub dynamic-step : (x : List ℕ) (h : Head) → allowed due dynamicKey ≡ true → length (d .laws) < min 64 lent
+      → headOf (d .names) (d .fluents) x ≡ some h
+      → lineStep lent due d dynamicKey x ≡ next (ifDue (lawOf Dynamic h [] [])) d
+  unfolding lineStep
+  dynamic-step x h may few head = rw (may, lt-ltb (length (d .laws)) (min 64 lent) few) (ap (begun d Dynamic) head)
+
+  pub end-step : allowed due endKey ≡ true → lineStep lent due d endKey [] ≡ finish d
+  unfolding lineStep
+  end-step may = rw may
+
+pub if-step : (lent : ℕ) (d : Draft) (l : Law) (x cs : List ℕ) → listOf (d .names) 0 (d .fluents) 6 x ≡ codes cs
+    → lineStep lent (ifDue l) d ifKey x ≡ ifLine d l (codes cs)
+unfolding lineStep
+if-step lent d l x cs list = ap (ifLine d l) list
+
+pub after-step : (lent : ℕ) (d : Draft) (l : Law) (x cs : List ℕ) → listOf (d .names) 0 (length (d .names)) 6 x ≡ codes cs
+    → lineStep lent (afterDue l) d afterKey x ≡ afterLine d l (codes cs)
+unfolding lineStep
+after-step lent d l x cs list = ap (afterLine d l) list
+
+-- the lines of a text, s of them, take the reader from one draft to another, whatever follows
+pub record Passes (lent s : ℕ) (text : List ℕ) (due : Due) (d : Draft) (due′ : Due) (d′ : Draft) : Type 0 where
+  pub run : (k n : ℕ) (rest : List ℕ) → linesFrom (s + k) lent n due d (text ++ rest) ≡ linesFrom k lent (s + n) due′ d′ rest
+
+one-more : (n : ℕ) → 1 + n ≡ suc n
+one-more n = omega arith
+
+module _ {lent : ℕ} where
+  pub nothing-passes : (due : Due) (d : Draft) → Passes lent 0 [] due d due d
+  nothing-passes due d = record {
+    run = λ k n rest.
+        let fuel : 0 + k ≡ k = omega arith in
+        let lines : 0 + n ≡ n = omega arith in
+        rw (fuel, lines);
+  }
+
+  pub line-passes : (due : Due) (d : Draft) (key : ℕ) (value : List ℕ) {due′ : Due} {d′ : Draft} → key < 10 → Lacks newline value
+      → lineStep lent due d key value ≡ next due′ d′ → Passes lent 1 (lineText key value) due d due′ d′
+  line-passes due d key value {due′} {d′} known clean e = record {
+    run = λ k n rest.
+        rw (one-more k, one-more n)
+        (
+        ap (λ first. afterFirst first lent due d n (λ due″ d″ rest′. linesFrom k lent (suc n) due″ d″ rest′))
+        (first-line key value rest known clean)
+        ∙ ap (λ step. afterStep step n rest (λ due″ d″ rest′. linesFrom k lent (suc n) due″ d″ rest′)) e
+        );
+  }
+
+  pub then : {s t : ℕ} {a b : List ℕ} {due due′ due″ : Due} {d d′ d″ : Draft} → Passes lent s a due d due′ d′ → Passes lent t b due′ d′ due″ d″
+      → (u : ℕ) → u ≡ s + t → Passes lent u (a ++ b) due d due″ d″
+  then {s} {t} {a} {b} {due} {due′} {due″} {d} {d′} {d″} p q u e = record {
+    run = λ k n rest.
+        let fuel : u + k ≡ s + (t + k) = omega arith in
+        let lines : t + (s + n) ≡ u + n = omega arith in
+        ap (λ text. linesFrom (u + k) lent n due d text) (append-assoc a b rest)
+        ∙ ap (λ f. linesFrom f lent n due d (a ++ (b ++ rest))) fuel
+        ∙ p .run (t + k) n (b ++ rest)
+        ∙ q .run k (s + n) rest
+        ∙ ap (λ l. linesFrom k lent l due″ d″ rest) lines;
+  }
+
+-- the end line
+pub ends : (lent : ℕ) (due : Due) (d : Draft) → allowed due endKey ≡ true → (k n : ℕ) (rest : List ℕ)
+    → linesFrom (suc k) lent n due d (lineText endKey [] ++ rest) ≡ answered (read d rest n)
+ends lent due d may k n rest =
+    ap (λ first. afterFirst first lent due d n (λ due′ d′ rest′. linesFrom k lent (suc n) due′ d′ rest′))
+    (first-line endKey [] rest (omega arith) tt)
+    ∙ ap (λ step. afterStep step n rest (λ due′ d′ rest′. linesFrom k lent (suc n) due′ d′ rest′)) (end-step lent due d may)

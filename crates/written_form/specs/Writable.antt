@@ -1,0 +1,65 @@
+-- Which descriptions can be written and read back (Writing), and what the reader is then left with.
+-- Assumes nothing.
+use mathlib.Core.Path.{_≡_}
+use mathlib.Core.Bool.{true, false}
+use mathlib.Core.List.{List, [], _∷_, _++_}
+use Prim.Native.Nat.{ℕ, _+_, _≤_}
+use lib.ListN.{length}
+use Rattle.search.specs.Search.{Each}
+use Rattle.description.specs.declared.Kind.{Kind}
+use Rattle.description.specs.declared.Kind.the-variants.{Static, Dynamic}
+use Rattle.description.specs.declared.Law.{Law}
+use Rattle.description.specs.Laws.{ifList, afterList}
+use Rattle.description.specs.Acceptance.{lawFits}
+use Rattle.text.specs.Bytes.{same}
+use Rattle.text.specs.Names.{isName}
+use Rattle.description_reader.specs.LineSteps.{Draft}
+use Rattle.description.specs.Laws.{lawOf}
+
+abbrev pub AreNames : List (List ℕ) → Type 0
+AreNames xs = Each (λ x. isName x ≡ true) xs
+
+-- no name equals an earlier one
+abbrev pub Distinct : List (List ℕ) → Type 0
+Distinct [] = Unit
+Distinct (x ∷ xs) = Each (λ y. same y x ≡ false) xs × Distinct xs
+
+-- a static law's after-list is empty
+abbrev pub aftersOf : Kind → Law → List ℕ
+aftersOf Static l = []
+aftersOf Dynamic l = afterList l
+
+-- a law record as the reader leaves it: each list's codes, then 0
+abbrev pub Tidy : Law → Type 0
+Tidy l = l ≡ lawOf (l .kind) (l .head) (ifList l) (aftersOf (l .kind) l)
+
+pub record Writable (lent T : ℕ) (fluents actions : List (List ℕ)) (ls : List Law) : Type 0 where
+  pub horizon-from : 1 ≤ T
+  pub horizon-to : T ≤ 30
+  pub some-fluent : 1 ≤ length fluents
+  pub few-fluents : length fluents ≤ 24
+  pub few-actions : length actions ≤ 8
+  pub are-names : AreNames (fluents ++ actions)
+  pub distinct : Distinct (fluents ++ actions)
+  pub few-laws : length ls ≤ 64
+  pub held-laws : length ls ≤ lent
+  pub laws-fit : Each (λ l. lawFits (length fluents) (length actions) l ≡ true) ls
+  pub laws-tidy : Each Tidy ls
+
+-- how many lines are written
+abbrev pub lawLines : Kind → ℕ
+lawLines Static = 2
+lawLines Dynamic = 3
+
+abbrev pub lawsLines : List Law → ℕ
+lawsLines [] = 0
+lawsLines (l ∷ ls) = lawLines (l .kind) + lawsLines ls
+
+abbrev pub linesWritten : List (List ℕ) → List (List ℕ) → List Law → ℕ
+linesWritten fluents actions ls = 1 + length fluents + length actions + lawsLines ls + 1
+
+abbrev pub draft : ℕ → ℕ → List (List ℕ) → List Law → Draft
+draft T fluents names laws = record { horizon = T; fluents = fluents; names = names; laws = laws }
+
+abbrev pub draftWritten : ℕ → List (List ℕ) → List (List ℕ) → List Law → Draft
+draftWritten T fluents actions ls = draft T (length fluents) (fluents ++ actions) ls
