@@ -1,14 +1,14 @@
 -- The codes of a list as they are gathered: six places, 0 behind those taken; and the turns of the loop over its items.
 -- Assumes nothing.
-use mathlib.Core.Path.{_≡_, sym, _∙_, ap}
+use mathlib.Core.Path.{_≡_, refl, sym, _∙_, ap}
 use mathlib.Core.Bool.{Bool, true, false, cond}
 use mathlib.Core.List.{List, [], _∷_, _++_, append-assoc}
 use mathlib.Core.Option.{Option, none, some}
 use Prim.Native.Nat.{ℕ, suc, _+_, _-_, _≤_, _<_}
 use native.Mathlib.Numerals.{add-one}
 use native.Mathlib.Omega.{arith}
-use borrow.Author.Tests.{lt-ltb, le-ltb, eq-eqb, ne-eqb}
-use lib.Dec.{ltb}
+use borrow.Author.Tests.{lt-ltb, le-ltb, leb-true, leb-false, eq-eqb, ne-eqb}
+use lib.Dec.{ltb, leb}
 use lib.ListN.{length, take, drop, set, replicate, length-take, length-append}
 use lib.Seq.{length-take-le, take-suc-set, set-split, drop-at, drop-drop}
 use Rattle.text.specs.Names.{literal}
@@ -23,13 +23,38 @@ module _ (cs : List ℕ) (n : ℕ) (six : length cs ≡ 6) where
   taken-size : n ≤ 6 → length (take n cs) ≡ n
   taken-size h = length-take-le n cs (omega arith)
 
-  pub more-seventh : (x : Option ℕ) → 6 ≤ n → refused 5 ≡ oneMore (take n cs) x
-  unfolding oneMore
-  more-seventh x h = rw (le-ltb (length (take n cs)) 6 (omega (arith, length-take n cs)))
+  -- an item that is no literal: 5 where it is the seventh, before 6
+  pub item-unknown : (k : ℕ) → k ≡ cond (leb 6 n) 5 6 → listedOf (record { codes = cs; count = n; refused = k }) ≡ oneMore (take n cs) none
+  unfolding listedOf oneMore
+  item-unknown k e = go (leb 6 n) refl
+    where
+      go : (b : Bool) → leb 6 n ≡ b → listedOf (record { codes = cs; count = n; refused = k }) ≡ oneMore (take n cs) none
+      go true f = let full : ltb (length (take n cs)) 6 ≡ false = le-ltb (length (take n cs)) 6 (omega (arith, leb-true 6 n f, length-take n cs)) in rw (e, f, full)
+      go false f = let room : ltb (length (take n cs)) 6 ≡ true = lt-ltb (length (take n cs)) 6 (omega (arith, leb-false 6 n f, length-take n cs)) in rw (e, f, room)
 
-  pub more-none : n < 6 → refused 6 ≡ oneMore (take n cs) none
-  unfolding oneMore
-  more-none h = rw (lt-ltb (length (take n cs)) 6 (omega (arith, length-take n cs)))
+  pub unknown-refused : (k : ℕ) → k ≡ cond (leb 6 n) 5 6 → 0 < k
+  unknown-refused k e = go (leb 6 n) refl
+    where
+      go : (b : Bool) → leb 6 n ≡ b → 0 < k
+      go true f = let five : k ≡ 5 = e ∙ rw f in omega arith
+      go false f = let six-of : k ≡ 6 = e ∙ rw f in omega arith
+
+  -- a literal: 5 where it is the seventh
+  pub item-seventh : (k : ℕ) → k ≡ cond (leb 6 n) 5 0 → 0 < k → (x : Option ℕ)
+      → listedOf (record { codes = cs; count = n; refused = k }) ≡ oneMore (take n cs) x
+  unfolding listedOf oneMore
+  item-seventh k e h x = go (leb 6 n) refl
+    where
+      go : (b : Bool) → leb 6 n ≡ b → listedOf (record { codes = cs; count = n; refused = k }) ≡ oneMore (take n cs) x
+      go true f = let full : ltb (length (take n cs)) 6 ≡ false = le-ltb (length (take n cs)) 6 (omega (arith, leb-true 6 n f, length-take n cs)) in rw (e, f, full)
+      go false f = let none-left : k ≡ 0 = e ∙ rw f in absurd (omega arith)
+
+  pub item-room : (k : ℕ) → k ≡ cond (leb 6 n) 5 0 → k ≤ 0 → n < 6
+  item-room k e h = go (leb 6 n) refl
+    where
+      go : (b : Bool) → leb 6 n ≡ b → n < 6
+      go true f = let five : k ≡ 5 = e ∙ rw f in absurd (omega arith)
+      go false f = leb-false 6 n f
 
   snoc : (c : ℕ) → n < 6 → take (n + 1) (set cs n c) ≡ take n cs ++ (c ∷ [])
   snoc c h = rw (add-one n) (take-suc-set cs n c (omega arith))

@@ -150,7 +150,7 @@ module _ (text : List ℕ) (lent : ℕ) (due : Due) (r : Reading) (key : ℕ) (l
   pub step-whole : Whole
   step-whole = step-by (allowed due key) refl
 
--- a list that is lists.refused refuses its line
+-- a list that is refused refuses its line
 module _ (lent : ℕ) (due : Due) (d : Draft) (key : ℕ) (list : List ℕ) (names : List (List ℕ)) (high k : ℕ)
     (no : lineList names high due key list ≡ lists.refused k) where
   with-key : (b : Bool) → eqb key 5 ≡ b → (allowed due key && isListKey key) ≡ true
@@ -196,7 +196,7 @@ module _ (text : List ℕ) (lent : ℕ) (s : State) (at line : ℕ) (l : LineAt)
       ≡ Onward text lent at line (lineStep lent (dueAt s) (draftOf text (s .reading)) (l .key) (take (l .to - l .from) (drop (l .from) text))) (l .next)
   line-turn = keyed-turn (ltb (l .key) 10) refl
 
--- an ending that is lists.refused, and one where the reader stops
+-- an ending that is refused, and one where the reader stops
 outcome-by : (text : List ℕ) (s : State) (line at k : ℕ) (b : Bool) → eqb (s .refused) 0 ≡ b → stepOf text s ≡ step.refused k
     → takenOf text (record { state = s; line = line; at = at }) ≡ refused k line
 unfolding stepOf takenOf
@@ -265,7 +265,7 @@ abbrev pub listHere : List ℕ → State → LineAt → Listed
 listHere text s l =
     lineList (spelled text (s .reading .names)) (highFor (l .key) (s .reading)) (dueAt s) (l .key) (take (l .to - l .from) (drop (l .from) text))
 
--- the line at a place, its list read or lists.refused
+-- the line at a place, its list read or refused
 module _ (text : List ℕ) (lent : ℕ) (s : State) (at line : ℕ) (l : LineAt) (is : lineOf text l ≡ firstLine (drop at text)) where
   pub refused-left : (k : ℕ) → listHere text s l ≡ lists.refused k → leftAt text lent s at line ≡ refused k line
   refused-left k fails =

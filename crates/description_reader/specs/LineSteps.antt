@@ -47,10 +47,10 @@ pub data Step : Type 0 where
   next : Due → Draft → Step
   finish : Draft → Step
 
--- 1 to 30 without a leading zero
 abbrev pub inHorizon : ℕ → Option ℕ
 inHorizon T = cond (leb 1 T && leb T 30) (some T) none
 
+-- 1 to 30 without a leading zero
 unfoldable pub horizonOf : List ℕ → Option ℕ
 horizonOf [] = none
 horizonOf (a ∷ []) = cond (isDigit a) (inHorizon (a - 48)) none
@@ -62,7 +62,7 @@ horizonLine d none = refused 3
 horizonLine d (some T) =
     next firstFluentDue (record { horizon = T; fluents = d .fluents; names = d .names; laws = d .laws })
 
--- a line that declares a name, where there is a place for it; fluents is their number behind it
+-- a new name: 5 before its spelling, then 4. `fits`: there is a place for it; `fluents`: how many there are behind it
 abbrev pub nameLine : Bool → Due → ℕ → Draft → List ℕ → Step
 nameLine fits due fluents d value =
     cond fits

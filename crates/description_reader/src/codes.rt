@@ -1,6 +1,7 @@
 // The codes of a law's list, gathered item by item.
 use search::Found;
 ghost use mathlib.Core.Path.{_≡_};
+ghost use mathlib.Core.Bool.{cond};
 ghost use lib.ListN.{take};
 ghost use Rattle.search.specs.Search.{placeOf};
 ghost use Rattle.text.specs.Internal.{CodeFits};
@@ -23,7 +24,20 @@ pub(crate) fn no_codes() -> Codes
     }
 }
 
-// The codes and one more item: refusal 5 of a seventh, before its spelling, and 6 of one that is no literal of the allowed sort.
+// The refusal at an item, 0 for none: 5 of a seventh, before its spelling, then 6 of one that is no literal of the allowed sort.
+fn refusal(seventh: bool, unknown: bool) -> u8
+    ensures { λ r. ⌜ r ≡ cond seventh 5 (cond unknown 6 0) ⌝ }
+{
+    if seventh {
+        return 5;
+    }
+    if unknown {
+        return 6;
+    }
+    0
+}
+
+// The codes and one more item.
 pub(crate) fn with_item(list: Codes, code: Found) -> Codes
     requires { ⌜ Padded list × CodeFits (placeOf code) ⌝ }
     ensures { λ r. ⌜ listedOf r ≡ oneMore (take (list .count) (list .codes)) (placeOf code) ⌝ }
@@ -31,20 +45,22 @@ pub(crate) fn with_item(list: Codes, code: Found) -> Codes
 {
     let count = list.count;
     let mut codes = list.codes;
-    if 6 <= count {
-        return Codes {
-            codes,
-            count,
-            refused: 5,
-        };
-    }
+    let seventh = 6 <= count;
     let Found::At(c) = code else {
         return Codes {
             codes,
             count,
-            refused: 6,
+            refused: refusal(seventh, true),
         };
     };
+    let refused = refusal(seventh, false);
+    if 0 < refused {
+        return Codes {
+            codes,
+            count,
+            refused,
+        };
+    }
     codes[count] = c as u8;
     Codes {
         codes,

@@ -1,4 +1,4 @@
--- Values marked with literals, and the lines of a readHistory.
+-- Values marked with literals, and the lines of a history.
 -- Assumes nothing.
 use mathlib.Core.Path.{_≡_, refl, sym, _∙_, ap}
 use mathlib.Core.Bool.{Bool, true, false, cond}
@@ -28,7 +28,7 @@ marked-more base vs [] c = refl
 marked-more base vs (x ∷ done) c =
     marked-more base (set vs (base + x / 2) (cond (eqb (x % 2) 0) (withTrue (getD vs (base + x / 2) 0)) (withFalse (getD vs (base + x / 2) 0)))) done c
 
--- the first n answered of an array
+-- the first n values of an array
 module _ (xs : List ℕ) (n base c : ℕ) where
   marked-by : (b : Bool) → ltb (base + c / 2) n ≡ b
       → take n (set xs (base + c / 2) (cond (eqb (c % 2) 0) (withTrue (getD xs (base + c / 2) 0)) (withFalse (getD xs (base + c / 2) 0))))
@@ -160,7 +160,7 @@ key-below line = go (isState line)
     go true = omega arith
     go false = omega arith
 
--- where a time's answered begin
+-- where a time's values begin
 pub base-bound : (count line : ℕ) (t : ℕ) → (line - 1) / 2 ≤ t → count ≤ 32 → (line - 1) / 2 * count ≤ t * 32
 base-bound count line t h few =
     omega (arith, mul-le-mul-left ((line - 1) / 2) few)

@@ -1,4 +1,4 @@
--- The loops of the readHistory reader: a line's items mark the values, and one line after another is read.
+-- The loops of the history reader: a line's items mark the values, and one line after another is read.
 -- Assumes nothing.
 use mathlib.Core.Path.{_≡_, refl, sym, _∙_, ap}
 use mathlib.Core.Bool.{Bool, true, false, cond}
@@ -199,7 +199,7 @@ pub record-values : (n : ℕ) (r : Record) → r .refused ≤ 0 → valuesRead n
 unfolding valuesRead
 record-values n r h = rw (eq-eqb (r .refused) 0 (omega arith))
 
--- a readHistory behind a description that was read: 10, then 1, then its lines
+-- a history behind a description that was read: 10, then 1, then its lines
 module _ (names-text : List ℕ) (r : Reading) (rest : List ℕ) (line : ℕ) (text : List ℕ) (room : ℕ) where
   pub history-room : (room ≡ atomsOf r → ⊥) → byNames (answered (read (draftOf names-text r) rest line)) text room ≡ refused 10 room
   history-room h = rw (spelled-length names-text (r .names), ne-eqb room (atomsOf r) h)

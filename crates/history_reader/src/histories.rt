@@ -10,7 +10,7 @@ ghost use Prim.Native.Nat.{ℕ, _+_, _≤_, _<_};
 ghost use lib.Dec.{eqb};
 ghost use lib.ListN.{length, take, drop, replicate};
 ghost use Rattle.text.specs.Lines.{firstLine};
-ghost use Rattle.history_reader.specs.Histories.{withTrue, withFalse, marked, historyEnd, statesFrom};
+ghost use Rattle.history_reader.specs.Histories.{withTrue, withFalse, marked, historyEnd, statesFrom, valuesLeft};
 ghost use Rattle.description_reader.specs.Internal.{draftOf};
 ghost use Rattle.history_reader.specs.Internal.{endingOf, wantedAt, placeFrom, leftOf, LinesFit, valuesRead, atomsOf};
 ghost use Rattle.description_reader.specs.Internal.{Limits};
@@ -212,11 +212,15 @@ pub(crate) fn atom_count(reading: Reading) -> usize
     reading.horizon * names.count + reading.fluents
 }
 
-// Fills the buffer with the first values.
-pub(crate) fn copy_out(values: &mut [u8], found: [u8; 1024])
+// Fills the buffer with the first values of a history that was read; after a refusal it stays as it was.
+pub(crate) fn copy_out(values: &mut [u8], history: Record)
     requires { ⌜ length (now values) ≤ 1024 ⌝ }
-    ensures { λ r. ⌜ now (values .exit) ≡ take (length (now (values .entry))) found ⌝ }
+    ensures { λ r. ⌜ now (values .exit) ≡ valuesLeft (valuesRead (length (now (values .entry))) history) (now (values .entry)) ⌝ }
 {
+    if 0 < history.refused {
+        return;
+    }
+    let found = history.values;
     let mut i = 0;
     while i < values.len() {
         values[i] = found[i];

@@ -31,10 +31,9 @@ pub fn read_history(description: &[u8], text: &[u8], values: &mut [u8]) -> Histo
         return HistoryAnswer::Refused(1, 0);
     }
     let record = histories::read(description, text, reading);
+    histories::copy_out(values, record);
     if 0 < record.refused {
         return HistoryAnswer::Refused(record.refused, record.line);
     }
-    let found = record.values;
-    histories::copy_out(values, found);
     HistoryAnswer::Complete
 }

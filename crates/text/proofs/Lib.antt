@@ -1,6 +1,7 @@
--- What the functions' proofs share.
+-- What the functions' proofs share, and small worked examples.
 pub mod Runs
 pub mod KeyTable
 pub mod Cutting
 pub mod Spelling
 pub mod Items
+pub mod Examples

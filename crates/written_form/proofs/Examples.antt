@@ -1,4 +1,4 @@
--- The full recipe: its text is read to its record and answered, and is the one written for them; it meets the conditions of the
+-- The full recipe: its text is read to its record and values, and is the one written for them; it meets the conditions of the
 -- round trip.
 -- Assumes nothing.
 use mathlib.Core.Path.{_≡_, refl}

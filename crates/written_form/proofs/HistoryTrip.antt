@@ -1,4 +1,4 @@
--- Every written readHistory is read back to its answered.
+-- Every written history is read back to its values.
 -- Assumes nothing.
 use mathlib.Core.Path.{_≡_, refl, sym, ap, _∙_}
 use mathlib.Core.List.{List, [], _++_, append-nil, append-assoc}
@@ -32,7 +32,7 @@ values-split n vs h =
 
 module _ (d : Draft) (m : ℕ) (are : AreNames (d .names)) (distinct : Distinct (d .names)) (size : length (d .names) ≡ d .fluents + m)
     (small : length (d .names) ≤ 32) where
-  -- one line: the answered of the places from low on, as many as there are of a sort
+  -- one line: the values of the places from low on, as many as there are of a sort
   line-read : (key low high base l : ℕ) (p vs rest : List ℕ) (go : List ℕ → List ℕ → Reply (List ℕ)) → key < 10 → length p ≡ base + low
       → low ≤ high → high ≤ length (d .names) → Values vs
       → let ws = take (high - low) vs in
@@ -100,7 +100,7 @@ module _ (d : Draft) (m : ℕ) (are : AreNames (d .names)) (distinct : Distinct 
       ∙ steps-read k (suc t) (suc (suc l)) (p ++ fs ++ acts) zs (omega arith) (omega arith) (values-split m ys behind .1)
       ∙ ap answered (append-assoc (p ++ fs) acts zs ∙ rw (take-append-drop m ys) (append-assoc p fs ys ∙ rw (take-append-drop n vs)))
 
--- the size of a written readHistory
+-- the size of a written history
 module _ (names : List (List ℕ)) (are : AreNames names) (n m : ℕ) (size : length names ≡ n + m) (few-fluents : n ≤ 24) (few-actions : m ≤ 8) where
   part-size : (key low width : ℕ) (vs : List ℕ) → length (getD keys key []) ≤ 5 → low + width ≤ length names → Values vs
       → length (lineText key (listText names (codesFrom low (take width vs)))) ≤ 7 + 36 * width
@@ -141,7 +141,7 @@ module _ (lent T : ℕ) (fluents actions : List (List ℕ)) (ls : List Law) (w :
       (w .few-actions) T vs vals in
       omega (arith, w .horizon-to)
 
-  -- the answered are read back from the readHistory by the names of the description, whatever follows that
+  -- the values are read back from the history by the names of the description, whatever follows that
   pub history-written : length vs ≡ atomCount (length fluents) (length actions) T → (more : List ℕ) → length more ≤ 45535
       → readHistory (descriptionText T fluents actions ls ++ more) (valuesText T fluents actions vs) (length vs) ≡ answered vs
   unfolding readHistory valuesText

@@ -1,10 +1,11 @@
--- `read_history` meets its contract: the description's refusal, 10, 1, the readHistory's refusal, or its values.
+-- `read_history` meets its contract: the description's refusal, 10, 1, the history's refusal, or its values.
 -- Assumes nothing.
 use native.Mathlib.Omega.{arith}
-use mathlib.Core.Path.{sym, _∙_, ap}
+use mathlib.Core.Path.{_≡_, sym, _∙_, ap}
 use Prim.Native.Nat.{_≤_}
 use lib.ListN.{length, drop}
 use Rattle.history_reader.specs.Histories.{valuesLeft, byNames, readHistory, historyReplied}
+use Rattle.history_reader.specs.Internal.{valuesRead}
 use Rattle.description_reader.proofs.Answering.{ends-refused, ends-read}
 use Rattle.history_reader.proofs.Recording.{history-room, history-long, history-lines, record-refuses, record-values}
 use borrow.Author.Needs.{needs}
@@ -48,19 +49,19 @@ returns-3 c =
 read-requires : tie.Need-read-requires
 read-requires c κs = search needs
 
-returns-4 : tie.Need-returns-4
+-- what was read of the history
+history : (m : tie.After-read) → let r = m .before .before .before .before .before .before .before .before in let a = r .before .before .before .before .args in
+    readHistory (a .description .now) (a .text .now) (length (a .values .now)) ≡ valuesRead (length (a .values .now)) (m .read .result)
 unfolding readHistory
-returns-4 c =
-    let m = c .before .before in
+history m =
     let k = m .before .before .before in
     let r = k .before .before .before .before .before in
     let a = r .before .before .before .before .args in
     let e = r .read-alone .result in
     let room : length (a .values .now) ≤ 1024 = omega (arith, m .before .before .if2 .left, k .atom-count .ensures .1) in
-    let h = ap (λ x. byNames x (a .text .now) (length (a .values .now))) (sym (r .read-alone .ensures .0) ∙ ends-read (a .description .now) e (k .before .before .if1 .left))
+    ap (λ x. byNames x (a .text .now) (length (a .values .now))) (sym (r .read-alone .ensures .0) ∙ ends-read (a .description .now) e (k .before .before .if1 .left))
     ∙ history-lines (a .description .now) (e .state .reading) (drop (e .at) (a .description .now)) (e .line) (a .text .now) (length (a .values .now)) (m .before .before .if2 .left ∙ k .atom-count .ensures .0) (m .before .if3 .left)
-    ∙ sym (m .read .ensures (length (a .values .now)) room) ∙ record-refuses (length (a .values .now)) (m .read .result) (c .if4 .taken) in
-    (sym (ap historyReplied h), sym (ap (λ x. valuesLeft x (a .values .now)) h))
+    ∙ sym (m .read .ensures (length (a .values .now)) room)
 
 copy-out-requires : tie.Need-copy-out-requires
 copy-out-requires c κs = search needs
@@ -68,19 +69,26 @@ copy-out-requires c κs = search needs
 same-length : tie.Need-same-length
 same-length c = search needs
 
+returns-4 : tie.Need-returns-4
+returns-4 c =
+    let o = c .before .before .before .before in
+    let m = o .before .before in
+    let a = m .before .before .before .before .before .before .before .before .before .before .before .before .args in (
+      sym (ap historyReplied (history m ∙ record-refuses (length (a .values .now)) (m .read .result) (omega arith))),
+      o .copy-out .ensures ∙ sym (ap (λ x. valuesLeft x (a .values .now)) (history m)),
+    )
+
+same-length-2 : tie.Need-same-length-2
+same-length-2 c = search needs
+
 returns-5 : tie.Need-returns-5
-unfolding readHistory
 returns-5 c =
-    let m = c .before .before .before .before .before .before .before in
-    let k = m .before .before .before in
-    let r = k .before .before .before .before .before in
-    let a = r .before .before .before .before .args in
-    let e = r .read-alone .result in
-    let room : length (a .values .now) ≤ 1024 = omega (arith, m .before .before .if2 .left, k .atom-count .ensures .1) in
-    let h = ap (λ x. byNames x (a .text .now) (length (a .values .now))) (sym (r .read-alone .ensures .0) ∙ ends-read (a .description .now) e (k .before .before .if1 .left))
-    ∙ history-lines (a .description .now) (e .state .reading) (drop (e .at) (a .description .now)) (e .line) (a .text .now) (length (a .values .now)) (m .before .before .if2 .left ∙ k .atom-count .ensures .0) (m .before .if3 .left)
-    ∙ sym (m .read .ensures (length (a .values .now)) room) ∙ record-values (length (a .values .now)) (m .read .result) (c .before .before .before .before .before .if4 .left) in
-    (sym (ap historyReplied h), c .before .before .copy-out .ensures ∙ sym (ap (λ x. valuesLeft x (a .values .now)) h))
+    let o = c .before .before .before .before in
+    let m = o .before .before in
+    let a = m .before .before .before .before .before .before .before .before .before .before .before .before .args in (
+      sym (ap historyReplied (history m ∙ record-values (length (a .values .now)) (m .read .result) (omega arith))),
+      o .copy-out .ensures ∙ sym (ap (λ x. valuesLeft x (a .values .now)) (history m)),
+    )
 
 pub read-history-spec : {M : Type 1} → statement M
 read-history-spec =
@@ -92,7 +100,8 @@ read-history-spec =
     returns-2
     returns-3
     read-requires
-    returns-4
     copy-out-requires
     same-length
+    returns-4
+    same-length-2
     returns-5)

@@ -2,6 +2,7 @@
 -- Assumes nothing.
 use native.Mathlib.Omega.{arith}
 use mathlib.Core.Path.{_∙_}
+use lib.ListN.{length}
 use borrow.Author.Tests.{lt-ltb}
 use Rattle.description_reader.specs.Descriptions.{described}
 use Rattle.description_reader.specs.Internal.{dueAt, Sound}
@@ -23,7 +24,7 @@ returns : tie.Need-returns
 unfolding described
 returns c =
     let a = c .before .before .before .before in (
-      outcome-refused (a .args .text .now) (c .refused .result) 0 0 1 (c .refused .ensures .0 (a .args .text .now)) ∙ rw (lt-ltb _ _ (c .before .before .if1 .taken)),
+      outcome-refused (a .args .text .now) (c .refused .result) 0 0 1 (c .refused .ensures .0 (a .args .text .now)) ∙ rw (lt-ltb 65535 (length (a .args .text .now)) (omega arith)),
       record { sound = c .refused .ensures .1 .sound; follows = c .refused .ensures .1 .follows (a .args .laws) (rw (c .before .begun .ensures)); within = omega arith },
     )
 

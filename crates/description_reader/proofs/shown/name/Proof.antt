@@ -4,6 +4,7 @@ use mathlib.Core.Path.{_≡_, refl, sym, _∙_, ap}
 use mathlib.Core.Bool.{Bool, true, false, cond}
 use mathlib.Core.List.{List, []}
 use Prim.Native.Nat.{ℕ}
+use native.Mathlib.Omega.{arith}
 use borrow.Author.Tests.{lt-ltb, le-ltb}
 use Rattle.search.specs.Replies.{Reply, refused}
 use Rattle.description_reader.specs.Descriptions.{Taken, described}
@@ -53,7 +54,7 @@ returns-2 c =
     let n = c .before .before .before in
     let r = n .before .before .before .before .before in
     let a = r .before .before .args in
-    rw (← declares n, c .before .before .if2 .taken) (c .part2 .ensures ∙ no-action (a .text .now) (r .read-alone .result .state .reading) (r .read-alone .ensures .1) (a .number) (c .before .if3 .taken))
+    rw (← declares n, c .before .before .if2 .taken) (c .part2 .ensures ∙ no-action (a .text .now) (r .read-alone .result .state .reading) (r .read-alone .ensures .1) (a .number) (omega arith))
 
 add-declared : tie.Need-add-declared
 add-declared c = search needs

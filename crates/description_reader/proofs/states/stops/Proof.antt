@@ -1,14 +1,15 @@
 -- `states::stops` meets its contract.
 -- Assumes nothing.
+use native.Mathlib.Omega.{arith}
 use borrow.Author.Tests.{lt-ltb, le-ltb}
 use Rattle.description_reader.proofs.states.stops.Statement.{statement}
 use Rattle.description_reader.proofs.states.stops.Tie as tie
 
 returns : tie.Need-returns
-returns c = rw (lt-ltb _ _ (c .if1 .taken))
+returns c = rw (lt-ltb 0 (c .before .before .args .state .refused) (omega arith))
 
 returns-2 : tie.Need-returns-2
-returns-2 c = rw (le-ltb _ _ (c .if1 .left))
+returns-2 c = rw (le-ltb 0 (c .before .before .args .state .refused) (omega arith))
 
 pub stops-spec : {M : Type 1} → statement M
 stops-spec = tie.close (tie.spec returns returns-2)

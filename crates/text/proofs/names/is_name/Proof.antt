@@ -1,5 +1,7 @@
 -- `names::is_name` meets its contract: the tests in turn.
 -- Assumes nothing.
+use native.Mathlib.Omega.{arith}
+use lib.ListN.{length}
 use borrow.Author.Tests.{not-true, not-false, le-leb, lt-leb}
 use Rattle.text.proofs.Spelling.{name-empty, name-tests}
 use borrow.Author.Needs.{needs}
@@ -24,7 +26,7 @@ returns-3 : tie.Need-returns-3
 returns-3 c =
     let h = c .before .before .before .before in
     let l = c .before .before in
-    rw (name-tests _ (h .if1 .left), ← l .is-letter .ensures, not-false (l .is-letter .result) (c .before .if2 .left), lt-leb _ _ (c .if3 .taken))
+    rw (name-tests _ (h .if1 .left), ← l .is-letter .ensures, not-false (l .is-letter .result) (c .before .if2 .left), lt-leb (length (h .before .before .args .name .now)) 16 (omega arith))
 
 all-name-bytes-requires : tie.Need-all-name-bytes-requires
 all-name-bytes-requires c κs = search needs
@@ -34,7 +36,7 @@ returns-4 c =
     let l = c .before .before .before .before in
     let h = l .before .before in
     let a = c .before in
-    rw (name-tests _ (h .if1 .left), ← l .is-letter .ensures, not-false (l .is-letter .result) (c .before .before .before .if2 .left), le-leb _ _ (c .before .before .if3 .left), ← a .all-name-bytes .ensures, not-true (a .all-name-bytes .result) (c .if4 .taken))
+    rw (name-tests _ (h .if1 .left), ← l .is-letter .ensures, not-false (l .is-letter .result) (c .before .before .before .if2 .left), le-leb (length (h .before .before .args .name .now)) 16 (omega arith), ← a .all-name-bytes .ensures, not-true (a .all-name-bytes .result) (c .if4 .taken))
 
 is-false-requires : tie.Need-is-false-requires
 is-false-requires c κs = search needs
@@ -44,7 +46,7 @@ returns-5 c =
     let l = c .before .before .before .before .before in
     let h = l .before .before in
     let a = c .before .before in
-    rw (name-tests _ (h .if1 .left), ← l .is-letter .ensures, not-false (l .is-letter .result) (c .before .before .before .before .if2 .left), le-leb _ _ (c .before .before .before .if3 .left), ← a .all-name-bytes .ensures, not-false (a .all-name-bytes .result) (c .before .if4 .left), c .is-false .ensures)
+    rw (name-tests _ (h .if1 .left), ← l .is-letter .ensures, not-false (l .is-letter .result) (c .before .before .before .before .if2 .left), le-leb (length (h .before .before .args .name .now)) 16 (omega arith), ← a .all-name-bytes .ensures, not-false (a .all-name-bytes .result) (c .before .if4 .left), c .is-false .ensures)
 
 pub is-name-spec : {M : Type 1} → statement M
 is-name-spec =
