@@ -26,7 +26,7 @@ enum-told : tie.Need-enum-told
 enum-told c = search needs
 
 bad-rule-requires : tie.Need-bad-rule-requires
-bad-rule-requires c κs = search needs
+bad-rule-requires c κs = tt
 
 enum-known-place-2 : tie.Need-enum-known-place-2
 enum-known-place-2 c = search needs

@@ -70,7 +70,7 @@ returns-4 c =
     negated-at (a .n) (a .law) (a .t) (omega arith) (omega arith) (b .by-kind .ensures) (c .before .shift .ensures .0) (c .part-word .ensures)
 
 shift-requires-2 : tie.Need-shift-requires-2
-shift-requires-2 c κs = omega arith
+shift-requires-2 c κs = omega (arith, new-bound (c .before .before .before .before .before .before))
 
 part-word-requires-2 : tie.Need-part-word-requires-2
 part-word-requires-2 c κs =
