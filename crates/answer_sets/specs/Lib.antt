@@ -7,5 +7,5 @@ pub mod Words
 pub mod Answers
 pub mod Demand2
 pub mod Examples
-pub mod DefinitionExamples
+pub mod BasicExamples
 pub mod Internal

@@ -137,6 +137,8 @@ pub record DefinitionsHold : Type 0 where
   pub other-sets : Each IsOther otherSets
   pub reduct-drops : reduct four (codes (p ∷ q ∷ [])) ≡ fourReduct
   pub least : IsLeastClosed (literalHeaded fourReduct) (codes (p ∷ q ∷ []))
+  pub not-closed : IsLeastClosed (literalHeaded fourReduct) (codes (p ∷ [])) → ⊥
+  pub not-least : IsLeastClosed (literalHeaded fourReduct) (codes (p ∷ q ∷ r ∷ [])) → ⊥
   pub written : words recipeRules ≡ recipeWords
   pub decoded : rulesOf recipeWords ≡ recipeRules
   pub held : chosen (setOf (0 ∷ 1 ∷ 2 ∷ 3 ∷ [])) (range 0 8) ≡ 2 ∷ 5 ∷ 6 ∷ 7 ∷ []

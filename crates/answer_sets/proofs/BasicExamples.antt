@@ -8,15 +8,31 @@ use Prim.Native.Nat.{ℕ, _+_, _*_, _%_}
 use native.Mathlib.Omega.{arith}
 use lib.Dec.{eqb}
 use borrow.Author.Tests.{eqb-true}
-use Rattle.search.specs.Search.{Each}
+use Rattle.search.specs.Search.{Each, chosen, range}
 use Rattle.search.proofs.Tests.{not-both, or-iff}
 use Rattle.answer_sets.specs.Literals.{Lits, setOf, holdsTrue, holdsFalse}
 use Rattle.answer_sets.specs.Rules.{Rule}
-use Rattle.answer_sets.specs.AnswerSets.{reduct, Closed, Subset, ProperSubset, Consistent, AnswerSet}
-use Rattle.answer_sets.specs.Words.{rulesOf}
-use Rattle.answer_sets.specs.DefinitionExamples.{codes, p, ¬p, q, IsAnswerSet, answerSets, Reason, inconsistent, unclosed, smaller, Shown, IsOther, otherSets, DefinitionsHold}
+use Rattle.answer_sets.specs.AnswerSets.{reduct, Closed, Subset, ProperSubset, Consistent, AnswerSet, literalHeaded, IsLeastClosed}
+use Rattle.answer_sets.specs.Words.{words, rulesOf}
+use Rattle.answer_sets.specs.BasicExamples.{codes, p, ¬p, q, r, four, fourReduct, recipeRules, recipeWords, IsAnswerSet, answerSets, Reason, inconsistent, unclosed, smaller, Shown, IsOther, otherSets, DefinitionsHold}
 
 infixr 20 _&_
+-- what the definitions compute
+
+drops : reduct four (codes (p ∷ q ∷ [])) ≡ fourReduct
+drops = refl
+
+written : words recipeRules ≡ recipeWords
+written = refl
+
+decoded : rulesOf recipeWords ≡ recipeRules
+unfolding rulesOf
+decoded = refl
+
+held : chosen (setOf (0 ∷ 1 ∷ 2 ∷ 3 ∷ [])) (range 0 8) ≡ 2 ∷ 5 ∷ 6 ∷ 7 ∷ []
+unfolding setOf holdsTrue holdsFalse
+held = refl
+
 -- the first of a list, and the rest
 _&_ : {A B : Type 0} → A → B → A × B
 a & b = (a, b)
@@ -80,17 +96,22 @@ other-sets =
     & ruled-out inconsistent _ _ (λ h. h 0 refl refl)
     & tt
 
+-- the set with p and q alone
+least : IsLeastClosed (literalHeaded fourReduct) (codes (p ∷ q ∷ []))
+least = record {
+  closed = (λ w. refl, (λ w. refl, tt));
+  least = λ Y h. within (p ∷ q ∷ []) Y (h .0 tt, (h .1 .0 (h .0 tt, tt), tt));
+}
+
 pub definitions-hold : DefinitionsHold
-unfolding rulesOf setOf holdsTrue holdsFalse
 definitions-hold = record {
   answer-sets = listed-sets;
   other-sets = other-sets;
-  reduct-drops = refl;
-  least = record {
-    closed = (λ w. refl, (λ w. refl, tt));
-    least = λ Y h. within (p ∷ q ∷ []) Y (h .0 tt, (h .1 .0 (h .0 tt, tt), tt));
-  };
-  written = refl;
-  decoded = refl;
-  held = refl;
+  reduct-drops = drops;
+  least = least;
+  not-closed = λ h. not-both (h .closed .1 .0 (refl, tt)) refl;
+  not-least = λ h. not-both (h .least (codes (p ∷ q ∷ [])) (least .closed) r refl) refl;
+  written = written;
+  decoded = decoded;
+  held = held;
 }
