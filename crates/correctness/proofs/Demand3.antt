@@ -4,10 +4,10 @@
 -- Assumes nothing.
 use mathlib.Core.Path.{_≡_, refl, sym, _∙_, ap}
 use mathlib.Core.Logic.{_↔_, ⊎-elim, Iff·trans}
-use mathlib.Core.Bool.{Bool, true, false, not, cond, _||_}
+use mathlib.Core.Bool.{Bool, false, cond}
 use mathlib.Core.List.{List}
-use mathlib.Core.Option.{Option, none, some}
-use Prim.Native.Nat.{ℕ, _*_, _≤_, _<_}
+use mathlib.Core.Option.{none, some}
+use Prim.Native.Nat.{ℕ, _*_, _≤_}
 use native.Mathlib.Omega.{arith}
 use borrow.Author.Tests.{eq-eqb, ne-eqb, le-ltb}
 use lib.Dec.{eqb, ltb}
@@ -117,7 +117,7 @@ module _ (d : Description) (ls : List Law) (lent : ℕ) (vs : List ℕ) (complet
       same (refused k p) = (λ e. cc, λ e. cc)
       same (answered v) = (λ e. cc, λ e. cc)
 
-  read-verdict : causal.reading d ls lent vs ≡ answered (causalVerdict (d .fluents) (d .actions) (d .horizon) (lawsOf d ls) vs)
+  pub read-verdict : causal.reading d ls lent vs ≡ answered (causalVerdict (d .fluents) (d .actions) (d .horizon) (lawsOf d ls) vs)
   unfolding causal.reading
   read-verdict = rw (taken, horizon, eq-eqb (length vs) _ size, none-iff causal.notOneValue 0 vs .1 (each-map one-value vs one))
 

@@ -94,15 +94,15 @@ module _ (n m T : ℕ) (ls : List Law) (vs : List ℕ) where
 
 -- The verdict
 
-orElse-path : (o : Option ℕ) (fault : ℕ → Causal) (next : Causal) → ((k : ℕ) → fault k ≡ path → ⊥)
+pub orElse-path : (o : Option ℕ) (fault : ℕ → Causal) (next : Causal) → ((k : ℕ) → fault k ≡ path → ⊥)
     → orElse o fault next ≡ path ↔ ((o ≡ none) × (next ≡ path))
 orElse-path (some k) fault next bad = (λ e. absurd (bad k e), λ h. let z : _≡_ {A = ℕ} 0 1 = cc in absurd (omega arith))
 orElse-path none fault next bad = (λ e. (refl, e), λ h. h .1)
 
-contradicted-no-path : (t k : ℕ) → contradicted t k ≡ path → ⊥
+pub contradicted-no-path : (t k : ℕ) → contradicted t k ≡ path → ⊥
 contradicted-no-path t k e = let z : _≡_ {A = ℕ} 0 1 = cc in omega arith
 
-uncaused-no-path : (t k : ℕ) → uncaused t k ≡ path → ⊥
+pub uncaused-no-path : (t k : ℕ) → uncaused t k ≡ path → ⊥
 uncaused-no-path t k e = let z : _≡_ {A = ℕ} 0 1 = cc in omega arith
 
 obeyed-iff : (s : Interpretation) (applies : Law → Bool) (ls : List Law) → first (contradicts applies s) 0 ls ≡ none ↔ Obeyed s applies ls
