@@ -1,16 +1,18 @@
 -- Demand 3, for every accepted description, an open horizon and every set with one value for each atom. The engine's part goes
--- through its own theorem (it passes exactly the answer sets), the history check's through the engine's.
+-- through its own theorem (it passes exactly the answer sets), the history check's through the engine's. And what the functions
+-- open to callers promise of it.
 -- Assumes nothing.
 use mathlib.Core.Path.{_≡_, refl, sym, _∙_, ap}
 use mathlib.Core.Logic.{_↔_, ⊎-elim, Iff·trans}
-use mathlib.Core.Bool.{Bool, true, false, not, cond, _||_}
+use mathlib.Core.Bool.{Bool, false, cond}
 use mathlib.Core.List.{List}
-use mathlib.Core.Option.{Option, none, some}
-use Prim.Native.Nat.{ℕ, _*_, _≤_, _<_}
+use mathlib.Core.Option.{none, some}
+use Prim.Native.Nat.{ℕ, _*_, _≤_}
 use native.Mathlib.Omega.{arith}
 use borrow.Author.Tests.{eq-eqb, ne-eqb, le-ltb}
 use lib.Dec.{eqb, ltb}
-use lib.ListN.{length}
+use lib.ListN.{length, take, drop}
+use lib.Seq.{take-append-seam}
 use Rattle.search.specs.Search.{Each, first}
 use Rattle.search.specs.Replies.{Reply, refused, answered}
 use Rattle.search.proofs.Tests.{each-map}
@@ -21,21 +23,25 @@ use Rattle.answer_sets.specs.Verdicts.{Verdict, passes}
 use Rattle.answer_sets.specs.Words.{rulesOf}
 use Rattle.answer_sets.specs.Answers as engine
 use Rattle.answer_sets.proofs.Decoding.{rules-words, codes-coded}
-use Rattle.answer_sets.proofs.Theorems.{Accepted, passes-exactly}
+use Rattle.answer_sets.proofs.Theorems.{Accepted}
+use Rattle.answer_sets.proofs.Theorems.{passes-exactly as engine-passes-exactly}
 use Rattle.description.specs.declared.Law.{Law}
 use Rattle.description.specs.declared.Description.{Description}
 use Rattle.description.specs.Laws.{lawsOf}
 use Rattle.description.specs.Atoms.{atomCount}
 use Rattle.description.specs.Acceptance.{badRecord, badHorizon}
 use Rattle.description.proofs.Laws.{accepted-law}
-use Rattle.translation.specs.Translated.{written, rulesFor, tableFor, outcome}
-use Rattle.translation.proofs.Outcomes.{accepted-written, accepted-short}
+use Rattle.translation.specs.Translated.{written, rulesFor, tableFor, outcome, tableAfter}
+use Rattle.translation.proofs.Outcomes.{accepted-written, accepted-short, written-left}
 use Rattle.translation_bounds.proofs.Bounds.{codes-below}
 use Rattle.translation_bounds.proofs.Tables.{few-atoms, table-accepted}
+use Rattle.history.specs.declared.Checked.{Checked}
 use Rattle.history.specs.Checks as history
+use Rattle.causal.specs.declared.Reading.{Reading}
 use Rattle.causal.specs.Verdicts.{path, causalVerdict}
 use Rattle.causal.specs.Readings as causal
-use Rattle.correctness.specs.Demand3.{OneValue, PathOf, Demand3}
+use Rattle.correctness.specs.Demand3.{OneValue, Complete, PathOf, PassExactly, Demand3}
+use Rattle.correctness.specs.Promises.{TranslatesExactly, PassesExactly, PathExactly}
 use Rattle.correctness.proofs.Reading.{causal-iff}
 use Rattle.correctness.proofs.Translated.{answer-set-iff-path}
 
@@ -49,8 +55,19 @@ not-zero v o = ne-eqb 0 v (λ (z : 0 ≡ v). ⊎-elim (λ (e : v ≡ 1). omega a
 one-value : (v : ℕ) → OneValue v → causal.notOneValue v ≡ false
 one-value v o = ⊎-elim (λ (e : v ≡ 1). rw e refl) (λ (e : v ≡ 2). rw e refl) o
 
-module _ (d : Description) (ls : List Law) (lent : ℕ) (vs : List ℕ) (taken : badRecord d ls lent ≡ none) (horizon : badHorizon (d .horizon) ≡ none)
-    (size : length vs ≡ atomCount (d .fluents) (d .actions) (d .horizon)) (one : Each OneValue vs) where
+module _ (d : Description) (ls : List Law) (lent : ℕ) (vs : List ℕ) (complete : Complete d ls lent vs) where
+  taken : badRecord d ls lent ≡ none
+  taken = complete .records
+
+  horizon : badHorizon (d .horizon) ≡ none
+  horizon = complete .horizon
+
+  size : length vs ≡ atomCount (d .fluents) (d .actions) (d .horizon)
+  size = complete .size
+
+  one : Each OneValue vs
+  one = complete .one-value
+
   -- with room for exactly the words needed
   exact : outcome d ls lent (length (tableFor d ls)) ≡ answered (written (atomCount (d .fluents) (d .actions) (d .horizon)) (length (rulesFor d ls)) (length (tableFor d ls)))
   exact = accepted-written d ls lent (length (tableFor d ls)) taken horizon (omega arith)
@@ -75,7 +92,17 @@ module _ (d : Description) (ls : List Law) (lent : ℕ) (vs : List ℕ) (taken :
   by-answer-set = answer-set-iff-path (d .fluents) (d .actions) (d .horizon) (lawsOf d ls) vs (accepted-law d ls lent taken) size one
 
   by-engine : engine.answer vs (tableFor d ls) ≡ answered passes ↔ PathOf d ls vs
-  by-engine = Iff·trans (rw decoded at (passes-exactly vs (tableFor d ls) accepted)) by-answer-set
+  by-engine = Iff·trans (rw decoded at (engine-passes-exactly vs (tableFor d ls) accepted)) by-answer-set
+
+  -- the words that the translation left at the front are those of the rules
+  left-in-front : (old : List ℕ) → length (tableFor d ls) ≤ length old → take (length (tableFor d ls)) (tableAfter d ls lent old) ≡ tableFor d ls
+  left-in-front old enough =
+      ap (take (length (tableFor d ls))) (sym (written-left d ls lent old (accepted-written d ls lent (length old) taken horizon enough)))
+      ∙ take-append-seam (tableFor d ls) (drop (length (tableFor d ls)) old)
+
+  by-translated : (old : List ℕ) → length (tableFor d ls) ≤ length old
+      → engine.answer vs (take (length (tableFor d ls)) (tableAfter d ls lent old)) ≡ answered passes ↔ PathOf d ls vs
+  by-translated old enough = rw (left-in-front old enough) by-engine
 
   -- the history check adds nothing to the engine's verdict where every value is 1 or 2
   checked-engine : (room : ℕ) → length (tableFor d ls) ≤ room → history.checked d ls lent vs room ≡ history.ofEngine (engine.answer vs (tableFor d ls))
@@ -90,19 +117,37 @@ module _ (d : Description) (ls : List Law) (lent : ℕ) (vs : List ℕ) (taken :
       same (refused k p) = (λ e. cc, λ e. cc)
       same (answered v) = (λ e. cc, λ e. cc)
 
-  read-verdict : causal.reading d ls lent vs ≡ answered (causalVerdict (d .fluents) (d .actions) (d .horizon) (lawsOf d ls) vs)
+  pub read-verdict : causal.reading d ls lent vs ≡ answered (causalVerdict (d .fluents) (d .actions) (d .horizon) (lawsOf d ls) vs)
   unfolding causal.reading
   read-verdict = rw (taken, horizon, eq-eqb (length vs) _ size, none-iff causal.notOneValue 0 vs .1 (each-map one-value vs one))
 
   by-causal : causal.reading d ls lent vs ≡ answered path ↔ PathOf d ls vs
   by-causal = Iff·trans (λ e. let v = read-verdict in cc, λ e. let v = read-verdict in cc) (causal-iff (d .fluents) (d .actions) (d .horizon) (lawsOf d ls) vs)
 
-  pub demand-3 : Demand3 d ls lent vs
+  passed-exactly : PassExactly d ls lent vs
   unfolding history.checked
-  demand-3 = record {
+  passed-exactly = record {
     answer-set = by-answer-set;
-    engine-passes = by-engine;
+    engine-passes = by-translated;
     history-passes = by-history;
     history-refused = λ room short. rw (accepted-short d ls lent room taken horizon short) refl;
     causal-path = by-causal;
   }
+
+pub demand-3 : Demand3
+demand-3 d ls lent vs complete = passed-exactly d ls lent vs complete
+
+-- What functions promise of their own answers
+
+module _ (d : Description) (ls : List Law) (lent : ℕ) where
+  pub translates-exactly : (old new : List ℕ) → new ≡ tableAfter d ls lent old → TranslatesExactly d ls lent old new
+  unfolding TranslatesExactly
+  translates-exactly old new e vs complete enough = rw e (demand-3 d ls lent vs complete .engine-passes old enough)
+
+  pub passes-exactly : (vs : List ℕ) (room : ℕ) (r : Checked) → history.replyOf r ≡ history.checked d ls lent vs room → PassesExactly d ls lent vs room r
+  unfolding PassesExactly
+  passes-exactly vs room r e complete enough = rw e (demand-3 d ls lent vs complete .history-passes room enough)
+
+  pub path-exactly : (vs : List ℕ) (r : Reading) → causal.replyOf r ≡ causal.reading d ls lent vs → PathExactly d ls lent vs r
+  unfolding PathExactly
+  path-exactly vs r e complete = rw e (demand-3 d ls lent vs complete .causal-path)

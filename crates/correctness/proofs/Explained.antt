@@ -85,7 +85,7 @@ module _ (n : ℕ) (s a s′ : Interpretation) where
   abbrev applies : Law → Bool
   applies = appliesInStep n s a s′
 
-  causing-applies : (k : Kind) (l : Law) → l .kind ≡ k → causing n s a s′ k l ≡ applies l
+  pub causing-applies : (k : Kind) (l : Law) → l .kind ≡ k → causing n s a s′ k l ≡ applies l
   causing-applies Static l e = rw e (sym (and-true (holds s′ (ifList l))))
   causing-applies Dynamic l e = rw e
 

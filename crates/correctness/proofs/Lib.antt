@@ -5,3 +5,4 @@ pub mod Reading
 pub mod Values
 pub mod Translated
 pub mod Demand3
+pub mod CausalFaults

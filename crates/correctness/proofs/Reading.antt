@@ -81,27 +81,28 @@ module _ (n m T : ℕ) (ls : List Law) (vs : List ℕ) where
 
   pub path-iff : Path n m T ls vs ↔ PathByLaw
   path-iff = (
-    λ h. (state-iff (s 0) ls .0 (h .states 0 (omega arith)), λ t b. explained-at t .0 (h .steps t b)),
-    λ h. record {
-      states = λ t. elim t [
-        | zero ↦ λ b. state-iff (s 0) ls .1 (h .0)
-        | suc t ↦ λ b. result-state n (s t) (actionAt n m vs t) (s (suc t)) ls (h .1 t (omega arith) .0)
-      ];
-      steps = λ t b. explained-at t .1 (h .1 t b);
-    },
+    λ h. (state-iff (s 0) ls .0 (h .start), λ t b. explained-at t .0 (h .steps t b)),
+    λ h. record { start = state-iff (s 0) ls .1 (h .0); steps = λ t b. explained-at t .1 (h .1 t b) },
   )
+
+  -- every state of a path satisfies the static laws (000, section 2): after the first, they are caused in the step that leads to it
+  pub path-states : Path n m T ls vs → (t : ℕ) → t ≤ T → State ls (stateAt n m vs t)
+  path-states h t = elim t [
+    | zero ↦ λ b. h .start
+    | suc t ↦ λ b. result-state n (s t) (actionAt n m vs t) (s (suc t)) ls (explained-at t .0 (h .steps t (omega arith)) .0)
+  ]
 
 -- The verdict
 
-orElse-path : (o : Option ℕ) (fault : ℕ → Causal) (next : Causal) → ((k : ℕ) → fault k ≡ path → ⊥)
+pub orElse-path : (o : Option ℕ) (fault : ℕ → Causal) (next : Causal) → ((k : ℕ) → fault k ≡ path → ⊥)
     → orElse o fault next ≡ path ↔ ((o ≡ none) × (next ≡ path))
 orElse-path (some k) fault next bad = (λ e. absurd (bad k e), λ h. let z : _≡_ {A = ℕ} 0 1 = cc in absurd (omega arith))
 orElse-path none fault next bad = (λ e. (refl, e), λ h. h .1)
 
-contradicted-no-path : (t k : ℕ) → contradicted t k ≡ path → ⊥
+pub contradicted-no-path : (t k : ℕ) → contradicted t k ≡ path → ⊥
 contradicted-no-path t k e = let z : _≡_ {A = ℕ} 0 1 = cc in omega arith
 
-uncaused-no-path : (t k : ℕ) → uncaused t k ≡ path → ⊥
+pub uncaused-no-path : (t k : ℕ) → uncaused t k ≡ path → ⊥
 uncaused-no-path t k e = let z : _≡_ {A = ℕ} 0 1 = cc in omega arith
 
 obeyed-iff : (s : Interpretation) (applies : Law → Bool) (ls : List Law) → first (contradicts applies s) 0 ls ≡ none ↔ Obeyed s applies ls

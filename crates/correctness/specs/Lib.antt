@@ -1,2 +1,4 @@
--- What the theorems that join the layers say.
+-- What the theorems that join the layers say. Read in this order.
 pub mod Demand3
+pub mod CausalFaults
+pub mod Promises

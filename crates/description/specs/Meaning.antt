@@ -4,7 +4,7 @@
 use mathlib.Core.Path.{_≡_}
 use mathlib.Core.Bool.{Bool, true, false, not, cond, _&&_}
 use mathlib.Core.List.{List, [], _∷_}
-use Prim.Native.Nat.{ℕ, suc, _+_, _-_, _*_, _/_, _%_, _<_, _≤_}
+use Prim.Native.Nat.{ℕ, suc, _+_, _-_, _*_, _/_, _%_, _<_}
 use lib.Dec.{eqb, ltb}
 use lib.ListN.{getD}
 use Rattle.search.specs.Search.{all, Each}
@@ -76,7 +76,7 @@ stateAt n m vs t f = eqb (getD vs (fluentAtom n m t f) 0) 1
 abbrev pub actionAt : ℕ → ℕ → List ℕ → ℕ → Interpretation
 actionAt n m vs t k = eqb (getD vs (actionAtom n m t k) 0) 1
 
--- the whole history is a path of T causally explained transitions
+-- a path of T steps starts in a state that satisfies every static law, and each of its steps is explained
 pub record Path (n m T : ℕ) (ls : List Law) (vs : List ℕ) : Type 0 where
-  pub states : (t : ℕ) → t ≤ T → State ls (stateAt n m vs t)
+  pub start : State ls (stateAt n m vs 0)
   pub steps : (t : ℕ) → t < T → Explained n ls (stateAt n m vs t) (actionAt n m vs t) (stateAt n m vs (suc t))

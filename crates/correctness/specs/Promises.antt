@@ -1,0 +1,36 @@
+-- Demand 3 as a function open to callers promises it of its own answer, or of the table that it leaves: for an accepted
+-- description and a set with one value for each atom, passes (or path) exactly if the set is a path.
+-- Assumes nothing.
+use mathlib.Core.Path.{_≡_}
+use mathlib.Core.Logic.{_↔_}
+use mathlib.Core.List.{List}
+use Prim.Native.Nat.{ℕ, _≤_}
+use lib.ListN.{length, take}
+use Rattle.search.specs.Replies.{answered}
+use Rattle.answer_sets.specs.Verdicts.{passes}
+use Rattle.answer_sets.specs.Answers as engine
+use Rattle.description.specs.declared.Law.{Law}
+use Rattle.description.specs.declared.Description.{Description}
+use Rattle.translation.specs.Translated.{tableFor}
+use Rattle.history.specs.declared.Checked.{Checked}
+use Rattle.history.specs.Checks as history
+use Rattle.causal.specs.declared.Reading.{Reading}
+use Rattle.causal.specs.Verdicts.{path}
+use Rattle.causal.specs.Readings as causal
+use Rattle.correctness.specs.Demand3.{Complete, PathOf}
+
+-- of a translation that found the old table and left the new one: the engine passes a set on the words in front exactly if it
+-- is a path; for a table that was long enough, else the refusal is 9
+unfoldable pub TranslatesExactly : Description → List Law → ℕ → List ℕ → List ℕ → Type 0
+TranslatesExactly d ls lent old new =
+    (vs : List ℕ) → Complete d ls lent vs → length (tableFor d ls) ≤ length old
+    → engine.answer vs (take (length (tableFor d ls)) new) ≡ answered passes ↔ PathOf d ls vs
+
+-- of a history check's answer: for a table that is long enough; else the refusal is 9
+unfoldable pub PassesExactly : Description → List Law → ℕ → List ℕ → ℕ → Checked → Type 0
+PassesExactly d ls lent vs room r =
+    Complete d ls lent vs → length (tableFor d ls) ≤ room → history.replyOf r ≡ answered (history.judged passes) ↔ PathOf d ls vs
+
+-- of a causal reading's answer
+unfoldable pub PathExactly : Description → List Law → ℕ → List ℕ → Reading → Type 0
+PathExactly d ls lent vs r = Complete d ls lent vs → causal.replyOf r ≡ answered path ↔ PathOf d ls vs
