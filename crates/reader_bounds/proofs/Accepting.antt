@@ -132,7 +132,7 @@ dynamic-fits n N h ifs afters head e f =
         le-leb (length ifs) 6 (e .few),
         below-told (2 * n) ifs (e .below),
         le-leb (length afters) 6 (f .few),
-        below-told (2 * (n + m)) afters (below-more (2 * N) (2 * (n + m)) (omega arith) afters (f .below))
+        below-told (2 * (n + m)) afters (below-more (2 * N) (2 * (n + m)) (omega arith) afters (f .below)),
       );
     }
 
@@ -350,7 +350,7 @@ module _ (lent : ℕ) (d : Draft) (g : Limited (min 64 lent) lawDue d) (k : Kept
         le-leb (d .fluents) 24 (g .few),
         le-leb (length (d .names) - d .fluents) 8 (omega (arith, g .actions)),
         le-leb (length (d .laws)) 64 (omega (arith, g .room)),
-        le-leb (length (d .laws)) room h
+        le-leb (length (d .laws)) room h,
       )
 
   laws-fit : Each (λ l. not (lawFits (d .fluents) (length (d .names) - d .fluents) l) ≡ false) (d .laws)

@@ -1,2 +1,3 @@
--- What is promised of every description and every history that the readers take.
+-- What holds of every description and of every history that the readers take.
 pub mod Accepts
+pub mod Records
