@@ -1,13 +1,9 @@
--- Worked example of the readers: 01's full recipe as text.
+-- Example texts: 01's full recipe with its histories M1 to M5, and small texts for single rules of the format.
 -- Assumes nothing.
 use mathlib.Core.List.{List, [], _∷_, _++_}
 use Prim.Native.Nat.{ℕ}
-use Rattle.description.specs.declared.Head.the-variants.{Lit, False}
-use Rattle.description.specs.declared.Kind.the-variants.{Dynamic}
-use Rattle.description.specs.declared.Law.{Law}
-use Rattle.description_reader.specs.LineSteps.{Draft}
-use Rattle.description.specs.Laws.{lawOf}
 
+-- 01's full recipe: the description
 abbrev pub recipeText : List ℕ
 recipeText =
     -- horizon=1
@@ -57,6 +53,7 @@ recipeText =
     -- end=
     ++ (101 ∷ 110 ∷ 100 ∷ 61 ∷ 10 ∷ [])
 
+-- and its history
 abbrev pub historyText : List ℕ
 historyText =
     -- state=-locked,-flowed
@@ -68,31 +65,58 @@ historyText =
     -- end=
     ++ (101 ∷ 110 ∷ 100 ∷ 61 ∷ 10 ∷ [])
 
--- locked, flowed
-abbrev pub recipeFluents : List (List ℕ)
-recipeFluents = (108 ∷ 111 ∷ 99 ∷ 107 ∷ 101 ∷ 100 ∷ []) ∷ (102 ∷ 108 ∷ 111 ∷ 119 ∷ 101 ∷ 100 ∷ []) ∷ []
+-- the other histories of it, M1 to M5
+abbrev pub m1Text : List ℕ
+m1Text =
+    -- state=locked,-flowed
+    (115 ∷ 116 ∷ 97 ∷ 116 ∷ 101 ∷ 61 ∷ 108 ∷ 111 ∷ 99 ∷ 107 ∷ 101 ∷ 100 ∷ 44 ∷ 45 ∷ 102 ∷ 108 ∷ 111 ∷ 119 ∷ 101 ∷ 100 ∷ 10 ∷ [])
+    -- act=reflow
+    ++ (97 ∷ 99 ∷ 116 ∷ 61 ∷ 114 ∷ 101 ∷ 102 ∷ 108 ∷ 111 ∷ 119 ∷ 10 ∷ [])
+    -- state=locked,flowed
+    ++ (115 ∷ 116 ∷ 97 ∷ 116 ∷ 101 ∷ 61 ∷ 108 ∷ 111 ∷ 99 ∷ 107 ∷ 101 ∷ 100 ∷ 44 ∷ 102 ∷ 108 ∷ 111 ∷ 119 ∷ 101 ∷ 100 ∷ 10 ∷ [])
+    -- end=
+    ++ (101 ∷ 110 ∷ 100 ∷ 61 ∷ 10 ∷ [])
 
--- reflow
-abbrev pub recipeActions : List (List ℕ)
-recipeActions = (114 ∷ 101 ∷ 102 ∷ 108 ∷ 111 ∷ 119 ∷ []) ∷ []
+abbrev pub m2Text : List ℕ
+m2Text =
+    -- state=-locked,-flowed
+    (115 ∷ 116 ∷ 97 ∷ 116 ∷ 101 ∷ 61 ∷ 45 ∷ 108 ∷ 111 ∷ 99 ∷ 107 ∷ 101 ∷ 100 ∷ 44 ∷ 45 ∷ 102 ∷ 108 ∷ 111 ∷ 119 ∷ 101 ∷ 100 ∷ 10 ∷ [])
+    -- act=-reflow
+    ++ (97 ∷ 99 ∷ 116 ∷ 61 ∷ 45 ∷ 114 ∷ 101 ∷ 102 ∷ 108 ∷ 111 ∷ 119 ∷ 10 ∷ [])
+    -- state=-locked,flowed
+    ++ (115 ∷ 116 ∷ 97 ∷ 116 ∷ 101 ∷ 61 ∷ 45 ∷ 108 ∷ 111 ∷ 99 ∷ 107 ∷ 101 ∷ 100 ∷ 44 ∷ 102 ∷ 108 ∷ 111 ∷ 119 ∷ 101 ∷ 100 ∷ 10 ∷ [])
+    -- end=
+    ++ (101 ∷ 110 ∷ 100 ∷ 61 ∷ 10 ∷ [])
 
--- locked has codes 0 and 1, flowed 2 and 3, reflow 4 and 5
-abbrev pub recipeLaws : List Law
-recipeLaws =
-    lawOf Dynamic (Lit 2) [] (4 ∷ [])
-    ∷ lawOf Dynamic False [] (4 ∷ 0 ∷ [])
-    ∷ lawOf Dynamic (Lit 0) (0 ∷ []) (0 ∷ [])
-    ∷ lawOf Dynamic (Lit 1) (1 ∷ []) (1 ∷ [])
-    ∷ lawOf Dynamic (Lit 2) (2 ∷ []) (2 ∷ [])
-    ∷ lawOf Dynamic (Lit 3) (3 ∷ []) (3 ∷ [])
-    ∷ []
+abbrev pub m3Text : List ℕ
+m3Text =
+    -- state=locked,-flowed
+    (115 ∷ 116 ∷ 97 ∷ 116 ∷ 101 ∷ 61 ∷ 108 ∷ 111 ∷ 99 ∷ 107 ∷ 101 ∷ 100 ∷ 44 ∷ 45 ∷ 102 ∷ 108 ∷ 111 ∷ 119 ∷ 101 ∷ 100 ∷ 10 ∷ [])
+    -- act=-reflow
+    ++ (97 ∷ 99 ∷ 116 ∷ 61 ∷ 45 ∷ 114 ∷ 101 ∷ 102 ∷ 108 ∷ 111 ∷ 119 ∷ 10 ∷ [])
+    -- state=-locked,-flowed
+    ++ (115 ∷ 116 ∷ 97 ∷ 116 ∷ 101 ∷ 61 ∷ 45 ∷ 108 ∷ 111 ∷ 99 ∷ 107 ∷ 101 ∷ 100 ∷ 44 ∷ 45 ∷ 102 ∷ 108 ∷ 111 ∷ 119 ∷ 101 ∷ 100 ∷ 10 ∷ [])
+    -- end=
+    ++ (101 ∷ 110 ∷ 100 ∷ 61 ∷ 10 ∷ [])
 
--- what the reader is left with
-abbrev pub recipeDraft : Draft
-recipeDraft =
-    record {
-      horizon = 1;
-      fluents = 2;
-      names = recipeFluents ++ recipeActions;
-      laws = recipeLaws;
-    }
+abbrev pub m4Text : List ℕ
+m4Text =
+    -- state=-locked
+    (115 ∷ 116 ∷ 97 ∷ 116 ∷ 101 ∷ 61 ∷ 45 ∷ 108 ∷ 111 ∷ 99 ∷ 107 ∷ 101 ∷ 100 ∷ 10 ∷ [])
+    -- act=reflow
+    ++ (97 ∷ 99 ∷ 116 ∷ 61 ∷ 114 ∷ 101 ∷ 102 ∷ 108 ∷ 111 ∷ 119 ∷ 10 ∷ [])
+    -- state=-locked,flowed
+    ++ (115 ∷ 116 ∷ 97 ∷ 116 ∷ 101 ∷ 61 ∷ 45 ∷ 108 ∷ 111 ∷ 99 ∷ 107 ∷ 101 ∷ 100 ∷ 44 ∷ 102 ∷ 108 ∷ 111 ∷ 119 ∷ 101 ∷ 100 ∷ 10 ∷ [])
+    -- end=
+    ++ (101 ∷ 110 ∷ 100 ∷ 61 ∷ 10 ∷ [])
+
+abbrev pub m5Text : List ℕ
+m5Text =
+    -- state=-locked,locked,-flowed
+    (115 ∷ 116 ∷ 97 ∷ 116 ∷ 101 ∷ 61 ∷ 45 ∷ 108 ∷ 111 ∷ 99 ∷ 107 ∷ 101 ∷ 100 ∷ 44 ∷ 108 ∷ 111 ∷ 99 ∷ 107 ∷ 101 ∷ 100 ∷ 44 ∷ 45 ∷ 102 ∷ 108 ∷ 111 ∷ 119 ∷ 101 ∷ 100 ∷ 10 ∷ [])
+    -- act=reflow
+    ++ (97 ∷ 99 ∷ 116 ∷ 61 ∷ 114 ∷ 101 ∷ 102 ∷ 108 ∷ 111 ∷ 119 ∷ 10 ∷ [])
+    -- state=-locked,flowed
+    ++ (115 ∷ 116 ∷ 97 ∷ 116 ∷ 101 ∷ 61 ∷ 45 ∷ 108 ∷ 111 ∷ 99 ∷ 107 ∷ 101 ∷ 100 ∷ 44 ∷ 102 ∷ 108 ∷ 111 ∷ 119 ∷ 101 ∷ 100 ∷ 10 ∷ [])
+    -- end=
+    ++ (101 ∷ 110 ∷ 100 ∷ 61 ∷ 10 ∷ [])
