@@ -2,8 +2,7 @@
 -- round trip.
 -- Assumes nothing.
 use mathlib.Core.Path.{_≡_, refl}
-use mathlib.Core.List.{List, [], _∷_, _++_}
-use Prim.Native.Nat.{ℕ}
+use mathlib.Core.List.{[], _∷_, _++_}
 use native.Mathlib.Omega.{arith}
 use Rattle.search.specs.Replies.{answered}
 use Rattle.text.specs.Bytes.{cut}
