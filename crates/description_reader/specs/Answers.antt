@@ -1,13 +1,12 @@
 -- What the description reader answers, and the records that it leaves in a run of law records.
 -- Assumes nothing.
-use mathlib.Core.List.{List, [], _++_}
+use mathlib.Core.List.{List, _++_}
 use Prim.Native.Nat.{ℕ, _-_}
 use lib.ListN.{length, drop}
 use Rattle.search.specs.Replies.{Reply, refused, answered, leftAfter}
 use Rattle.description.specs.declared.Law.{Law}
 use Rattle.description.specs.declared.Description.{Description}
-use Rattle.description_reader.specs.LineSteps.{Draft}
-use Rattle.description_reader.specs.Descriptions.{Taken, read, described, descriptionOf}
+use Rattle.description_reader.specs.Descriptions.{Taken, read, descriptionOf}
 use Rattle.description_reader.specs.declared.Answer.{Answer}
 use Rattle.description_reader.specs.declared.Answer.the-variants.{Refused, Read}
 

@@ -1,10 +1,10 @@
 -- The name shown to an editor for a fluent's or an action's number.
 -- Assumes nothing.
-use mathlib.Core.Bool.{Bool, true, false, cond}
+use mathlib.Core.Bool.{cond}
 use mathlib.Core.List.{List, []}
 use Prim.Native.Nat.{ℕ, _+_}
 use lib.Dec.{ltb}
-use lib.ListN.{length, getD}
+use lib.ListN.{getD}
 use Rattle.description_reader.specs.LineSteps.{Draft}
 use Rattle.search.specs.Replies.{Reply, refused, answered}
 use Rattle.description_reader.specs.Descriptions.{Taken, read, described}

@@ -2,7 +2,7 @@
 -- Assumes nothing.
 use mathlib.Core.Path.{_≡_, refl}
 use mathlib.Core.Bool.{true}
-use mathlib.Core.List.{List, [], _∷_, _++_}
+use mathlib.Core.List.{List, [], _++_}
 use Prim.Native.Nat.{ℕ, _+_, _*_, _≤_}
 use native.Mathlib.Omega.{arith}
 use lib.ListN.{length, length-take, length-append}
@@ -13,12 +13,11 @@ use Rattle.description.specs.declared.Head.{Head}
 use Rattle.description.specs.declared.Kind.{Kind}
 use Rattle.description.specs.declared.Kind.the-variants.{Static, Dynamic}
 use Rattle.description.specs.declared.Law.{Law}
-use Rattle.description.specs.Laws.{ifList, afterList}
+use Rattle.description.specs.Laws.{ifList}
 use Rattle.description.specs.Acceptance.{lawFits}
 use Rattle.description.proofs.Laws.{fits-if, fits-after}
 use Rattle.description.proofs.Fits.{CodesBelow, HeadBelow, AfterBelow, law-fits}
-use Rattle.description_reader.specs.LineSteps.{Draft}
-use Rattle.description.specs.Laws.{noLaw, lawOf}
+use Rattle.description.specs.Laws.{lawOf}
 use Rattle.reader_bounds.specs.Accepts.{aftersOf, Tidy}
 use Rattle.written_form.specs.Writable.{Writable}
 

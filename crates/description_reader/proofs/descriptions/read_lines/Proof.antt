@@ -154,8 +154,8 @@ made : (c : tie.After-line-step Inv-loop μ-loop Inv-lines μ-lines) → let h =
 made c =
     let h = c .before .before in
     let cs = lists.codes (take (h .loop .gathered .count) (h .loop .gathered .codes)) in
-    c .line-step .ensures .0
-    ∙ ap (λ s. stepWith (lent-at h) (dueAt s) (draftOf (text-at h) (s .reading)) (line-at h .key) (list-at h) cs) (h .loop .inv .0)
+    _∙_ {b = stepWith (lent-at h) (dueAt (h .loop .state)) (draftOf (text-at h) (h .loop .state .reading)) (line-at h .key) (list-at h) cs} (c .line-step .ensures .0)
+    (ap (λ s. stepWith (lent-at h) (dueAt s) (draftOf (text-at h) (s .reading)) (line-at h .key) (list-at h) cs) (h .loop .inv .0))
 
 read-list : (c : tie.After-line-step Inv-loop μ-loop Inv-lines μ-lines) → let h = c .before .before in
     lists.codes (take (h .loop .gathered .count) (h .loop .gathered .codes)) ≡ listHere (text-at h) (state-at h) (line-at h)

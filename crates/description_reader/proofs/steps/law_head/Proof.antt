@@ -3,10 +3,12 @@
 use native.Mathlib.Omega.{arith}
 use mathlib.Core.Path.{_≡_}
 use mathlib.Core.Bool.{true}
-use Prim.Native.Nat.{min}
+use mathlib.Core.Option.{Option}
+use Prim.Native.Nat.{ℕ, min}
 use borrow.Author.Tests.{lt-ltb, le-ltb}
 use lib.Dec.{ltb}
 use Rattle.search.proofs.Loops.{at-place, no-place}
+use Rattle.text.specs.Names.{literal}
 use Rattle.text.specs.Internal.{spelled}
 use Rattle.text.proofs.Spelling.{literal-small}
 use Rattle.description_reader.specs.LineSteps.{headOf}
@@ -40,24 +42,28 @@ enum-known-code c = search needs
 enum-told : tie.Need-enum-told
 enum-told c = search needs
 
+-- what the definition says of the head
+abbrev literal-at : tie.After-literal → Option ℕ
+literal-at l = let a = l .before .before .before .before .before .before .before .args in literal (spelled (a .text .now) (a .names)) 0 (a .fluents) (a .value .now)
+
 returns-4 : tie.Need-returns-4
 unfolding headOf
 returns-4 c =
     let l = c .before .before in
-    (λ d kind. rw (place (l .before .before .before), ← l .before .before .is-false .ensures, l .before .if3 .left, no-place (l .literal .ensures) (c .enum-told .given .1)), omega arith)
+    (λ d kind. rw (place (l .before .before .before), ← l .before .before .is-false .ensures, l .before .if3 .left, no-place {found = literal-at l} (l .literal .ensures) (c .enum-told .given .1)), omega arith)
 
 cast-t12 : tie.Need-cast-t12
 cast-t12 c =
     let l = c .before .before .before in
     let a = l .before .before .before .before .before .before .before in
     let small = literal-small (spelled (a .args .text .now) (a .args .names)) 0 (a .args .fluents) (a .args .value .now) (omega arith) in
-    omega (arith, rw (at-place (l .literal .ensures) (c .before .code .given .1)) at small)
+    omega (arith, rw (at-place {found = literal-at l} (l .literal .ensures) (c .before .code .given .1)) at small)
 
 returns-5 : tie.Need-returns-5
 unfolding headOf
 returns-5 c =
     let l = c .before .before .before in (
-      λ d kind. rw (place (l .before .before .before), ← l .before .before .is-false .ensures, l .before .if3 .left, at-place (l .literal .ensures) (c .before .code .given .1)),
+      λ d kind. rw (place (l .before .before .before), ← l .before .before .is-false .ensures, l .before .if3 .left, at-place {found = literal-at l} (l .literal .ensures) (c .before .code .given .1)),
       l .before .before .before .before .if1 .left,
     )
 

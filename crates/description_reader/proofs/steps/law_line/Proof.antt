@@ -2,7 +2,7 @@
 -- Assumes nothing.
 use mathlib.Core.Path.{_≡_, sym, _∙_, ap}
 use Rattle.description_reader.specs.LineSteps.{lawLine}
-use Rattle.description_reader.specs.Internal.{draftOf, begunWith, HeadFits, stepOf}
+use Rattle.description_reader.specs.Internal.{draftOf, begunWith, stepOf}
 use Rattle.description_reader.proofs.Stepping.{counted, sound-64}
 use borrow.Author.Needs.{needs}
 use Rattle.description_reader.proofs.steps.law_line.Statement.{statement}

@@ -3,9 +3,11 @@
 use mathlib.Core.Path.{_≡_, sym, _∙_}
 use mathlib.Core.Bool.{true}
 use Prim.Native.Nat.{_<_}
+use lib.ListN.{take}
+use Rattle.text.specs.Lists.{codes}
 use borrow.Author.Tests.{eq-eqb, ne-eqb, not-true, not-false}
-use Rattle.description_reader.specs.LineSteps.{allowed, lawIn}
-use Rattle.description_reader.specs.Internal.{dueAt, stepWith}
+use Rattle.description_reader.specs.LineSteps.{allowed, lawIn, byKey}
+use Rattle.description_reader.specs.Internal.{dueAt, draftOf, stepWith}
 use Rattle.description_reader.proofs.Stepping.{if-begun, after-begun, step-other}
 use borrow.Author.Needs.{needs}
 use Rattle.description_reader.proofs.steps.line_step.Statement.{statement}
@@ -61,7 +63,11 @@ returns-4 : tie.Need-returns-4
 returns-4 c =
     let h = c .before .before .before in
     let a = h .before .before .before .before .args in
-    (c .other-line .ensures .0 ∙ step-other _ (dueAt (a .state)) _ (a .key) _ _ (may h) (c .before .before .if2 .left) (c .before .if3 .left), c .other-line .ensures .1)
+    let d = draftOf (a .text .now) (a .state .reading) in (
+      _∙_ {b = byKey (a .lent) (dueAt (a .state)) d (a .key) (a .value .now)} (c .other-line .ensures .0)
+          (step-other (a .lent) (dueAt (a .state)) d (a .key) (a .value .now) (codes (take (a .list .count) (a .list .codes))) (may h) (c .before .before .if2 .left) (c .before .if3 .left)),
+      c .other-line .ensures .1,
+    )
 
 pub line-step-spec : {M : Type 1} → statement M
 line-step-spec =

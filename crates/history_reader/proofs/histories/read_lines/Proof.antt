@@ -5,10 +5,12 @@ use borrow.Author.Needs.{needs}
 use native.Mathlib.Omega.{arith}
 use mathlib.Core.Path.{_≡_, refl, sym, _∙_, ap}
 use mathlib.Core.List.{List}
+use mathlib.Core.Option.{Option}
 use Prim.Native.Nat.{ℕ, suc, _+_, _-_, _*_, _/_, _≤_}
 use native.Mathlib.Numerals.{add-one}
 use lib.ListN.{length, take, drop, replicate, length-take, length-drop}
 use Rattle.search.proofs.Loops.{at-place, no-place}
+use Rattle.text.specs.Names.{literal}
 use Rattle.text.specs.declared.lines.LineAt.{LineAt}
 use Rattle.history_reader.specs.declared.histories.Wanted.{Wanted}
 use Rattle.history_reader.specs.Histories.{statesFrom}
@@ -107,6 +109,12 @@ short h =
     let text = entry (start-at h) .args .text .now in
     omega (arith, entry (start-at h) .pre .0, length-take (line-at h .to - line-at h .from) (drop (line-at h .from) text), length-drop (line-at h .from) text)
 
+-- what the definition says of the item
+abbrev item-at : tie.At-loop Inv-loop μ-loop Inv-lines μ-lines → Option ℕ
+item-at h =
+    let a = entry (start-at h) .args in
+    literal (spelled (a .description .now) (a .reading .names)) (due-at h .low) (due-at h .high) (itemAt (list-at h) (h .loop .i))
+
 next-item-requires : tie.Need-next-item-requires Inv-loop μ-loop Inv-lines μ-lines
 next-item-requires c κs = tt
 
@@ -125,7 +133,7 @@ with-code-requires c κs =
     let t : (n .lines .line - 1) / 2 ≤ 30 = omega (arith, p .time, h .before .before .before .before .before .before .before .before .lines-test .taken) in
     let b = base-bound (entry n .args .reading .names .count) (n .lines .line) 30 t (omega (arith, p .few, p .actions)) in
     let small = literal-small (spelled (entry n .args .description .now) (entry n .args .reading .names)) (due-at h .low) (due-at h .high) (itemAt (list-at h) (h .loop .i)) (high h) in
-    (rw (h .before .before .before .before .before .before .line-due .ensures) (omega (arith, b)), rw (at-place (i .next-item .ensures .0) (c .before .code .given .1)) at small)
+    (rw (h .before .before .before .before .before .before .line-due .ensures) (omega (arith, b)), rw (at-place {found = item-at h} (i .next-item .ensures .0) (c .before .code .given .1)) at small)
 
 loop-less : tie.Need-loop-less Inv-loop μ-loop Inv-lines μ-lines
 loop-less c =
@@ -140,7 +148,7 @@ loop-again c =
     let t = i .before .loop-test .taken in (
       h .loop .inv .0,
       omega (arith, i .next-item .ensures .1, next-later (list-at h) (h .loop .i) t),
-      marked-one _ _ (list-at h) _ (h .loop .i) _ (h .loop .values) (h .loop .inv .2) t (short h) _ _ (at-place (i .next-item .ensures .0) (c .before .before .code .given .1)) (i .next-item .ensures .1) _ (c .with-code .ensures),
+      marked-one _ _ (list-at h) _ (h .loop .i) _ (h .loop .values) (h .loop .inv .2) t (short h) _ _ (at-place {found = item-at h} (i .next-item .ensures .0) (c .before .before .code .given .1)) (i .next-item .ensures .1) _ (c .with-code .ensures),
     )
 
 -- the lines left at the start of the line, one of them this one
@@ -215,7 +223,7 @@ returns-3 c =
     let t = l .before .lines-test .taken in (
       λ k few. sym (line-refused (a .description .now) (a .text .now) (a .reading) (2 * a .reading .horizon + 1 + 1 - suc (n .lines .line)) (n .lines .line) (n .lines .at) (n .lines .values) (line-at h) (l .line-at .ensures .0) (due-at h)
           (h .before .before .before .before .before .before .line-due .ensures) (h .before .before .before .if1 .left) _ (h .loop .i) (h .loop .values) (h .before .first-place .ensures) (h .loop .inv .2)
-          (i .before .loop-test .taken) (short h) (no-place (i .next-item .ensures .0) (c .enum-told .given .1)) k)
+          (i .before .loop-test .taken) (short h) (no-place {found = item-at h} (i .next-item .ensures .0) (c .enum-told .given .1)) k)
           ∙ one-left n t k few,
       record { within = n .lines .inv .3; few = omega (arith, t, entry n .pre .1 .time) },
     )
