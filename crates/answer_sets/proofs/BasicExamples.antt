@@ -50,6 +50,28 @@ one-sided k cs h a t f = omega (arith, codes-each (λ c. c % 2 ≡ k) cs h (2 * 
 within : (cs : List ℕ) (Y : Lits) → Each (λ c. Y c ≡ true) cs → Subset (codes cs) Y
 within cs Y h c e = codes-each (λ d. Y d ≡ true) cs h c e
 
+-- each reason rules a set out
+ruled-out : (why : Reason) (Π : List Rule) (X : Lits) → Shown why Π X → Shown why Π X × (AnswerSet Π X → ⊥)
+ruled-out inconsistent Π X s = (s, λ h. s (h .consistent))
+ruled-out unclosed Π X s = (s, λ h. s (h .closed))
+ruled-out (smaller cs) Π X s = (s, λ h. h .minimal (codes cs) (s .0) (s .1))
+
+-- the listed literals are in X, and X has one more
+lacks : (cs : List ℕ) (X : Lits) (c : ℕ) → Each (λ d. X d ≡ true) cs → X c ≡ true → codes cs c ≡ false → ProperSubset (codes cs) X
+lacks cs X c h x y = (within cs X h, (c, x, y))
+
+other-sets : Each IsOther otherSets
+other-sets =
+    ruled-out (smaller []) _ _ (lacks [] _ p tt refl refl, tt)
+    & ruled-out (smaller []) _ _ (lacks [] _ p tt refl refl, (λ w. w .0, tt))
+    & ruled-out (smaller (p ∷ [])) _ _ (lacks (p ∷ []) _ q (refl, tt) refl refl, (λ w. refl, (λ w. w .0, tt)))
+    & ruled-out unclosed _ _ (λ h. not-both (h .1 .0 (refl, tt)) refl)
+    & ruled-out unclosed _ _ (λ h. h .1 .0 (refl, tt))
+    & ruled-out unclosed _ _ (λ h. not-both (h .0 tt) refl)
+    & ruled-out (smaller []) _ _ (lacks [] _ p tt refl refl, tt)
+    & ruled-out inconsistent _ _ (λ h. h 0 refl refl)
+    & tt
+
 -- a set with every listed literal is no proper subset
 not-smaller : (cs : List ℕ) (Y : Lits) → ProperSubset Y (codes cs) → Each (λ c. Y c ≡ true) cs → ⊥
 not-smaller cs Y (sub, (c, x, y)) h = not-both (within cs Y h c x) y
@@ -72,28 +94,6 @@ listed-sets =
     & answer-set 0 (p ∷ []) _ (refl, tt) (λ w. refl, tt) (λ Y h. (h .0 tt, tt))
     & answer-set 0 (p ∷ []) _ (refl, tt) (λ w. refl, tt) (λ Y h. (h .0 tt, tt))
     & answer-set 1 (¬p ∷ []) _ (refl, tt) (λ w. refl, tt) (λ Y h. (h .0 tt, tt))
-    & tt
-
--- each reason rules a set out
-ruled-out : (why : Reason) (Π : List Rule) (X : Lits) → Shown why Π X → Shown why Π X × (AnswerSet Π X → ⊥)
-ruled-out inconsistent Π X s = (s, λ h. s (h .consistent))
-ruled-out unclosed Π X s = (s, λ h. s (h .closed))
-ruled-out (smaller cs) Π X s = (s, λ h. h .minimal (codes cs) (s .0) (s .1))
-
--- the listed literals are in X, and X has one more
-lacks : (cs : List ℕ) (X : Lits) (c : ℕ) → Each (λ d. X d ≡ true) cs → X c ≡ true → codes cs c ≡ false → ProperSubset (codes cs) X
-lacks cs X c h x y = (within cs X h, (c, x, y))
-
-other-sets : Each IsOther otherSets
-other-sets =
-    ruled-out (smaller []) _ _ (lacks [] _ p tt refl refl, tt)
-    & ruled-out (smaller []) _ _ (lacks [] _ p tt refl refl, (λ w. w .0, tt))
-    & ruled-out (smaller (p ∷ [])) _ _ (lacks (p ∷ []) _ q (refl, tt) refl refl, (λ w. refl, (λ w. w .0, tt)))
-    & ruled-out unclosed _ _ (λ h. not-both (h .1 .0 (refl, tt)) refl)
-    & ruled-out unclosed _ _ (λ h. h .1 .0 (refl, tt))
-    & ruled-out unclosed _ _ (λ h. not-both (h .0 tt) refl)
-    & ruled-out (smaller []) _ _ (lacks [] _ p tt refl refl, tt)
-    & ruled-out inconsistent _ _ (λ h. h 0 refl refl)
     & tt
 
 -- the set with p and q alone
