@@ -3,7 +3,7 @@
 use mathlib.Core.Path.{_≡_, refl}
 use mathlib.Core.Logic.{_↔_, Iff·trans, Iff·and}
 use mathlib.Core.Bool.{true, false, not}
-use mathlib.Core.List.{List, []}
+use mathlib.Core.List.{List}
 use mathlib.Core.Option.{Option, none, some}
 use Prim.Native.Nat.{ℕ, _+_, _*_}
 use lib.ListN.{length, getD}
@@ -11,26 +11,13 @@ use Rattle.search.specs.Search.{first, range, Lowest, Nowhere}
 use Rattle.search.specs.Replies.{orElse}
 use Rattle.answer_sets.specs.Literals.{Lits}
 use Rattle.answer_sets.specs.Rules.{Head, lit, falsum, Rule}
-use Rattle.answer_sets.specs.AnswerSets.{meets, reduct, Within, HeadIn, literalHeaded, IsLeastClosed}
+use Rattle.answer_sets.specs.AnswerSets.{reduct, HeadIn, literalHeaded, IsLeastClosed}
 use Rattle.answer_sets.specs.Verdicts.{Verdict, clash, broken, unfounded, passes, applies, headIn, rounds, bothValues, isBroken, isUnfounded, verdict}
+use Rattle.answer_sets.specs.Demand2.{Clashing, BrokenRule, BrokenAt, Unfounded, noRule}
 use Rattle.search.proofs.Tests.{not-both, false-of-not, and-iff, not-iff, iff-and₃, first-lowest, first-nowhere, range-lowest, range-nowhere}
 use Rattle.answer_sets.proofs.Least.{HeadsBelow, applies-iff, least-closed}
 
--- What the faults are
-
--- atom a has both values
-abbrev pub Clashing : Lits → ℕ → Type 0
-Clashing X a = (X (2 * a) ≡ true) × (X (2 * a + 1) ≡ true)
-
--- no negated part is in X, every plain part is, and the head is not
-abbrev pub BrokenRule : Lits → Rule → Type 0
-BrokenRule X r = (meets (r .negated) X ≡ false) × Within (r .plain) X × (HeadIn (r .head) X → ⊥)
-
--- c is in X, and not in the least set closed under the reduct's rules with literal heads
-abbrev pub Unfounded : List Rule → Lits → ℕ → Type 0
-Unfounded Π X c = (X c ≡ true) × ((L : Lits) → IsLeastClosed (literalHeaded (reduct Π X)) L → L c ≡ false)
-
--- their tests
+-- The faults' tests
 
 clashing-iff : (X : Lits) (a : ℕ) → bothValues X a ≡ true ↔ Clashing X a
 clashing-iff X a = and-iff (X (2 * a)) (X (2 * a + 1))
@@ -51,9 +38,8 @@ brokenRule-iff X r = (
 unfoundedCode-iff : (n : ℕ) (Π : List Rule) (X : Lits) → HeadsBelow (2 * n) Π → (c : ℕ)
     → isUnfounded X (rounds (2 * n) Π X) c ≡ true ↔ Unfounded Π X c
 unfoundedCode-iff n Π X low c = (
-  λ e. let (x, f) = both .0 e in
-      (x, λ L is. false-of-not (L c) (λ t. not-both (is .least R (reached .closed) c t) (not-iff (R c) .0 f))),
-  λ u. both .1 (u .0, not-iff (R c) .1 (u .1 R reached)),
+  λ e. let (x, f) = both .0 e in (x, (R, reached, not-iff (R c) .0 f)),
+  λ (x, (L, is, f)). both .1 (x, not-iff (R c) .1 (false-of-not (R c) (λ t. not-both (reached .least L (is .closed) c t) f))),
 )
   where
     R : Lits
@@ -95,13 +81,6 @@ judge-passes none none (some i) = (λ e. (cc, cc, cc), λ h. cc)
 judge-passes none none none = (λ e. (cc, cc, cc), λ h. cc)
 
 -- The faults of a verdict
-
--- what stands for a rule past the end
-abbrev pub noRule : Rule
-noRule = record { head = falsum; negated = []; plain = [] }
-
-abbrev pub BrokenAt : List Rule → Lits → ℕ → Type 0
-BrokenAt Π X i = BrokenRule X (getD Π i noRule)
 
 module _ (n : ℕ) (Π : List Rule) (X : Lits) where
   abbrev clashes : Option ℕ

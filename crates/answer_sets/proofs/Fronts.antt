@@ -5,10 +5,10 @@ use mathlib.Core.Bool.{Bool, true, false, cond, not, _&&_, _||_, and-false, fals
 use mathlib.Core.List.{List, [], _∷_}
 use mathlib.Core.Option.{Option, none, some}
 use mathlib.Core.Logic.{_⊎_, inl, inr, ⊎-elim}
-use Prim.Native.Nat.{ℕ, zero, suc, _+_, _-_, _*_, _≤_, _<_}
+use Prim.Native.Nat.{ℕ, zero, suc, _+_, _-_, _*_, _/_, _≤_, _<_}
 use native.Mathlib.Numerals.{add-one}
 use native.Mathlib.Omega.{arith}
-use borrow.Author.Tests.{lt-leb, le-leb, not-true, not-false, ltb-true, lt-ltb, le-ltb, eqb-true, eqb-false}
+use borrow.Author.Tests.{lt-leb, le-leb, not-true, not-false, ltb-true, ltb-false, lt-ltb, le-ltb, eqb-true, eqb-false}
 use lib.Dec.{eqb, ltb, leb}
 use lib.ListN.{length, getD, take, drop, set, length-drop, length-set}
 use Rattle.search.specs.Search.{all, first}
@@ -35,6 +35,14 @@ module _ (X Y : Lits) (ws : List ℕ) (r : Bool) (is : r ≡ all (λ c. not (X c
   applies-go q e plain =
       let size : 3 + getD ws 1 0 + getD ws 2 0 - (3 + getD ws 1 0) ≡ getD ws 2 0 = omega arith in
       rw (← negated, not-false r e) (rw size at plain)
+
+-- a code is below 2 × atoms where its atom is below atoms
+pub half-below : (c n : ℕ) → ltb (c / 2) n ≡ ltb c (2 * n)
+half-below c n = go (ltb (c / 2) n) refl
+  where
+    go : (b : Bool) → ltb (c / 2) n ≡ b → b ≡ ltb c (2 * n)
+    go true t = sym (lt-ltb c (2 * n) (omega (arith, ltb-true (c / 2) n t)))
+    go false f = sym (le-ltb c (2 * n) (omega (arith, ltb-false (c / 2) n f)))
 
 -- a rule fits: the tests in the order of the code
 module _ (n : ℕ) (ws : List ℕ) where

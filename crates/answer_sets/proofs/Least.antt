@@ -135,9 +135,6 @@ rounds-within zero Π X Y h c e = absurd (not-both e refl)
 rounds-within (suc k) Π X Y h c e =
     closed-round Π X Y .0 h c (round-subset Π X (rounds k Π X) Y (rounds-within k Π X Y h) c e)
 
-pub rounds-within-reduct : (k : ℕ) (Π : List Rule) (X Y : Lits) → Closed (reduct Π X) Y → Subset (rounds k Π X) Y
-rounds-within-reduct k Π X Y h = rounds-within k Π X Y (closed-literal Π X Y h)
-
 pub rounds-stay : (Π : List Rule) (X : Lits) (k j : ℕ) → rounds (suc k) Π X ≡ rounds k Π X → rounds (k + j) Π X ≡ rounds k Π X
 rounds-stay Π X k zero e = rw add-zero
 rounds-stay Π X k (suc j) e = rw (add-suc k j, rounds-stay Π X k j e) e

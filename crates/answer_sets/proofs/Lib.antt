@@ -9,3 +9,4 @@ pub mod Stores
 pub mod Fronts
 pub mod Judging
 pub mod Examples
+pub mod BasicExamples

@@ -12,9 +12,10 @@ use Rattle.answer_sets.specs.Literals.{Lits}
 use Rattle.answer_sets.specs.Rules.{Head, lit, falsum, Rule}
 use Rattle.answer_sets.specs.AnswerSets.{reduct, HeadIn, Closed, Subset, AnswerSet, literalHeaded, IsLeastClosed}
 use Rattle.answer_sets.specs.Verdicts.{passes, applies, rounds, verdict}
+use Rattle.answer_sets.specs.Demand2.{Clashing, BrokenRule, BrokenAt, Unfounded, noRule}
 use Rattle.search.proofs.Tests.{not-both, false-of-not, true-of-not, each-map₂, each-at}
-use Rattle.answer_sets.proofs.Least.{HeadsBelow, Below, LiteralIn, applies-iff, applies-subset, reduct-closed, literal-closed, closed-literal, rounds-within-reduct, least-closed}
-use Rattle.answer_sets.proofs.FirstFault.{Clashing, BrokenRule, BrokenAt, Unfounded, noRule, faultless-iff}
+use Rattle.answer_sets.proofs.Least.{HeadsBelow, Below, LiteralIn, applies-iff, applies-subset, reduct-closed, literal-closed, closed-literal, least-closed}
+use Rattle.answer_sets.proofs.FirstFault.{faultless-iff}
 
 -- a set is closed exactly where no rule is broken
 
@@ -54,29 +55,27 @@ module _ (n : ℕ) (Π : List Rule) (X : Lits) (heads : HeadsBelow (2 * n) Π) (
   abbrev Faultless : Type 0
   Faultless = Nowhere (Clashing X) n × Nowhere (BrokenAt Π X) (length Π) × Nowhere (Unfounded Π X) (2 * n)
 
+  abbrev L : Lits
+  L = rounds (2 * n) Π X
+
+  least : IsLeastClosed (literalHeaded (reduct Π X)) L
+  least = least-closed n Π X heads
+
   faultless-answer : Faultless → AnswerSet Π X
   faultless-answer h = record {
     consistent = λ a t f. h .0 a (omega (arith, below (2 * a) t)) (t, f);
     closed = closed-iff Π X .1 (h .1);
     minimal = λ Y (sub, (c, x, y)) closed. h .2 c (below c x)
-        (x, λ L least. false-of-not (L c) (λ t. not-both (least .least Y (closed-literal Π X Y closed) c t) y));
+        (x, (L, least, false-of-not (L c) (λ t. not-both (least .least Y (closed-literal Π X Y closed) c t) y)));
   }
 
   answer-faultless : AnswerSet Π X → Faultless
   answer-faultless h = (
     λ a b both. h .consistent a (both .0) (both .1),
     closed-iff Π X .0 (h .closed),
-    λ c b u. h .minimal L (sub, (c, u .0, u .1 L least)) (least-reduct Π X L sub (h .closed) (least .closed)),
+    λ c b (x, (K, is, f)). let sub = is .least X (closed-literal Π X X (h .closed)) in
+        h .minimal K (sub, (c, x, f)) (least-reduct Π X K sub (h .closed) (is .closed)),
   )
-    where
-      L : Lits
-      L = rounds (2 * n) Π X
-
-      least : IsLeastClosed (literalHeaded (reduct Π X)) L
-      least = least-closed n Π X heads
-
-      sub : Subset L X
-      sub = rounds-within-reduct (2 * n) Π X X (h .closed)
 
   pub passes-iff : verdict n Π X ≡ passes ↔ AnswerSet Π X
   passes-iff = Iff·trans (faultless-iff n Π X heads) (faultless-answer, answer-faultless)

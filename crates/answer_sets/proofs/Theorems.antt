@@ -5,28 +5,24 @@ use mathlib.Core.Path.{_≡_, refl}
 use mathlib.Core.Logic.{_↔_, ⊎-elim, Iff·trans}
 use mathlib.Core.Bool.{Bool, true, false, cond}
 use mathlib.Core.List.{List}
-use mathlib.Core.Option.{none}
 use Prim.Native.Nat.{ℕ, _*_, _/_, _%_, _<_}
 use native.Mathlib.Omega.{arith}
 use lib.Dec.{eqb, ltb}
 use lib.ListN.{length, getD, List·getD-eq-default}
 use borrow.Author.Tests.{ltb-true, ltb-false}
 use Rattle.search.specs.Search.{Lowest, Nowhere}
-use Rattle.search.specs.Replies.{answered}
+use Rattle.search.specs.Replies.{Reply, answered}
 use Rattle.answer_sets.specs.Literals.{setOf, holdsTrue, holdsFalse}
 use Rattle.answer_sets.specs.AnswerSets.{reduct, AnswerSet, literalHeaded, IsLeastClosed}
 use Rattle.answer_sets.specs.Verdicts.{Verdict, clash, broken, unfounded, passes, rounds, verdict}
-use Rattle.answer_sets.specs.Words.{rulesOf, badRule}
-use Rattle.answer_sets.specs.Answers.{tooManyValues, badValue, answer}
+use Rattle.answer_sets.specs.Words.{rulesOf}
+use Rattle.answer_sets.specs.Answers.{answer}
+use Rattle.answer_sets.specs.Demand2.{Accepted, Clashing, BrokenAt, Unfounded, Judged, Demand2}
 use Rattle.search.proofs.Tests.{true-or-false, not-both}
 use Rattle.answer_sets.proofs.Least.{HeadsBelow, Below, least-closed}
-use Rattle.answer_sets.proofs.FirstFault.{Clashing, BrokenAt, Unfounded, clash-iff, broken-iff, unfounded-iff}
+use Rattle.answer_sets.proofs.FirstFault.{clash-iff, broken-iff, unfounded-iff}
 use Rattle.answer_sets.proofs.Passes.{passes-iff}
 use Rattle.answer_sets.proofs.Decoding.{accepted-below, codes-heads}
-
--- no refusal holds
-abbrev pub Accepted : List ℕ → List ℕ → Type 0
-Accepted vs ws = (tooManyValues vs ≡ none) × (badValue vs ≡ none) × (badRule (length vs) ws ≡ none)
 
 pub setOf-below : (vs : List ℕ) → Below (2 * length vs) (setOf vs)
 unfolding setOf holdsTrue holdsFalse
@@ -69,3 +65,19 @@ module _ (vs ws : List ℕ) (accepted : Accepted vs ws) where
 
   pub rounds-least : IsLeastClosed (literalHeaded (reduct (rulesOf ws) (setOf vs))) (rounds (2 * length vs) (rulesOf ws) (setOf vs))
   rounds-least = least-closed (length vs) (rulesOf ws) (setOf vs) heads-below
+
+  judged : Judged (length vs) (rulesOf ws) (setOf vs) (answer vs ws)
+  judged = record {
+    clash-exactly = clash-exactly;
+    broken-exactly = broken-exactly;
+    unfounded-exactly = unfounded-exactly;
+    passes-exactly = passes-exactly;
+  }
+
+-- the answer keeps demand 2, and so does whatever equals it
+pub demand-2 : (vs ws : List ℕ) → Demand2 vs ws (answer vs ws)
+unfolding Demand2
+demand-2 vs ws accepted = judged vs ws accepted
+
+pub keeps-demand-2 : (vs ws : List ℕ) {reply : Reply Verdict} → reply ≡ answer vs ws → (reply ≡ answer vs ws) × Demand2 vs ws reply
+keeps-demand-2 vs ws e = (e, rw e (demand-2 vs ws))

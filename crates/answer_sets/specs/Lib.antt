@@ -5,5 +5,7 @@ pub mod AnswerSets
 pub mod Verdicts
 pub mod Words
 pub mod Answers
+pub mod Demand2
 pub mod Examples
+pub mod BasicExamples
 pub mod Internal

@@ -8,6 +8,7 @@ pub mod values;
 use search::Found;
 ghost use mathlib.Core.Path.{_≡_};
 ghost use Rattle.answer_sets.specs.Answers.{replyOf, answer};
+ghost use Rattle.answer_sets.specs.Demand2.{Demand2};
 
 // A refusal's number and place, or the first verdict that holds with the atom, rule or literal code that it names.
 pub enum Answer {
@@ -21,6 +22,7 @@ pub enum Answer {
 // The answer to value bytes, one an atom, and the words of a rule table. Nothing that is lent changes.
 pub fn check_set(values: &[u8], table: &[u16]) -> Answer
     ensures { λ r. ⌜ replyOf r ≡ answer (now (values .entry)) (now (table .entry)) ⌝ }
+    ensures { λ r. ⌜ Demand2 (now (values .entry)) (now (table .entry)) (replyOf r) ⌝ }
 {
     let atoms = values.len();
     if 1024 < atoms {

@@ -2,43 +2,48 @@
 use crate::marks;
 use search::Found;
 ghost use mathlib.Core.Path.{_≡_};
-ghost use mathlib.Core.Bool.{Bool, true, false, _||_};
-ghost use Prim.Native.Nat.{_+_, _*_, _≤_, _<_};
+ghost use Prim.Native.Nat.{_≤_, _<_};
 ghost use lib.ListN.{length, getD};
-ghost use Rattle.search.specs.Search.{all, placeOf};
+ghost use Rattle.search.specs.Search.{placeOf};
 ghost use Rattle.answer_sets.specs.Verdicts.{applies, headIn};
 ghost use Rattle.answer_sets.specs.Words.{ruleSize, ruleAt, ruleFits, headFits, headOf, partsFit, badRule};
 ghost use Rattle.answer_sets.specs.Internal.{marked, derives};
 
+// A word, or 0 past the end.
+fn word(words: &[u16], i: usize) -> usize
+    ensures { λ r. ⌜ (r ≡ getD (now (words .entry)) i 0) × (r < 65536) ⌝ }
+{
+    if i < words.len() {
+        return words[i] as usize;
+    }
+    0
+}
+
 // How many words the rule at the front takes.
 pub(crate) fn rule_size(rest: &[u16]) -> usize
-    requires { ⌜ 3 ≤ length (now rest) ⌝ }
     ensures { λ r. ⌜ r ≡ ruleSize (now (rest .entry)) ⌝ }
 {
-    3 + (rest[1] as usize) + (rest[2] as usize)
+    3 + word(rest, 1) + word(rest, 2)
 }
 
 // Whether a head is false or below 2 times atoms.
 fn head_fits(head: usize, atoms: usize) -> bool
-    requires { ⌜ atoms ≤ 1024 ⌝ }
     ensures { λ r. ⌜ r ≡ headFits atoms head ⌝ }
 {
     if head == 65535 {
         return true;
     }
-    head < 2 * atoms
+    head / 2 < atoms
 }
 
 // Whether each part is below 2 times atoms.
 fn parts_fit(parts: &[u16], atoms: usize) -> bool
-    requires { ⌜ atoms ≤ 1024 ⌝ }
     ensures { λ r. ⌜ r ≡ partsFit atoms (now (parts .entry)) ⌝ }
 {
-    let limit = 2 * atoms;
     let mut i = 0;
     while i < parts.len() {
         let part = parts[i] as usize;
-        if limit <= part {
+        if atoms <= part / 2 {
             return false;
         }
         i += 1;
@@ -48,18 +53,13 @@ fn parts_fit(parts: &[u16], atoms: usize) -> bool
 
 // Whether the rule at the front is whole and has no code of 2 times atoms or more.
 fn rule_fits(rest: &[u16], atoms: usize) -> bool
-    requires { ⌜ atoms ≤ 1024 ⌝ }
     ensures { λ r. ⌜ r ≡ ruleFits atoms (now (rest .entry)) ⌝ }
 {
-    if rest.len() < 3 {
-        return false;
-    }
     let size = rule_size(rest);
     if rest.len() < size {
         return false;
     }
-    let head = rest[0] as usize;
-    if !head_fits(head, atoms) {
+    if !head_fits(word(rest, 0), atoms) {
         return false;
     }
     parts_fit(&rest[3..size], atoms)
@@ -67,7 +67,6 @@ fn rule_fits(rest: &[u16], atoms: usize) -> bool
 
 // The word where the first rule starts that does not fit, or that would be the 4,097th.
 pub(crate) fn bad_rule(table: &[u16], atoms: usize) -> Found
-    requires { ⌜ atoms ≤ 1024 ⌝ }
     ensures { λ r. ⌜ placeOf r ≡ badRule atoms (now (table .entry)) ⌝ }
 {
     let mut rest = table;

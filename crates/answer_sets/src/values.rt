@@ -4,14 +4,14 @@ use search::Found;
 ghost use mathlib.Core.Path.{_≡_};
 ghost use Prim.Native.Nat.{_≤_};
 ghost use lib.ListN.{length};
-ghost use Rattle.search.specs.Search.{placeOf};
+ghost use Rattle.search.specs.Replies.{refusalOf, refusal};
 ghost use Rattle.answer_sets.specs.Answers.{badValue};
 ghost use Rattle.answer_sets.specs.Literals.{setOf, holdsTrue, holdsFalse};
 ghost use Rattle.answer_sets.specs.Internal.{marked};
 
-// The lowest index of a byte over 3.
+// Refusal 11: the lowest index of a byte over 3.
 pub fn bad_value(values: &[u8]) -> Found
-    ensures { λ r. ⌜ placeOf r ≡ badValue (now (values .entry)) ⌝ }
+    ensures { λ r. ⌜ refusalOf 11 r ≡ refusal 11 (badValue (now (values .entry))) ⌝ }
 {
     let mut i = 0;
     while i < values.len() {

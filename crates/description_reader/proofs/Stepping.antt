@@ -57,16 +57,9 @@ after-begun code-due.NewLaw l n e h = absurd (false≢true e)
 after-begun code-due.If l n e h = absurd (false≢true e)
 after-begun code-due.After l n e h = (h, refl)
 
--- the run is full, or has a place
-module _ (ls : List Law) (n lent : ℕ) (held : length ls ≡ 64) where
-  pub full-64 : 64 ≤ n → ltb (length (take n ls)) (min 64 lent) ≡ false
-  full-64 h = le-ltb (length (take n ls)) (min 64 lent) (omega (arith, length-take n ls))
-
-  pub full-lent : n < 64 → lent ≤ n → ltb (length (take n ls)) (min 64 lent) ≡ false
-  full-lent h k = le-ltb (length (take n ls)) (min 64 lent) (omega (arith, length-take n ls))
-
-  pub has-place : n < 64 → n < lent → ltb (length (take n ls)) (min 64 lent) ≡ true
-  has-place h k = lt-ltb (length (take n ls)) (min 64 lent) (omega (arith, length-take n ls))
+-- as many laws as are counted
+pub counted : (ls : List Law) (n : ℕ) → length ls ≡ 64 → n ≤ 64 → length (take n ls) ≡ n
+counted ls n held few = omega (arith, length-take n ls)
 
 pub pushed-follows : (run : Run) (l : Law) (old : List Law) → Follows old run
     → Follows old (record { laws = set (run .laws) (run .count) l; count = run .count + 1 })

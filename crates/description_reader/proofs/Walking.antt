@@ -2,7 +2,7 @@
 -- Assumes nothing.
 use mathlib.Core.Path.{_≡_, refl, sym, _∙_, ap}
 use mathlib.Core.Bool.{Bool, true, false, cond, _&&_, _||_}
-use mathlib.Core.List.{List, []}
+use mathlib.Core.List.{List, [], _∷_}
 use mathlib.Core.Option.{Option, none, some}
 use Prim.Native.Nat.{ℕ, zero, suc, _+_, _-_, _≤_, _<_}
 use native.Mathlib.Omega.{arith}
@@ -286,6 +286,12 @@ module _ (text : List ℕ) (lent : ℕ) (s : State) (at line : ℕ) (l : LineAt)
 
     pub stepped-left : leftAt text lent s at line ≡ Onward text lent at line (stepOf text r) (l .next)
     stepped-left = line-turn text lent s at line l is ∙ ap (λ step. Onward text lent at line step (l .next)) (sym stepped)
+
+-- a part is as long as it is
+pub part-stands : (n : ℕ) (xs : List ℕ) → take n xs ≡ take (length (take n xs)) xs
+part-stands zero xs = refl
+part-stands (suc n) [] = refl
+part-stands (suc n) (x ∷ xs) = ap (λ ys. x ∷ ys) (part-stands n xs)
 
 -- bounds of a line's list
 pub high-32 : {due : Due} (key : ℕ) (r : Reading) → Sound due r → highFor key r ≤ 32

@@ -23,7 +23,10 @@ use Rattle.text.specs.Internal.{spelled}
 use Rattle.description_reader.specs.LineSteps.{Due, horizonDue, firstFluentDue, fluentDue, actionDue, lawDue, ifDue, afterDue, Draft, allowed}
 use Rattle.description_reader.specs.LineSteps as step
 use Rattle.description_reader.specs.LineSteps.{Step, next, finish, inHorizon, ifLine, afterLine, lawIn, byKey}
-use Rattle.description.specs.Laws.{padded, noLaw}
+use Rattle.description.specs.declared.Kind.{Kind}
+use Rattle.description.specs.Laws.{padded, lawOf, noLaw}
+use Rattle.description_reader.specs.declared.steps.HeadAt.{HeadAt}
+use Rattle.description_reader.specs.declared.steps.HeadAt.the-variants.{Refused, Read}
 use Rattle.search.specs.Replies.{Reply, refused, answered}
 use Rattle.description_reader.specs.Descriptions.{Taken, read}
 
@@ -112,6 +115,20 @@ stepWith lent due d key value list =
     cond (allowed due key)
     (cond (eqb key ifKey) (ifLine d (lawIn due) list) (cond (eqb key afterKey) (afterLine d (lawIn due) list) (byKey lent due d key value)))
     (step.refused 2)
+
+-- a value that stands at a place of a text
+abbrev pub StandsAt : List ℕ → ℕ → List ℕ → Type 0
+StandsAt text from value = value ≡ take (length value) (drop from text)
+
+-- what a law's first line comes to, by what was read of its head
+abbrev pub begunWith : Draft → Kind → HeadAt → Step
+begunWith d kind (Refused k) = step.refused k
+begunWith d kind (Read h) = next (ifDue (lawOf kind h [] [])) d
+
+-- a refusal has a number, and a law that begins has a place in the run
+abbrev pub HeadFits : ℕ → HeadAt → Type 0
+HeadFits count (Refused k) = 0 < k
+HeadFits count (Read h) = count < 64
 
 -- a reading with one more law
 pub record Pushed (s r : Reading) : Type 0 where

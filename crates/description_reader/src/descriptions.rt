@@ -113,7 +113,7 @@ fn read_lines(text: &[u8], laws: [Law; 64], lent: usize) -> Ending
             }
             i = item.next;
         }
-        state = steps::line_step(text, from, to, l.key, gathered, state, lent);
+        state = steps::line_step(text, from, list, l.key, gathered, state, lent);
         at = l.next;
         if states::stops(state) {
             break 'lines;

@@ -15,16 +15,17 @@ use text::names::Names;
 ghost use mathlib.Core.Path.{_≡_};
 ghost use mathlib.Core.Bool.{cond};
 ghost use mathlib.Core.List.{List, [], _∷_, _++_};
-ghost use mathlib.Core.Option.{some};
-ghost use Prim.Native.Nat.{ℕ, suc, _+_, _-_, _≤_, _<_};
+ghost use Prim.Native.Nat.{ℕ, suc, _+_, _≤_, _<_, min};
+ghost use lib.Dec.{ltb};
+ghost use Rattle.description.specs.declared.Kind.{Kind};
 ghost use lib.ListN.{length, take, drop};
 ghost use Rattle.text.specs.Lists.{codes};
 ghost use Rattle.text.specs.Internal.{spelled};
 ghost use Rattle.description_reader.specs.LineSteps as step;
 ghost use Rattle.description_reader.specs.LineSteps.{actionDue, fluentDue, horizonOf, horizonLine, nameLine, lawLine};
-ghost use Rattle.description_reader.specs.LineSteps.{begun, whole, ifLine, afterLine, endLine, byKey};
+ghost use Rattle.description_reader.specs.LineSteps.{Draft, begun, headOf, whole, ifLine, afterLine, endLine, byKey};
 ghost use Rattle.description.specs.Laws.{lawOf};
-ghost use Rattle.description_reader.specs.Internal.{dueAt, draftOf, stepOf, stepWith, hasPlace, Sound, Goes, Padded, Pushed};
+ghost use Rattle.description_reader.specs.Internal.{dueAt, draftOf, stepOf, stepWith, hasPlace, Sound, Goes, Padded, Pushed, StandsAt, begunWith, HeadFits};
 
 // A line that is refused.
 pub(crate) fn refused(state: State, number: u8) -> State
@@ -87,12 +88,12 @@ fn with_name(names: Names, start: usize, length: usize) -> Names
 }
 
 // A new fluent or action: 5 before its spelling, then 4.
-fn name_line(text: &[u8], from: usize, to: usize, state: State, action: bool) -> State
-    requires { ⌜ (from ≤ to) × (to ≤ length (now text)) × Sound (dueAt state) (state .reading) ⌝ }
+fn name_line(text: &[u8], from: usize, value: &[u8], state: State, action: bool) -> State
+    requires { ⌜ StandsAt (now text) from (now value) × Sound (dueAt state) (state .reading) ⌝ }
     ensures { λ r. ⌜ stepOf (now (text .entry)) r ≡ nameLine
         (hasPlace action (state .reading .fluents) (state .reading .names .count)) (cond action actionDue fluentDue)
         (cond action (state .reading .fluents) (suc (state .reading .fluents)))
-        (draftOf (now (text .entry)) (state .reading)) (take (to - from) (drop from (now (text .entry)))) ⌝ }
+        (draftOf (now (text .entry)) (state .reading)) (now (value .entry)) ⌝ }
     ensures { λ r. ⌜ Goes state r ⌝ }
 {
     let mut reading = state.reading;
@@ -100,10 +101,10 @@ fn name_line(text: &[u8], from: usize, to: usize, state: State, action: bool) ->
     if !has_place(action, reading.fluents, names.count) {
         return refused(state, 5);
     }
-    if !names::is_new(text, names, &text[from..to]) {
+    if !names::is_new(text, names, value) {
         return refused(state, 4);
     }
-    let more = with_name(names, from, to - from);
+    let more = with_name(names, from, value.len());
     reading.names = more;
     let law = state.law;
     let mut due = Due::Action;
@@ -133,45 +134,60 @@ pub(crate) fn new_law(kind: Kind, head: Head) -> Law
     }
 }
 
-// The law's head is read, and its if-list is due.
-fn begin_law(state: State, kind: Kind, head: Head) -> State
-    requires { ⌜ (state .reading .run .count < 64) × Sound (dueAt state) (state .reading) ⌝ }
-    ensures { λ r. ⌜ ((text : List ℕ) → stepOf text r ≡ begun (draftOf text (state .reading)) kind (some head)) ⌝ }
-    ensures { λ r. ⌜ Goes state r ⌝ }
-{
-    let reading = state.reading;
-    State {
-        refused: 0,
-        ended: false,
-        due: Due::If,
-        law: new_law(kind, head),
-        reading,
-    }
+// What a law's first line comes to: a refusal's number, or the head.
+pub(crate) enum HeadAt {
+    Refused(u8),
+    Read(Head),
 }
 
-// A new law, of at most 64 and of those lent: 5 before its head's spelling.
-fn law_line(text: &[u8], from: usize, to: usize, state: State, kind: Kind, lent: usize) -> State
-    requires { ⌜ (from ≤ to) × (to ≤ length (now text)) × Sound (dueAt state) (state .reading) ⌝ }
-    ensures { λ r. ⌜ stepOf (now (text .entry)) r ≡ lawLine lent (draftOf (now (text .entry)) (state .reading)) kind (take (to - from) (drop from (now (text .entry)))) ⌝ }
+// The head of a new law, of at most 64 and of those lent: 5 before its spelling, then 6.
+fn law_head(
+    text: &[u8],
+    value: &[u8],
+    names: Names,
+    fluents: usize,
+    count: usize,
+    lent: usize,
+) -> HeadAt
+    requires { ⌜ fluents ≤ 24 ⌝ }
+    ensures { λ r. ⌜ ((d : Draft) (kind : Kind) → begunWith d kind r ≡ cond (ltb count (min 64 lent)) (begun d kind (headOf (spelled (now (text .entry)) names) fluents (now (value .entry)))) (step.refused 5)) ⌝ }
+    ensures { λ r. ⌜ HeadFits count r ⌝ }
+{
+    if 64 <= count {
+        return HeadAt::Refused(5);
+    }
+    if lent <= count {
+        return HeadAt::Refused(5);
+    }
+    if names::is_false(value) {
+        return HeadAt::Read(Head::False);
+    }
+    let Found::At(code) = names::literal(text, names, value, 0, fluents) else {
+        return HeadAt::Refused(6);
+    };
+    HeadAt::Read(Head::Lit(code as u8))
+}
+
+// A law begins: its if-list is due.
+fn law_line(text: &[u8], value: &[u8], state: State, kind: Kind, lent: usize) -> State
+    requires { ⌜ Sound (dueAt state) (state .reading) ⌝ }
+    ensures { λ r. ⌜ stepOf (now (text .entry)) r ≡ lawLine lent (draftOf (now (text .entry)) (state .reading)) kind (now (value .entry)) ⌝ }
     ensures { λ r. ⌜ Goes state r ⌝ }
 {
     let reading = state.reading;
-    let run = reading.run;
-    if 64 <= run.count {
-        return refused(state, 5);
-    }
-    if lent <= run.count {
-        return refused(state, 5);
-    }
-    let value = &text[from..to];
-    if names::is_false(value) {
-        return begin_law(state, kind, Head::False);
-    }
     let names = reading.names;
-    let Found::At(code) = names::literal(text, names, value, 0, reading.fluents) else {
-        return refused(state, 6);
-    };
-    begin_law(state, kind, Head::Lit(code as u8))
+    let run = reading.run;
+    let head_at = law_head(text, value, names, reading.fluents, run.count, lent);
+    match head_at {
+        HeadAt::Refused(number) => refused(state, number),
+        HeadAt::Read(head) => State {
+            refused: 0,
+            ended: false,
+            due: Due::If,
+            law: new_law(kind, head),
+            reading,
+        },
+    }
 }
 
 // The law is whole: it joins those read.
@@ -259,42 +275,49 @@ fn end_line(value: &[u8], state: State) -> State
 }
 
 // A line of any key but the lists', whose key is allowed.
-fn other_line(text: &[u8], from: usize, to: usize, key: usize, state: State, lent: usize) -> State
-    requires { ⌜ (from ≤ to) × (to ≤ length (now text)) × Sound (dueAt state) (state .reading) ⌝ }
+fn other_line(
+    text: &[u8],
+    from: usize,
+    value: &[u8],
+    key: usize,
+    state: State,
+    lent: usize,
+) -> State
+    requires { ⌜ StandsAt (now text) from (now value) × Sound (dueAt state) (state .reading) ⌝ }
     requires { ⌜ ((key ≡ 5 → ⊥) × (key ≡ 6 → ⊥)) ⌝ }
-    ensures { λ r. ⌜ stepOf (now (text .entry)) r ≡ byKey lent (dueAt state) (draftOf (now (text .entry)) (state .reading)) key (take (to - from) (drop from (now (text .entry)))) ⌝ }
+    ensures { λ r. ⌜ stepOf (now (text .entry)) r ≡ byKey lent (dueAt state) (draftOf (now (text .entry)) (state .reading)) key (now (value .entry)) ⌝ }
     ensures { λ r. ⌜ Goes state r ⌝ }
 {
     if key == lines::HORIZON {
-        return horizon_line(&text[from..to], state);
+        return horizon_line(value, state);
     }
     if key == lines::FLUENT {
-        return name_line(text, from, to, state, false);
+        return name_line(text, from, value, state, false);
     }
     if key == lines::ACTION {
-        return name_line(text, from, to, state, true);
+        return name_line(text, from, value, state, true);
     }
     if key == lines::STATIC {
-        return law_line(text, from, to, state, Kind::Static, lent);
+        return law_line(text, value, state, Kind::Static, lent);
     }
     if key == lines::DYNAMIC {
-        return law_line(text, from, to, state, Kind::Dynamic, lent);
+        return law_line(text, value, state, Kind::Dynamic, lent);
     }
-    end_line(&text[from..to], state)
+    end_line(value, state)
 }
 
-// A line whose list, if it has one, is read already.
+// A line, its value at a place of the text; its list, if it has one, is read already.
 pub(crate) fn line_step(
     text: &[u8],
     from: usize,
-    to: usize,
+    value: &[u8],
     key: usize,
     list: Codes,
     state: State,
     lent: usize,
 ) -> State
-    requires { ⌜ (from ≤ to) × (to ≤ length (now text)) × Sound (dueAt state) (state .reading) × Padded list ⌝ }
-    ensures { λ r. ⌜ stepOf (now (text .entry)) r ≡ stepWith lent (dueAt state) (draftOf (now (text .entry)) (state .reading)) key (take (to - from) (drop from (now (text .entry)))) (codes (take (list .count) (list .codes))) ⌝ }
+    requires { ⌜ StandsAt (now text) from (now value) × Sound (dueAt state) (state .reading) × Padded list ⌝ }
+    ensures { λ r. ⌜ stepOf (now (text .entry)) r ≡ stepWith lent (dueAt state) (draftOf (now (text .entry)) (state .reading)) key (now (value .entry)) (codes (take (list .count) (list .codes))) ⌝ }
     ensures { λ r. ⌜ Goes state r ⌝ }
 {
     let due = state.due;
@@ -307,5 +330,5 @@ pub(crate) fn line_step(
     if key == lines::AFTER {
         return after_line(state, list);
     }
-    other_line(text, from, to, key, state, lent)
+    other_line(text, from, value, key, state, lent)
 }

@@ -1,1 +1,4 @@
+-- What the readers take is within the limits: taken-accepted for descriptions, taken-valued for histories.
 pub mod Drafts
+pub mod Accepting
+pub mod Recording

@@ -1,1 +1,1 @@
-// Theorems on the description reader: what it takes is within the limits of a description; no code.
+// Theorems on the readers: what they take is within the limits of descriptions and histories, and accepted by the checks; no code.

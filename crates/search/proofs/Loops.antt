@@ -14,6 +14,7 @@ use lib.Seq.{drop-cons, take-all, getD-take}
 use Rattle.search.specs.declared.Found.{Found}
 use Rattle.search.specs.declared.Found.the-variants.{At, Nothing}
 use Rattle.search.specs.Search.{all, first, range, placeOf}
+use Rattle.search.specs.Replies.{refused, answered, refusalOf, refusal}
 
 -- a loop over a list that leaves at the first element that fails a test
 module _ {A : Type 0} (p : A → Bool) (xs : List A) (i : ℕ) (d : A) {R : Bool} where
@@ -116,3 +117,18 @@ at-place is e = sym is ∙ ap placeOf e
 
 pub no-place : {r : Found} {found : Option ℕ} → placeOf r ≡ found → r ≡ Nothing → found ≡ none
 no-place is e = sym is ∙ ap placeOf e
+
+-- and what its refusal says
+pub refused-at : (number : ℕ) {r : Found} {found : Option ℕ} {k : ℕ} → refusalOf number r ≡ refusal number found → r ≡ At k → found ≡ some k
+refused-at number {r} {found} {k} is e = place found (sym is ∙ ap (refusalOf number) e)
+  where
+    place : (o : Option ℕ) → refusal number o ≡ refused number k → o ≡ some k
+    place (some p) q = cc
+    place none q = cc
+
+pub not-refused : (number : ℕ) {r : Found} {found : Option ℕ} → refusalOf number r ≡ refusal number found → r ≡ Nothing → found ≡ none
+not-refused number {r} {found} is e = place found (sym is ∙ ap (refusalOf number) e)
+  where
+    place : (o : Option ℕ) → refusal number o ≡ answered tt → o ≡ none
+    place (some p) q = cc
+    place none q = refl

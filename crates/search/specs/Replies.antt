@@ -2,6 +2,8 @@
 -- Assumes nothing.
 use mathlib.Core.Option.{Option, none, some}
 use Prim.Native.Nat.{ℕ}
+use Rattle.search.specs.declared.Found.{Found}
+use Rattle.search.specs.declared.Found.the-variants.{At, Nothing}
 
 pub data Reply (A : Type 0) : Type 0 where
   refused : ℕ → ℕ → Reply A
@@ -16,6 +18,15 @@ orElse none said next = next
 abbrev pub orRefuse : {A : Type 0} → Option ℕ → ℕ → Reply A → Reply A
 orRefuse (some place) number next = refused number place
 orRefuse none number next = next
+
+-- what the code's answer to a search for something to refuse stands for: the refusal of that number at the place, or none
+abbrev pub refusalOf : ℕ → Found → Reply Unit
+refusalOf number (At place) = refused number place
+refusalOf number Nothing = answered tt
+
+-- the refusal of that number at the place that a search found, or none
+abbrev pub refusal : ℕ → Option ℕ → Reply Unit
+refusal number found = orRefuse found number (answered tt)
 
 -- what lent memory holds afterwards: after a refusal what it held before
 abbrev pub leftAfter : {A B : Type 0} → Reply A → (A → B) → B → B

@@ -91,7 +91,7 @@ length-choices : (Bs : List ℕ) → length (choices Bs) ≡ 2 * length Bs
 length-choices [] = refl
 length-choices (B ∷ Bs) = omega (arith, length-choices Bs)
 
-length-words-choices : (Bs : List ℕ) → length (words (choices Bs)) ≡ 8 * length Bs
+pub length-words-choices : (Bs : List ℕ) → length (words (choices Bs)) ≡ 8 * length Bs
 length-words-choices [] = refl
 length-words-choices (B ∷ Bs) = omega (arith, length-words-choices Bs)
 

@@ -5,14 +5,17 @@ use mathlib.Core.List.{List, [], _∷_, _++_, map, append-assoc, append-nil}
 use Prim.Native.Nat.{ℕ, suc, _+_, _*_, _≤_, _<_}
 use native.Mathlib.Nat.{mul-le-mul, add-zero, zero-add, add-suc, suc-add}
 use native.Mathlib.Omega.{arith}
-use native.Mathlib.Numerals.{add-one, add-three}
-use lib.ListN.{length, getD, set, drop, length-map, length-append}
+use native.Mathlib.Numerals.{add-one}
+use lib.ListN.{length, getD, set, drop, length-set, length-append, drop-of-length-le}
 use lib.Seq.{sets, drop-cons, length-sets, sets-eq}
 use Rattle.search.specs.Search.{range}
+use Rattle.description.specs.declared.Kind.{Kind}
+use Rattle.description.specs.declared.Kind.the-variants.{Static, Dynamic}
 use Rattle.description.specs.declared.Law.{Law}
 use Rattle.translation.specs.Rules.{staticRules, dynamicRules, perLaw, choices, actionAtoms, translation}
-use Rattle.answer_sets.specs.Rules.{Head}
-use Rattle.answer_sets.specs.Words.{headWord, ruleWords, words}
+use Rattle.translation.specs.Internal.{rulesOf}
+use Rattle.answer_sets.specs.Rules.{Rule}
+use Rattle.answer_sets.specs.Words.{words}
 use Rattle.translation.proofs.Counts.{words-append}
 
 pub product-bound : (t n a b : ℕ) → t ≤ a → n ≤ b → t * n ≤ a * b
@@ -23,20 +26,24 @@ pub sets-append : (l : List ℕ) (i : ℕ) (xs ys : List ℕ) → sets l i (xs +
 sets-append l i [] ys = rw add-zero
 sets-append l i (x ∷ xs) ys = rw (add-suc, ← suc-add) (sets-append _ (suc i) xs ys)
 
--- a turn of the loop that stores f of each element: one store, and the rest is left
-pub store-next : (f : ℕ → ℕ) (l : List ℕ) (at i : ℕ) (xs : List ℕ) → i < length xs
-    → sets l (at + i) (map f (drop i xs)) ≡ sets (set l (at + i) (f (getD xs i 0))) (at + (i + 1)) (map f (drop (i + 1) xs))
-store-next f l at i xs h = rw (drop-cons xs i 0 h, add-one i, add-suc at i)
+-- What a loop keeps that stores words one by one: those from place i on, stored now, come to all of them.
+pub record Storing (ws table₀ : List ℕ) (at : ℕ) (table : List ℕ) (i : ℕ) : Type 0 where
+  pub as-long : length table ≡ length table₀
+  pub stores : sets table (at + i) (drop i ws) ≡ sets table₀ at ws
 
--- a rule's words are its three first words, its negated parts and its plain parts, stored one behind the other
-pub rule-stores : (l : List ℕ) (at : ℕ) (hd : Head) (f g : ℕ → ℕ) (xs ys : List ℕ) {h n p a b : ℕ} {l₁ l₂ l₃ : List ℕ}
-    → h ≡ headWord hd → n ≡ length xs → p ≡ length ys
-    → l₁ ≡ sets l at (h ∷ n ∷ p ∷ []) → a ≡ at + 3
-    → l₂ ≡ sets l₁ a (map f xs) → b ≡ a + length xs
-    → l₃ ≡ sets l₂ b (map g ys) → l₃ ≡ sets l at (ruleWords (record { head = hd; negated = map f xs; plain = map g ys }))
-rule-stores l at hd f g xs ys e₁ e₂ e₃ e₄ e₅ e₆ e₇ e₈ =
-    rw (e₈, e₇, e₆, e₅, e₄, e₃, e₂, e₁, add-three at, ← length-map xs f, ← length-map ys g)
-    (sym (sets-append _ (suc (suc (suc at))) (map f xs) (map g ys)))
+pub storing-first : (ws table : List ℕ) (at : ℕ) → Storing ws table at table 0
+storing-first ws table at = record { as-long = refl; stores = rw add-zero }
+
+module _ {ws table₀ : List ℕ} {at : ℕ} {table : List ℕ} {i : ℕ} (inv : Storing ws table₀ at table i) where
+  pub storing-next : {w : ℕ} → i < length ws → w ≡ getD ws i 0 → Storing ws table₀ at (set table (at + i) w) (i + 1)
+  storing-next {w} h e =
+      record {
+        as-long = rw length-set (inv .as-long);
+        stores = rw (e, add-one i, add-suc at i) (rw (drop-cons ws i 0 h) at (inv .stores));
+      }
+
+  pub storing-last : length ws ≤ i → table ≡ sets table₀ at ws
+  storing-last h = rw (drop-of-length-le ws h) at (inv .stores)
 
 -- What a loop of writers keeps: the words ws that are left for the table at a place come to the words ws₀ that were to be
 -- stored from at₀ on when it began.
@@ -87,13 +94,17 @@ pub choices-append : (Bs Cs : List ℕ) → choices (Bs ++ Cs) ≡ choices Bs ++
 choices-append [] Cs = refl
 choices-append (B ∷ Bs) Cs = rw (choices-append Bs Cs)
 
+perLaw-ext : (f g : Kind → Law → List Rule) → ((k : Kind) (l : Law) → f k l ≡ g k l) → (ls : List Law) → perLaw f ls ≡ perLaw g ls
+perLaw-ext f g same [] = refl
+perLaw-ext f g same (l ∷ ls) = rw (same (l .kind) l, perLaw-ext f g same ls)
+
 -- the words of a translation, pass by pass
 module _ (n m T : ℕ) (ls : List Law) where
   abbrev pub staticWords : List ℕ
-  staticWords = words (perLaw (staticRules (n + m) T) ls)
+  staticWords = words (perLaw (rulesOf (n + m) (T + 1) 0) ls)
 
   abbrev pub dynamicWords : List ℕ
-  dynamicWords = words (perLaw (dynamicRules (n + m) T) ls)
+  dynamicWords = words (perLaw (rulesOf (n + m) 0 T) ls)
 
   abbrev pub fluentWords : List ℕ
   fluentWords = words (choices (range 0 n))
@@ -101,9 +112,19 @@ module _ (n m T : ℕ) (ls : List Law) where
   abbrev pub actionWords : List ℕ
   actionWords = words (choices (actionAtoms n m 0 T))
 
+  static-pass : (k : Kind) (l : Law) → staticRules (n + m) T k l ≡ rulesOf (n + m) (T + 1) 0 k l
+  static-pass Static l = rw (add-one T)
+  static-pass Dynamic l = refl
+
+  dynamic-pass : (k : Kind) (l : Law) → dynamicRules (n + m) T k l ≡ rulesOf (n + m) 0 T k l
+  dynamic-pass Static l = refl
+  dynamic-pass Dynamic l = refl
+
   pub passes : words (translation n m T ls) ≡ staticWords ++ (dynamicWords ++ (fluentWords ++ actionWords))
   unfolding translation
-  passes = let e : 0 * (n + m) + 0 ≡ 0 = omega arith in rw e (simp (choices-append, words-append, append-assoc))
+  passes =
+      let e : 0 * (n + m) + 0 ≡ 0 = omega arith in
+      rw (e, perLaw-ext _ _ static-pass ls, perLaw-ext _ _ dynamic-pass ls) (simp (choices-append, words-append, append-assoc))
 
 -- stores from the first place on replace the front
 pub sets-front : (ws l : List ℕ) → 0 + length ws ≤ length l → sets l 0 ws ≡ ws ++ drop (length ws) l

@@ -2,4 +2,7 @@
 pub mod Tables
 pub mod Program11
 pub mod Transitions
+pub mod WorkedRecords
+pub mod WorkedTexts
+pub mod WorkedOutputs
 pub mod Worked

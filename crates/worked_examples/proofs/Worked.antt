@@ -1,19 +1,14 @@
 -- Every worked example holds of the definitions.
 -- Assumes nothing.
-use mathlib.Core.Path.{_≡_, refl}
+use mathlib.Core.List.{_++_}
 use Rattle.search.specs.Search.{Each}
-use Rattle.answer_sets.specs.Literals.{setOf, holdsTrue, holdsFalse}
-use Rattle.answer_sets.specs.Verdicts.{verdict}
-use Rattle.answer_sets.specs.Words.{rulesOf, badRule}
-use Rattle.answer_sets.specs.Answers as engine
-use Rattle.description.specs.Acceptance.{badRecord, badHorizon}
-use Rattle.translation.specs.Rules.{complement, translation}
-use Rattle.translation.specs.Translated as translated
-use Rattle.history.specs.Checks as history
-use Rattle.causal.specs.Verdicts.{causalVerdict}
-use Rattle.causal.specs.Readings as causal
-use Rattle.worked_examples.specs.Worked.{Holds, worked}
+use Rattle.search.proofs.Tests.{each-append}
+use Rattle.worked_examples.specs.Worked.{Holds, worked, recordExamples, textExamples, outputExamples}
+use Rattle.worked_examples.proofs.WorkedRecords.{record-examples}
+use Rattle.worked_examples.proofs.WorkedTexts.{text-examples}
+use Rattle.worked_examples.proofs.WorkedOutputs.{output-examples}
 
 pub worked-examples : Each Holds worked
-unfolding engine.answer verdict rulesOf badRule setOf holdsTrue holdsFalse complement badRecord badHorizon translation translated.outcome history.checked causalVerdict causal.reading
-worked-examples = ((refl, refl), ((refl, refl), (refl, (refl, (refl, (refl, (refl, (refl, (refl, (refl, (refl, (refl, (refl, (refl, (refl, (refl, (refl, (refl, (refl, (refl, (refl, (refl, (refl, (refl, (refl, (refl, (refl, (refl, (refl, (refl, (refl, (refl, tt))))))))))))))))))))))))))))))))
+worked-examples =
+    each-append Holds recordExamples (textExamples ++ outputExamples) .1
+    (record-examples, each-append Holds textExamples outputExamples .1 (text-examples, output-examples))

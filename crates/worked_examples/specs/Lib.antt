@@ -1,4 +1,6 @@
 -- Worked examples of all layers. Read in this order.
 pub mod Tables
 pub mod Program11
+pub mod Texts
+pub mod Outputs
 pub mod Worked

@@ -1,5 +1,4 @@
--- Both round trips, and the full recipe as an example.
-pub mod Examples
+-- Both round trips.
 pub mod WrittenLines
 pub mod WrittenNames
 pub mod WrittenLists

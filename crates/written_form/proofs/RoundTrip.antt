@@ -18,7 +18,8 @@ use Rattle.description.specs.declared.Kind.the-variants.{Static, Dynamic}
 use Rattle.description.specs.declared.Law.{Law}
 use Rattle.description.specs.Laws.{ifList, afterList}
 use Rattle.description.proofs.Fits.{CodesBelow, HeadBelow}
-use Rattle.written_form.specs.Writable.{aftersOf, Tidy, Writable, lawLines, lawsLines, linesWritten, draftWritten, AreNames, Distinct, draft}
+use Rattle.reader_bounds.specs.Accepts.{aftersOf, Tidy}
+use Rattle.written_form.specs.Writable.{Writable, lawLines, lawsLines, linesWritten, draftWritten, AreNames, Distinct, draft}
 use Rattle.text.specs.Bytes.{newline}
 use Rattle.text.specs.Lines.{horizonKey, fluentKey, actionKey, staticKey, dynamicKey, ifKey, afterKey, endKey}
 use Rattle.text.specs.Names.{isName, declaredAt}

@@ -19,7 +19,8 @@ use Rattle.description.proofs.Laws.{fits-if, fits-after}
 use Rattle.description.proofs.Fits.{CodesBelow, HeadBelow, AfterBelow, law-fits}
 use Rattle.description_reader.specs.LineSteps.{Draft}
 use Rattle.description.specs.Laws.{noLaw, lawOf}
-use Rattle.written_form.specs.Writable.{aftersOf, Tidy, Writable}
+use Rattle.reader_bounds.specs.Accepts.{aftersOf, Tidy}
+use Rattle.written_form.specs.Writable.{Writable}
 
 -- the records that the reader makes are tidy
 pub tidy-static : (h : Head) (ifs : List ℕ) → Tidy (lawOf Static h ifs [])

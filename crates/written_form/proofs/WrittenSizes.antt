@@ -16,7 +16,8 @@ use Rattle.description.specs.declared.Kind.the-variants.{Static, Dynamic}
 use Rattle.description.specs.declared.Law.{Law}
 use Rattle.description.specs.Laws.{ifList, afterList}
 use Rattle.description.proofs.Fits.{HeadBelow}
-use Rattle.written_form.specs.Writable.{aftersOf, lawLines, lawsLines, linesWritten, Writable, AreNames}
+use Rattle.reader_bounds.specs.Accepts.{aftersOf}
+use Rattle.written_form.specs.Writable.{lawLines, lawsLines, linesWritten, Writable, AreNames}
 use Rattle.text.specs.Bytes.{newline, equalsSign}
 use Rattle.text.specs.Lines.{keys, horizonKey, fluentKey, actionKey, staticKey, dynamicKey, ifKey, afterKey, endKey}
 use Rattle.text.specs.Names.{isName}

@@ -9,12 +9,11 @@ use Rattle.search.specs.Search.{Each}
 use Rattle.description.specs.declared.Kind.{Kind}
 use Rattle.description.specs.declared.Kind.the-variants.{Static, Dynamic}
 use Rattle.description.specs.declared.Law.{Law}
-use Rattle.description.specs.Laws.{ifList, afterList}
 use Rattle.description.specs.Acceptance.{lawFits}
 use Rattle.text.specs.Bytes.{same}
 use Rattle.text.specs.Names.{isName}
 use Rattle.description_reader.specs.LineSteps.{Draft}
-use Rattle.description.specs.Laws.{lawOf}
+use Rattle.reader_bounds.specs.Accepts.{Tidy}
 
 abbrev pub AreNames : List (List ℕ) → Type 0
 AreNames xs = Each (λ x. isName x ≡ true) xs
@@ -23,15 +22,6 @@ AreNames xs = Each (λ x. isName x ≡ true) xs
 abbrev pub Distinct : List (List ℕ) → Type 0
 Distinct [] = Unit
 Distinct (x ∷ xs) = Each (λ y. same y x ≡ false) xs × Distinct xs
-
--- a static law's after-list is empty
-abbrev pub aftersOf : Kind → Law → List ℕ
-aftersOf Static l = []
-aftersOf Dynamic l = afterList l
-
--- a law record as the reader leaves it: each list's codes, then 0
-abbrev pub Tidy : Law → Type 0
-Tidy l = l ≡ lawOf (l .kind) (l .head) (ifList l) (aftersOf (l .kind) l)
 
 pub record Writable (lent T : ℕ) (fluents actions : List (List ℕ)) (ls : List Law) : Type 0 where
   pub horizon-from : 1 ≤ T

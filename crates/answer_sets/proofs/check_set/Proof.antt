@@ -1,14 +1,15 @@
 -- `answer_sets::check_set` meets its contract.
 -- Assumes nothing.
 use mathlib.Core.Path.{_∙_}
-use Rattle.search.proofs.Loops.{at-place, no-place}
+use Rattle.search.proofs.Loops.{at-place, no-place, refused-at, not-refused}
+use Rattle.answer_sets.proofs.Theorems.{keeps-demand-2}
 use Rattle.answer_sets.proofs.Judging.{says-10, says-11, says-12, says-verdict}
 use borrow.Author.Needs.{needs}
 use Rattle.answer_sets.proofs.check_set.Statement.{statement}
 use Rattle.answer_sets.proofs.check_set.Tie as tie
 
 returns : tie.Need-returns
-returns c = says-10 _ _ (c .if1 .taken)
+returns c = keeps-demand-2 _ _ (says-10 _ _ (c .if1 .taken))
 
 bad-value-requires : tie.Need-bad-value-requires
 bad-value-requires c κs = search needs
@@ -20,13 +21,13 @@ returns-2 : tie.Need-returns-2
 returns-2 c =
     let c3 = c .before .before .before in
     let c4 = c3 .before in
-    says-11 _ _ (c4 .if1 .left) (at-place (c3 .bad-value .ensures) (c .before .place .given .1))
+    keeps-demand-2 _ _ (says-11 _ _ (c4 .if1 .left) (refused-at 11 (c3 .bad-value .ensures) (c .before .place .given .1)))
 
 enum-told : tie.Need-enum-told
 enum-told c = search needs
 
 bad-rule-requires : tie.Need-bad-rule-requires
-bad-rule-requires c κs = search needs
+bad-rule-requires c κs = tt
 
 enum-known-place-2 : tie.Need-enum-known-place-2
 enum-known-place-2 c = search needs
@@ -37,8 +38,9 @@ returns-3 c =
     let c4 = c3 .before in
     let c6 = c4 .before .before in
     let c7 = c6 .before in
-    says-12 _ _ (c7 .if1 .left) (no-place (c6 .bad-value .ensures) (c4 .enum-told .given .1))
-    (at-place (c3 .bad-rule .ensures) (c .before .place2 .given .1))
+    keeps-demand-2 _ _
+    (says-12 _ _ (c7 .if1 .left) (not-refused 11 (c6 .bad-value .ensures) (c4 .enum-told .given .1))
+    (at-place (c3 .bad-rule .ensures) (c .before .place2 .given .1)))
 
 enum-told-2 : tie.Need-enum-told-2
 enum-told-2 c = search needs
@@ -55,8 +57,9 @@ returns-4 c =
     let c4 = c3 .before in
     let c6 = c4 .before .before in
     let c7 = c6 .before in
-    c .judge .ensures ∙ says-verdict _ _ (c7 .if1 .left) (no-place (c6 .bad-value .ensures) (c4 .enum-told .given .1))
-    (no-place (c3 .bad-rule .ensures) (c .before .enum-told2 .given .1))
+    keeps-demand-2 _ _
+    (c .judge .ensures ∙ says-verdict _ _ (c7 .if1 .left) (not-refused 11 (c6 .bad-value .ensures) (c4 .enum-told .given .1))
+    (no-place (c3 .bad-rule .ensures) (c .before .enum-told2 .given .1)))
 
 pub check-set-spec : {M : Type 1} → statement M
 check-set-spec =

@@ -33,7 +33,7 @@ returns c =
     rule-stop _ _ (c3 .loop .rest .now) (c2 .loop-test .taken) (c3 .loop .inv .2) (sym (c .before .is-broken .ensures) ∙ c .if1 .taken)
 
 rule-size-requires : tie.Need-rule-size-requires Inv-loop μ-loop
-rule-size-requires c κs = omega (arith, sound-size _ (c .before .before .loop-test .taken) (c .before .before .before .loop .inv .1))
+rule-size-requires c κs = tt
 
 mul-rest : tie.Need-mul-rest Inv-loop μ-loop
 mul-rest c = omega (arith, sound-size _ (c .before .before .before .loop-test .taken) (c .before .before .before .before .loop .inv .1))

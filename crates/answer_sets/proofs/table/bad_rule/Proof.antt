@@ -4,8 +4,7 @@ use native.Mathlib.Omega.{arith}
 use mathlib.Core.Path.{_≡_, sym}
 use Prim.Native.Nat.{_≤_, _+_, _-_}
 use lib.ListN.{length, length-drop}
-use Rattle.answer_sets.specs.Words.{ruleSize}
-use Rattle.answer_sets.specs.Words.{badRule}
+use Rattle.answer_sets.specs.Words.{ruleSize, badRule}
 use Rattle.answer_sets.proofs.Decoding.{badRuleFrom, badRule-from}
 use Rattle.answer_sets.proofs.Fronts.{bad-many, bad-stop, bad-go, bad-end, fits-size, left-behind, shorter}
 use Rattle.answer_sets.proofs.table.bad_rule.Statement.{statement}
@@ -24,7 +23,7 @@ returns : tie.Need-returns Inv-loop μ-loop
 returns c = bad-many _ _ _ (c .before .before .loop .rest .now) (c .before .loop-test .taken) (c .before .before .loop .inv .2) (c .if1 .taken)
 
 rule-fits-requires : tie.Need-rule-fits-requires Inv-loop μ-loop
-rule-fits-requires c κs = c .before .before .before .before .pre
+rule-fits-requires c κs = tt
 
 returns-2 : tie.Need-returns-2 Inv-loop μ-loop
 returns-2 c =
@@ -33,9 +32,7 @@ returns-2 c =
     bad-stop _ _ _ (c4 .loop .rest .now) _ (c3 .loop-test .taken) (c4 .loop .inv .2) (c .before .rule-fits .ensures) (c .if2 .taken)
 
 rule-size-requires : tie.Need-rule-size-requires Inv-loop μ-loop
-rule-size-requires c κs =
-    let c4 = c .before .before .before .before in
-    omega (arith, fits-size _ (c4 .loop .rest .now) _ (c .before .rule-fits .ensures) (c .if2 .left))
+rule-size-requires c κs = tt
 
 mul-rest : tie.Need-mul-rest Inv-loop μ-loop
 mul-rest c =

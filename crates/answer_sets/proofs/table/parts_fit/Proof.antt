@@ -2,23 +2,21 @@
 -- Assumes nothing.
 use borrow.Author.Needs.{needs}
 use native.Mathlib.Omega.{arith}
-use mathlib.Core.Path.{_≡_, refl}
+use mathlib.Core.Path.{_≡_, refl, sym, _∙_}
 use Prim.Native.Nat.{ℕ, _≤_, _-_}
-use lib.ListN.{length, drop}
+use lib.ListN.{length, getD, drop}
 use Rattle.answer_sets.specs.Words.{partsFit}
 use Rattle.search.proofs.Loops.{all-stop, all-go, all-done}
 use borrow.Author.Tests.{lt-ltb, le-ltb}
+use Rattle.answer_sets.proofs.Fronts.{half-below}
 use Rattle.answer_sets.proofs.table.parts_fit.Statement.{statement}
 use Rattle.answer_sets.proofs.table.parts_fit.Tie as tie
 
 abbrev Inv-loop : tie.InvT-loop
-Inv-loop parts atoms limit i₀ i = (i ≤ length parts) × (partsFit atoms (drop i parts) ≡ partsFit atoms parts)
+Inv-loop parts atoms i₀ i = (i ≤ length parts) × (partsFit atoms (drop i parts) ≡ partsFit atoms parts)
 
 abbrev μ-loop : tie.MeasureT-loop
-μ-loop parts atoms limit i₀ i = length parts - i
-
-mul-limit : tie.Need-mul-limit Inv-loop μ-loop
-mul-limit c = omega arith
+μ-loop parts atoms i₀ i = length parts - i
 
 loop-holds : tie.Need-loop-holds Inv-loop μ-loop
 loop-holds c = (omega arith, refl)
@@ -36,7 +34,9 @@ returns : tie.Need-returns Inv-loop μ-loop
 returns c =
     let c2 = c .before .before in
     let c3 = c2 .before in
-    all-stop _ _ (c3 .loop .i) 0 (c2 .loop-test .taken) (c3 .loop .inv .1) (le-ltb _ _ (c .if1 .taken))
+    let a = c3 .before .args in
+    all-stop _ _ (c3 .loop .i) 0 (c2 .loop-test .taken) (c3 .loop .inv .1)
+    (sym (half-below (getD (a .parts .now) (c3 .loop .i) 0) (a .atoms)) ∙ le-ltb _ _ (c .if1 .taken))
 
 add-i : tie.Need-add-i Inv-loop μ-loop
 add-i c = omega arith
@@ -48,7 +48,11 @@ loop-again : tie.Need-loop-again Inv-loop μ-loop
 loop-again c =
     let c2 = c .before .before in
     let c3 = c2 .before in
-    (omega arith, all-go _ _ (c3 .loop .i) 0 (c2 .loop-test .taken) (c3 .loop .inv .1) (lt-ltb _ _ (c .if1 .left)))
+    let a = c3 .before .args in (
+      omega arith,
+      all-go _ _ (c3 .loop .i) 0 (c2 .loop-test .taken) (c3 .loop .inv .1)
+          (sym (half-below (getD (a .parts .now) (c3 .loop .i) 0) (a .atoms)) ∙ lt-ltb _ _ (c .if1 .left)),
+    )
 
 returns-2 : tie.Need-returns-2 Inv-loop μ-loop
 returns-2 c = all-done {A = ℕ} _ _ (c .before .loop .i) 0 (c .loop-test .left) (c .before .loop .inv .1)
@@ -59,7 +63,6 @@ parts-fit-spec =
     (tie.spec
     Inv-loop
     μ-loop
-    mul-limit
     loop-holds
     mul-part
     shared-slice-read-part

@@ -1,11 +1,12 @@
 -- `answer_sets::values::bad_value` meets its contract.
 -- Assumes nothing.
 use native.Mathlib.Omega.{arith}
-use mathlib.Core.Path.{_≡_, refl}
+use mathlib.Core.Path.{_≡_, refl, ap}
 use Prim.Native.Nat.{ℕ, _≤_, _-_}
 use lib.ListN.{length, drop}
 use lib.Dec.{ltb}
 use Rattle.search.specs.Search.{first}
+use Rattle.search.specs.Replies.{refusal}
 use Rattle.answer_sets.specs.Answers.{badValue}
 use Rattle.search.proofs.Loops.{first-stop, first-go, first-done}
 use borrow.Author.Tests.{lt-ltb, le-ltb}
@@ -28,7 +29,7 @@ returns : tie.Need-returns Inv-loop μ-loop
 returns c =
     let c2 = c .before .before in
     let c3 = c2 .before in
-    first-stop _ _ (c3 .loop .i) 0 (c2 .loop-test .taken) (c3 .loop .inv .1) (lt-ltb _ _ (c .if1 .taken))
+    ap (refusal 11) (first-stop _ _ (c3 .loop .i) 0 (c2 .loop-test .taken) (c3 .loop .inv .1) (lt-ltb _ _ (c .if1 .taken)))
 
 add-i : tie.Need-add-i Inv-loop μ-loop
 add-i c = omega arith
@@ -43,7 +44,7 @@ loop-again c =
     (omega arith, first-go _ _ (c3 .loop .i) 0 (c2 .loop-test .taken) (c3 .loop .inv .1) (le-ltb _ _ (c .if1 .left)))
 
 returns-2 : tie.Need-returns-2 Inv-loop μ-loop
-returns-2 c = first-done {A = ℕ} _ _ (c .before .loop .i) 0 (c .loop-test .left) (c .before .loop .inv .1)
+returns-2 c = ap (refusal 11) (first-done {A = ℕ} _ _ (c .before .loop .i) 0 (c .loop-test .left) (c .before .loop .inv .1))
 
 pub bad-value-spec : {M : Type 1} → statement M
 bad-value-spec =

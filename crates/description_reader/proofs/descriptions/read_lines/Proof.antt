@@ -17,7 +17,7 @@ use Rattle.text.specs.Internal.{spelled, itemsAt}
 use Rattle.text.proofs.Spelling.{literal-small}
 use Rattle.text.proofs.Items.{next-later}
 use Rattle.description_reader.proofs.Gathering.{turn-on, turn-off, turn-done}
-use Rattle.description_reader.proofs.Walking.{leftAt, left-start, listHere, refused-left, stepped, stepped-left, stop-outcome, goes-key, goes-left, outcome-refused, list-here, high-32, from-bound, blank-sound}
+use Rattle.description_reader.proofs.Walking.{leftAt, left-start, listHere, refused-left, stepped, stepped-left, stop-outcome, goes-key, goes-left, outcome-refused, list-here, part-stands, high-32, from-bound, blank-sound}
 use Rattle.description_reader.proofs.descriptions.read_lines.Statement.{statement}
 use Rattle.description_reader.proofs.descriptions.read_lines.Tie as tie
 
@@ -137,8 +137,7 @@ loop-again c =
 line-step-requires : tie.Need-line-step-requires Inv-loop μ-loop Inv-lines μ-lines
 line-step-requires c κs =
     let h = c .before in
-    let f = h .before .before .before .before .before .before .before .line-at .ensures .1 in
-    (f .ordered, f .inside, rw (h .loop .inv .0) (sound h), h .loop .inv .2)
+    (part-stands (line-at h .to - line-at h .from) (drop (line-at h .from) (text-at h)), rw (h .loop .inv .0) (sound h), h .loop .inv .2)
 
 stops-requires : tie.Need-stops-requires Inv-loop μ-loop Inv-lines μ-lines
 stops-requires c κs = tt

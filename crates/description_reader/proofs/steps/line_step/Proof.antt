@@ -21,33 +21,33 @@ returns : tie.Need-returns
 unfolding stepWith
 returns c =
     let d = c .before .before in
-    (rw (← d .is-allowed .ensures (d .before .before .args .state .law), not-true (d .is-allowed .result) (c .before .if1 .taken)) (c .refused .ensures .0 _), c .refused .ensures .1)
+    (rw (← d .is-allowed .ensures (d .before .before .before .args .state .law), not-true (d .is-allowed .result) (c .before .if1 .taken)) (c .refused .ensures .0 _), c .refused .ensures .1)
 
 -- the key is allowed
-may : (c : tie.Else1) → let a = c .before .before .before .args in allowed (dueAt (a .state)) (a .key) ≡ true
-may c = sym (c .before .is-allowed .ensures (c .before .before .before .args .state .law)) ∙ not-false (c .before .is-allowed .result) (c .if1 .left)
+may : (c : tie.Else1) → let a = c .before .before .before .before .args in allowed (dueAt (a .state)) (a .key) ≡ true
+may c = sym (c .before .is-allowed .ensures (c .before .before .before .before .args .state .law)) ∙ not-false (c .before .is-allowed .result) (c .if1 .left)
 
 -- the law of a list that is allowed has begun, and has a place in the run
-if-law : (c : tie.Then2) → let a = c .before .before .before .before .args in (a .state .reading .run .count < 64) × (lawIn (dueAt (a .state)) ≡ a .state .law)
+if-law : (c : tie.Then2) → let a = c .before .before .before .before .before .args in (a .state .reading .run .count < 64) × (lawIn (dueAt (a .state)) ≡ a .state .law)
 if-law c =
-    let a = c .before .before .before .before in
-    if-begun (a .args .state .due) (a .args .state .law) _ (rw (c .if2 .taken) at (may (c .before))) (a .pre .2 .room)
+    let a = c .before .before .before .before .before in
+    if-begun (a .args .state .due) (a .args .state .law) _ (rw (c .if2 .taken) at (may (c .before))) (a .pre .1 .room)
 
 if-line-requires : tie.Need-if-line-requires
-if-line-requires c κs = let p = c .before .before .before .before .pre in (if-law c .0, p .2, p .3)
+if-line-requires c κs = let p = c .before .before .before .before .before .pre in (if-law c .0, p .1, p .2)
 
 returns-2 : tie.Need-returns-2
 unfolding stepWith
 returns-2 c =
     (rw (may (c .before .before), eq-eqb _ _ (c .before .if2 .taken), if-law (c .before) .1) (c .if-line .ensures .0 _), c .if-line .ensures .1)
 
-after-law : (c : tie.Then3) → let a = c .before .before .before .before .before .args in (a .state .reading .run .count < 64) × (lawIn (dueAt (a .state)) ≡ a .state .law)
+after-law : (c : tie.Then3) → let a = c .before .before .before .before .before .before .args in (a .state .reading .run .count < 64) × (lawIn (dueAt (a .state)) ≡ a .state .law)
 after-law c =
-    let a = c .before .before .before .before .before in
-    after-begun (a .args .state .due) (a .args .state .law) _ (rw (c .if3 .taken) at (may (c .before .before))) (a .pre .2 .room)
+    let a = c .before .before .before .before .before .before in
+    after-begun (a .args .state .due) (a .args .state .law) _ (rw (c .if3 .taken) at (may (c .before .before))) (a .pre .1 .room)
 
 after-line-requires : tie.Need-after-line-requires
-after-line-requires c κs = let p = c .before .before .before .before .before .pre in (after-law c .0, p .2, p .3)
+after-line-requires c κs = let p = c .before .before .before .before .before .before .pre in (after-law c .0, p .1, p .2)
 
 returns-3 : tie.Need-returns-3
 unfolding stepWith
@@ -60,7 +60,7 @@ other-line-requires c κs = search needs
 returns-4 : tie.Need-returns-4
 returns-4 c =
     let h = c .before .before .before in
-    let a = h .before .before .before .args in
+    let a = h .before .before .before .before .args in
     (c .other-line .ensures .0 ∙ step-other _ (dueAt (a .state)) _ (a .key) _ _ (may h) (c .before .before .if2 .left) (c .before .if3 .left), c .other-line .ensures .1)
 
 pub line-step-spec : {M : Type 1} → statement M

@@ -17,7 +17,7 @@ below-32 true fluents names few most e = let h = ltb-true names (fluents + 8) e 
 below-32 false fluents names few most e = let h = ltb-true fluents 24 e in omega arith
 
 -- there is a place
-place : (c : tie.Else1) → let a = c .before .before .before .before .before .args in
+place : (c : tie.Else1) → let a = c .before .before .before .before .before .before .args in
     hasPlace (a .action) (a .state .reading .fluents) (a .state .reading .names .count) ≡ true
 place c = sym (c .before .has-place .ensures) ∙ not-false (c .before .has-place .result) (c .if1 .left)
 
@@ -32,15 +32,6 @@ returns c =
     let p = c .before .before in
     (rw (← p .has-place .ensures, not-true (p .has-place .result) (c .before .if1 .taken)) (c .refused .ensures .0 _), c .refused .ensures .1)
 
-sub-is-new : tie.Need-sub-is-new
-sub-is-new c = search needs
-
-part-is-new-start : tie.Need-part-is-new-start
-part-is-new-start c = search needs
-
-part-is-new-end : tie.Need-part-is-new-end
-part-is-new-end c = search needs
-
 is-new-requires : tie.Need-is-new-requires
 is-new-requires c κs = search needs
 
@@ -50,16 +41,13 @@ refused-requires-2 c κs = search needs
 returns-2 : tie.Need-returns-2
 returns-2 c =
     let n = c .before .before in
-    (rw (place (n .before .before), ← n .is-new .ensures, not-true (n .is-new .result) (c .before .if2 .taken)) (c .refused2 .ensures .0 _), c .refused2 .ensures .1)
-
-sub-with-name : tie.Need-sub-with-name
-sub-with-name c = search needs
+    (rw (place (n .before), ← n .is-new .ensures, not-true (n .is-new .result) (c .before .if2 .taken)) (c .refused2 .ensures .0 _), c .refused2 .ensures .1)
 
 with-name-requires : tie.Need-with-name-requires
 with-name-requires c κs =
-    let p = c .before .before .before in
-    let a = p .before .before .before .before .before in
-    below-32 (a .args .action) _ _ (a .pre .2 .few) (a .pre .2 .actions) (place p)
+    let p = c .before .before in
+    let a = p .before .before .before .before .before .before in
+    below-32 (a .args .action) _ _ (a .pre .1 .few) (a .pre .1 .actions) (place p)
 
 add-reading : tie.Need-add-reading
 add-reading c = search needs
@@ -70,10 +58,10 @@ returns-3 c =
     let w = c .before .before .before in
     let n = w .before .before in
     let a = n .before .before .before .before .before .before .before in
-    let s = a .pre .2 in
+    let s = a .pre .1 in
     let fluent = not-true (a .args .action) (c .before .if3 .taken) in
-    let left = ltb-true (a .args .state .reading .fluents) 24 (rw fluent at (place (n .before .before))) in (
-      rw (place (n .before .before), ← n .is-new .ensures, not-false (n .is-new .result) (w .before .if2 .left), w .with-name .ensures .1 _, fluent, add-one),
+    let left = ltb-true (a .args .state .reading .fluents) 24 (rw fluent at (place (n .before))) in (
+      rw (place (n .before), ← n .is-new .ensures, not-false (n .is-new .result) (w .before .if2 .left), w .with-name .ensures .1 _, ← a .pre .0, fluent, add-one),
       record { sound = record { time = s .time; few = omega arith; declared = omega (arith, w .with-name .ensures .0, s .declared); actions = omega (arith, w .with-name .ensures .0, s .actions); room = sound-64 s; held = s .held }; follows = λ old f. f },
     )
 
@@ -83,10 +71,10 @@ returns-4 c =
     let w = c .before .before in
     let n = w .before .before in
     let a = n .before .before .before .before .before .before .before in
-    let s = a .pre .2 in
+    let s = a .pre .1 in
     let action = not-false (a .args .action) (c .if3 .left) in
-    let left = ltb-true (a .args .state .reading .names .count) (a .args .state .reading .fluents + 8) (rw action at (place (n .before .before))) in (
-      rw (place (n .before .before), ← n .is-new .ensures, not-false (n .is-new .result) (w .before .if2 .left), w .with-name .ensures .1 _, action),
+    let left = ltb-true (a .args .state .reading .names .count) (a .args .state .reading .fluents + 8) (rw action at (place (n .before))) in (
+      rw (place (n .before), ← n .is-new .ensures, not-false (n .is-new .result) (w .before .if2 .left), w .with-name .ensures .1 _, ← a .pre .0, action),
       record { sound = record { time = s .time; few = s .few; declared = omega (arith, w .with-name .ensures .0, s .declared); actions = omega (arith, w .with-name .ensures .0); room = sound-64 s; held = s .held }; follows = λ old f. f },
     )
 
@@ -97,13 +85,9 @@ name-line-spec =
     has-place-requires
     refused-requires
     returns
-    sub-is-new
-    part-is-new-start
-    part-is-new-end
     is-new-requires
     refused-requires-2
     returns-2
-    sub-with-name
     with-name-requires
     add-reading
     returns-3

@@ -6,21 +6,12 @@ use borrow.Author.Needs.{needs}
 use Rattle.description_reader.proofs.steps.other_line.Statement.{statement}
 use Rattle.description_reader.proofs.steps.other_line.Tie as tie
 
-sub-horizon-line : tie.Need-sub-horizon-line
-sub-horizon-line c = search needs
-
-part-horizon-line-start : tie.Need-part-horizon-line-start
-part-horizon-line-start c = search needs
-
-part-horizon-line-end : tie.Need-part-horizon-line-end
-part-horizon-line-end c = search needs
-
 horizon-line-requires : tie.Need-horizon-line-requires
 horizon-line-requires c κs = search needs
 
 returns : tie.Need-returns
 returns c =
-    (rw (eq-eqb _ _ (c .before .before .if1 .taken)) (c .horizon-line .ensures .0 _), c .horizon-line .ensures .1)
+    (rw (eq-eqb _ _ (c .before .if1 .taken)) (c .horizon-line .ensures .0 _), c .horizon-line .ensures .1)
 
 name-line-requires : tie.Need-name-line-requires
 name-line-requires c κs = search needs
@@ -54,32 +45,20 @@ returns-5 c =
     let d = e .before .before in
     (rw (ne-eqb _ _ (d .before .if1 .left), ne-eqb _ _ (d .if2 .left), ne-eqb _ _ (e .before .if3 .left), ne-eqb _ _ (e .if4 .left), eq-eqb _ _ (c .before .if5 .taken)) (c .law-line2 .ensures .0), c .law-line2 .ensures .1)
 
-sub-end-line : tie.Need-sub-end-line
-sub-end-line c = search needs
-
-part-end-line-start : tie.Need-part-end-line-start
-part-end-line-start c = search needs
-
-part-end-line-end : tie.Need-part-end-line-end
-part-end-line-end c = search needs
-
 end-line-requires : tie.Need-end-line-requires
 end-line-requires c κs = search needs
 
 returns-6 : tie.Need-returns-6
 returns-6 c =
-    let e = c .before .before .before in
+    let e = c .before .before in
     let d = e .before .before in
-    let p = d .before .before .before .pre .1 in
-    (rw (ne-eqb _ _ (d .before .if1 .left), ne-eqb _ _ (d .if2 .left), ne-eqb _ _ (e .before .if3 .left), ne-eqb _ _ (e .if4 .left), ne-eqb _ _ (c .before .before .if5 .left), ne-eqb _ _ (p .0), ne-eqb _ _ (p .1)) (c .end-line .ensures .0 _), c .end-line .ensures .1)
+    let p = d .before .before .before .before .pre .1 in
+    (rw (ne-eqb _ _ (d .before .if1 .left), ne-eqb _ _ (d .if2 .left), ne-eqb _ _ (e .before .if3 .left), ne-eqb _ _ (e .if4 .left), ne-eqb _ _ (c .before .if5 .left), ne-eqb _ _ (p .0), ne-eqb _ _ (p .1)) (c .end-line .ensures .0 _), c .end-line .ensures .1)
 
 pub other-line-spec : {M : Type 1} → statement M
 other-line-spec =
     tie.close
     (tie.spec
-    sub-horizon-line
-    part-horizon-line-start
-    part-horizon-line-end
     horizon-line-requires
     returns
     name-line-requires
@@ -90,8 +69,5 @@ other-line-spec =
     returns-4
     law-line-requires-2
     returns-5
-    sub-end-line
-    part-end-line-start
-    part-end-line-end
     end-line-requires
     returns-6)

@@ -7,6 +7,7 @@ use native.Mathlib.Omega.{arith}
 use lib.ListN.{length, take, drop, getD}
 use Rattle.search.proofs.Loops.{rest-done}
 use Rattle.translation.proofs.Counts.{lawWordsOf, rule-count, word-count}
+use Rattle.translation.proofs.RuleWords.{by-kind-bound}
 use Rattle.translation.proofs.Sums.{Counted, past, sum-turn, law-words, ruleTimes, rules-sum}
 use Rattle.translation.proofs.Writing.{product-bound}
 use Rattle.translation.proofs.sizes.sizes_needed.Statement.{statement}
@@ -44,17 +45,27 @@ mul-law c = omega arith
 array-copy-out-law : tie.Need-array-copy-out-law Inv-loop μ-loop
 array-copy-out-law c = omega arith
 
-rules-of-requires : tie.Need-rules-of-requires Inv-loop μ-loop
-rules-of-requires c κs = omega arith
+add-by-kind : tie.Need-add-by-kind Inv-loop μ-loop
+add-by-kind c = omega arith
+
+by-kind-requires : tie.Need-by-kind-requires Inv-loop μ-loop
+by-kind-requires c κs = tt
+
+few : (c : tie.After-by-kind Inv-loop μ-loop) → c .by-kind .result ≤ 31
+few c =
+    let h = c .before .before .before in
+    let a = h .before .before .before .args in
+    let d = a .d in
+    omega (arith, c .by-kind .ensures, by-kind-bound (d .horizon + 1) (d .horizon) 31 (getD (a .t2) (h .loop .i) past .kind) (omega arith) (omega arith))
 
 add-rules : tie.Need-add-rules Inv-loop μ-loop
-add-rules c = omega (arith, bound (c .before .before .before .before .before .before))
+add-rules c = omega (arith, few c, bound (c .before .before .before .before .before .before))
 
 rule-size-requires : tie.Need-rule-size-requires Inv-loop μ-loop
-rule-size-requires c κs = omega arith
+rule-size-requires c κs = tt
 
-most : (c : tie.After-rule-size Inv-loop μ-loop) → c .before .rules-of .result * c .rule-size .result ≤ 31 * 15
-most c = product-bound _ _ 31 15 (c .before .rules-of .ensures .1) (c .rule-size .ensures .1)
+most : (c : tie.After-rule-size Inv-loop μ-loop) → c .before .by-kind .result * c .rule-size .result ≤ 31 * 15
+most c = product-bound _ _ 31 15 (few (c .before)) (c .rule-size .ensures .1)
 
 mul-words-2 : tie.Need-mul-words-2 Inv-loop μ-loop
 mul-words-2 c = omega (arith, most c)
@@ -73,11 +84,11 @@ loop-again c =
     let h = c .before .before .before .before in
     let a = h .before .before .before .args in
     let d = a .d in
-    let times = c .before .rules-of .ensures .0 in
+    let times = c .before .by-kind .ensures in
     let words = law-words (d .horizon) (getD (a .t2) (h .loop .i) past) times (c .rule-size .ensures .0) in (
       omega arith,
       h .loop .inv .1,
-      omega arith,
+      omega (arith, few (c .before)),
       omega (arith, most c),
       sum-turn (ruleTimes (d .horizon)) (a .t2) past (d .laws) (h .loop .i) (h .loop .rules) _ (omega arith) (omega arith) times (h .loop .inv .4),
       sum-turn (lawWordsOf (d .horizon)) (a .t2) past (d .laws) (h .loop .i) (h .loop .words) _ (omega arith) (omega arith) words (h .loop .inv .5),
@@ -109,7 +120,8 @@ sizes-needed-spec =
     loop-holds
     mul-law
     array-copy-out-law
-    rules-of-requires
+    add-by-kind
+    by-kind-requires
     add-rules
     rule-size-requires
     mul-words-2

@@ -6,6 +6,15 @@ use Rattle.translation.specs.Rules.{complement}
 use Rattle.translation.proofs.writers.part_word.Statement.{statement}
 use Rattle.translation.proofs.writers.part_word.Tie as tie
 
+array-read-wide : tie.Need-array-read-wide
+array-read-wide c = search needs
+
+wide-requires : tie.Need-wide-requires
+wide-requires c κs = search needs
+
+add-code : tie.Need-add-code
+add-code c = search needs
+
 add-result : tie.Need-add-result
 add-result c = search needs
 
@@ -23,19 +32,22 @@ cast-result-3 c = search needs
 
 returns : tie.Need-returns
 unfolding complement
-returns c = rw (c .before .if1 .taken, eq-eqb _ 0 (c .if2 .taken))
+returns c = rw (c .before .if1 .taken, ← c .before .before .wide .ensures .0, eq-eqb _ 0 (c .if2 .taken))
 
 returns-2 : tie.Need-returns-2
 unfolding complement
-returns-2 c = rw (c .before .if1 .taken, ne-eqb _ 0 (c .if2 .left))
+returns-2 c = rw (c .before .if1 .taken, ← c .before .before .wide .ensures .0, ne-eqb _ 0 (c .if2 .left))
 
 returns-3 : tie.Need-returns-3
-returns-3 c = rw (c .if1 .left)
+returns-3 c = rw (c .if1 .left, c .before .wide .ensures .0)
 
 pub part-word-spec : {M : Type 1} → statement M
 part-word-spec =
     tie.close
     (tie.spec
+    array-read-wide
+    wide-requires
+    add-code
     add-result
     cast-result
     sub-result

@@ -1,56 +1,77 @@
--- `write_choices` meets its contract. The invariant: the words of the atoms not yet passed are left for the table.
+-- `write_choices` meets its contract. The invariant: the words from place i on are left for the table.
 -- Assumes nothing.
-use mathlib.Core.List.{[], _∷_}
-use mathlib.Core.Path.{_≡_, refl}
-use Prim.Native.Nat.{ℕ, _+_, _-_, _<_}
+use mathlib.Core.Path.{_≡_, sym, ap, _∙_}
+use Prim.Native.Nat.{ℕ, _*_, _-_, _<_}
 use native.Mathlib.Omega.{arith}
+use lib.ListN.{length}
 use Rattle.search.specs.Search.{range}
+use Rattle.search.proofs.Tests.{length-range}
 use Rattle.answer_sets.specs.Words.{words}
 use Rattle.translation.specs.Rules.{choices}
-use Rattle.translation.proofs.Turns.{Turns, counted, Before, starts, fits, turned, finished}
+use Rattle.translation.proofs.Counts.{length-words-choices}
+use Rattle.translation.proofs.RuleWords.{choices-at}
+use Rattle.translation.proofs.Writing.{Storing, storing-first, storing-next, storing-last}
 use Rattle.translation.proofs.writers.write_choices.Statement.{statement}
 use Rattle.translation.proofs.writers.write_choices.Tie as tie
 
-abbrev turns : (end : ℕ) → Turns (λ atom. atom < end) end
-turns = counted (λ atom j. words (choices (range atom j))) (λ atom. words (choices (atom ∷ []))) (λ atom. refl) (λ atom j. refl)
+size : (first count : ℕ) → length (words (choices (range first count))) ≡ 8 * count
+size first count = length-words-choices (range first count) ∙ ap (λ k. 8 * k) (length-range first count)
 
 abbrev Inv-loop : tie.InvT-loop
-Inv-loop table₀ at first count end place₀ atom₀ table place atom =
-    Before (turns end) atom table place table₀ at (words (choices (range first count)))
+Inv-loop table₀ at first count size i₀ table i = Storing (words (choices (range first count))) table₀ at table i
 
 abbrev μ-loop : tie.MeasureT-loop
-μ-loop table₀ at first count end place₀ atom₀ table place atom = end - atom
+μ-loop table₀ at first count size i₀ table i = size - i
 
-add-end : tie.Need-add-end Inv-loop μ-loop
-add-end c = omega arith
+mul-size : tie.Need-mul-size Inv-loop μ-loop
+mul-size c = omega arith
 
 loop-holds : tie.Need-loop-holds Inv-loop μ-loop
-loop-holds c =
-    let a = c .before .args in
-    let e : a .first + a .count - a .first ≡ a .count = omega arith in
-    starts _ _ _ _ _ (rw e)
+loop-holds c = storing-first _ _ _
 
-write-choice-requires : tie.Need-write-choice-requires Inv-loop μ-loop
-write-choice-requires c κs =
-    let h = c .before .before in (omega arith, fits (h .loop .inv) (c .before .loop-test .taken) (h .before .before .pre .1))
+add-choice-word : tie.Need-add-choice-word Inv-loop μ-loop
+add-choice-word c = omega arith
 
-add-atom : tie.Need-add-atom Inv-loop μ-loop
-add-atom c = omega arith
+choice-word-requires : tie.Need-choice-word-requires Inv-loop μ-loop
+choice-word-requires c κs = omega arith
+
+-- there is room for what a turn stores
+room : (c : tie.In-loop Inv-loop μ-loop) → let a = c .before .before .before .args in length (words (choices (range (a .first) (a .count)))) ≡ 8 * a .count
+room c = let a = c .before .before .before .args in size (a .first) (a .count)
+
+add-table : tie.Need-add-table Inv-loop μ-loop
+add-table c = omega (arith, room (c .before))
+
+mul-table : tie.Need-mul-table Inv-loop μ-loop
+mul-table c = omega (arith, room (c .before))
+
+slice-write-table : tie.Need-slice-write-table Inv-loop μ-loop
+slice-write-table c = omega (arith, room (c .before))
+
+add-i : tie.Need-add-i Inv-loop μ-loop
+add-i c = omega arith
 
 loop-less : tie.Need-loop-less Inv-loop μ-loop
 loop-less c = omega arith
 
 loop-again : tie.Need-loop-again Inv-loop μ-loop
 loop-again c =
-    let w = c .before .before in
-    let h = w .before .before in
-    turned (h .before .loop .inv) (h .loop-test .taken) (w .write-choice .ensures .0) (w .write-choice .ensures .1)
+    let h = c .before .before in
+    let a = h .before .before .args in
+    storing-next (h .loop .inv) (omega (arith, room (c .before)))
+    (c .choice-word .ensures ∙ sym (choices-at (a .first) (a .count) (h .loop .i) (omega arith)))
+
+add-result : tie.Need-add-result Inv-loop μ-loop
+add-result c = let a = c .before .before .before .args in omega (arith, size (a .first) (a .count))
 
 same-length : tie.Need-same-length Inv-loop μ-loop
-same-length c = c .before .loop .inv .rest .as-long
+same-length c = c .before .loop .inv .as-long
 
 returns : tie.Need-returns Inv-loop μ-loop
-returns c = finished (c .before .loop .inv) (c .loop-test .left)
+returns c =
+    let a = c .before .before .before .args in
+    let s = size (a .first) (a .count) in
+    (omega (arith, s), storing-last (c .before .loop .inv) (omega (arith, s)))
 
 pub write-choices-spec : {M : Type 1} → statement M
 write-choices-spec =
@@ -58,11 +79,16 @@ write-choices-spec =
     (tie.spec
     Inv-loop
     μ-loop
-    add-end
+    mul-size
     loop-holds
-    write-choice-requires
-    add-atom
+    add-choice-word
+    choice-word-requires
+    add-table
+    mul-table
+    slice-write-table
+    add-i
     loop-less
     loop-again
+    add-result
     same-length
     returns)

@@ -1,6 +1,5 @@
 -- `write_laws` meets its contract. The invariant: the words of the laws not yet passed are left for the table.
 -- Assumes nothing.
-use mathlib.Core.Bool.{Bool, cond}
 use mathlib.Core.List.{List}
 use mathlib.Core.Path.{_≡_, refl}
 use Prim.Native.Nat.{ℕ, _-_, _<_, _≤_}
@@ -11,15 +10,14 @@ use Rattle.answer_sets.specs.Words.{words}
 use Rattle.search.proofs.Loops.{rest-cons, rest-done}
 use Rattle.description.specs.declared.Kind.{Kind}
 use Rattle.description.specs.declared.Law.{Law}
-use Rattle.translation.specs.Rules.{staticRules, dynamicRules, perLaw}
+use Rattle.translation.specs.Rules.{perLaw}
+use Rattle.translation.specs.Internal.{rulesOf}
 use Rattle.translation.proofs.Counts.{words-append}
+use Rattle.translation.proofs.RuleWords.{by-kind-bound}
 use Rattle.translation.proofs.Sums.{past}
 use Rattle.translation.proofs.Turns.{Turns, Before, starts, fits, turned, finished}
 use Rattle.translation.proofs.writers.write_laws.Statement.{statement}
 use Rattle.translation.proofs.writers.write_laws.Tie as tie
-
-abbrev rules : ℕ → ℕ → Bool → Kind → Law → List Rule
-rules n horizon dynamic = cond dynamic (dynamicRules n horizon) (staticRules n horizon)
 
 abbrev turns : (Kind → Law → List Rule) → (laws : List Law) (count : ℕ) → Turns (λ i. (i < count) × (count ≤ length laws)) count
 turns f laws count =
@@ -31,11 +29,11 @@ turns f laws count =
     }
 
 abbrev Inv-loop : tie.InvT-loop
-Inv-loop table₀ at count n horizon dynamic laws place₀ i₀ table place i =
-    (length laws ≡ 64) × Before (turns (rules n horizon dynamic) laws count) i table place table₀ at (words (perLaw (rules n horizon dynamic) (take count laws)))
+Inv-loop table₀ at count n static dynamic laws place₀ i₀ table place i =
+    (length laws ≡ 64) × Before (turns (rulesOf n static dynamic) laws count) i table place table₀ at (words (perLaw (rulesOf n static dynamic) (take count laws)))
 
 abbrev μ-loop : tie.MeasureT-loop
-μ-loop table₀ at count n horizon dynamic laws place₀ i₀ table place i = count - i
+μ-loop table₀ at count n static dynamic laws place₀ i₀ table place i = count - i
 
 loop-holds : tie.Need-loop-holds Inv-loop μ-loop
 loop-holds c = (c .before .good .1 .1 .0 .1 .0 .1, starts _ _ _ _ _ refl)
@@ -46,10 +44,18 @@ mul-law c = omega arith
 array-copy-out-law : tie.Need-array-copy-out-law Inv-loop μ-loop
 array-copy-out-law c = omega arith
 
-write-law-requires : tie.Need-write-law-requires Inv-loop μ-loop
-write-law-requires c κs =
-    let h = c .before .before .before in
-    (omega arith, fits (h .loop .inv .1) (c .before .before .loop-test .taken, omega arith) (h .before .before .pre .1))
+by-kind-requires : tie.Need-by-kind-requires Inv-loop μ-loop
+by-kind-requires c κs = tt
+
+write-times-requires : tie.Need-write-times-requires Inv-loop μ-loop
+write-times-requires c κs =
+    let b = c .before in
+    let h = b .before .before .before in
+    let a = h .before .before .args in
+    let few = by-kind-bound (a .static-times) (a .dynamic-times) 31 (getD (a .t3) (h .loop .i) past .kind) (omega arith) (omega arith) in (
+      (omega arith, omega (arith, b .by-kind .ensures, few)),
+      rw (b .by-kind .ensures) (fits (h .loop .inv .1) (b .before .before .loop-test .taken, omega arith) (h .before .before .pre .1)),
+    )
 
 add-i : tie.Need-add-i Inv-loop μ-loop
 add-i c = omega arith
@@ -60,9 +66,11 @@ loop-less c = omega arith
 loop-again : tie.Need-loop-again Inv-loop μ-loop
 loop-again c =
     let w = c .before .before in
-    let h = w .before .before .before in
+    let b = w .before .before in
+    let h = b .before .before in
     let inv = h .before .loop .inv in
-    (inv .0, turned (inv .1) (h .loop-test .taken, omega arith) (w .write-law .ensures .0) (w .write-law .ensures .1))
+    let wrote = rw (b .by-kind .ensures) at (w .write-times .ensures) in
+    (inv .0, turned (inv .1) (h .loop-test .taken, omega arith) (wrote .0) (wrote .1))
 
 same-length : tie.Need-same-length Inv-loop μ-loop
 same-length c = c .before .loop .inv .1 .rest .as-long
@@ -79,7 +87,8 @@ write-laws-spec =
     loop-holds
     mul-law
     array-copy-out-law
-    write-law-requires
+    by-kind-requires
+    write-times-requires
     add-i
     loop-less
     loop-again

@@ -1,80 +1,84 @@
--- `write_rule` meets its contract. Three runs of stores, one behind the other, are the stores of the rule.
+-- `write_rule` meets its contract. The invariant: the words from place i on are left for the table.
 -- Assumes nothing.
+use Prim.Native.Nat.{_-_, _<_}
 use native.Mathlib.Omega.{arith}
-use lib.ListN.{take}
-use borrow.Author.Needs.{needs}
-use Rattle.description.specs.Laws.{ifList}
-use Rattle.translation.specs.Rules.{complement, headAt, atTime}
-use Rattle.translation.proofs.Writing.{rule-stores}
+use lib.ListN.{length}
+use Rattle.answer_sets.specs.Words.{ruleWords}
+use Rattle.translation.specs.Internal.{ruleFor}
+use Rattle.translation.proofs.RuleWords.{rule-length}
+use Rattle.translation.proofs.Writing.{Storing, storing-first, storing-next, storing-last}
 use Rattle.translation.proofs.writers.write_rule.Statement.{statement}
 use Rattle.translation.proofs.writers.write_rule.Tie as tie
 
-listed-requires : tie.Need-listed-requires
-listed-requires c κs = search needs
+abbrev Inv-loop : tie.InvT-loop
+Inv-loop table₀ at law n t size i₀ table i = Storing (ruleWords (ruleFor n (law .kind) law t)) table₀ at table i
 
-cast-negated : tie.Need-cast-negated
-cast-negated c = search needs
+abbrev μ-loop : tie.MeasureT-loop
+μ-loop table₀ at law n t size i₀ table i = size - i
 
-listed-requires-2 : tie.Need-listed-requires-2
-listed-requires-2 c κs = search needs
+-- a turn stores a word of the rule
+in-rule : (c : tie.In-loop Inv-loop μ-loop) → let h = c .before in let a = h .before .before .before .args in
+    h .loop .i < length (ruleWords (ruleFor (a .n) (a .law .kind) (a .law) (a .t)))
+in-rule c =
+    let a = c .before .before .before .before .args in
+    omega (arith, rule-length (a .n) (a .law) (a .t))
 
-cast-plains : tie.Need-cast-plains
-cast-plains c = search needs
+rule-size-requires : tie.Need-rule-size-requires Inv-loop μ-loop
+rule-size-requires c κs = tt
 
-head-word-requires : tie.Need-head-word-requires
-head-word-requires c κs = search needs
+loop-holds : tie.Need-loop-holds Inv-loop μ-loop
+loop-holds c = storing-first _ _ _
 
-write-start-requires : tie.Need-write-start-requires
-write-start-requires c κs = search needs
+rule-word-requires : tie.Need-rule-word-requires Inv-loop μ-loop
+rule-word-requires c κs = (omega arith, omega arith, in-rule c)
 
-shift-requires : tie.Need-shift-requires
-shift-requires c κs = search needs
+add-table : tie.Need-add-table Inv-loop μ-loop
+add-table c = omega (arith, in-rule (c .before))
 
-write-codes-requires : tie.Need-write-codes-requires
-write-codes-requires c κs = search needs
+mul-table : tie.Need-mul-table Inv-loop μ-loop
+mul-table c = omega (arith, in-rule (c .before))
 
-shift-requires-2 : tie.Need-shift-requires-2
-shift-requires-2 c κs = search needs
+slice-write-table : tie.Need-slice-write-table Inv-loop μ-loop
+slice-write-table c = omega (arith, in-rule (c .before))
 
-write-codes-requires-2 : tie.Need-write-codes-requires-2
-write-codes-requires-2 c κs = search needs
+add-i : tie.Need-add-i Inv-loop μ-loop
+add-i c = omega arith
 
-same-length : tie.Need-same-length
-same-length c = search needs
+loop-less : tie.Need-loop-less Inv-loop μ-loop
+loop-less c = omega arith
 
-returns : tie.Need-returns
+loop-again : tie.Need-loop-again Inv-loop μ-loop
+loop-again c = storing-next (c .before .before .loop .inv) (in-rule (c .before)) (c .rule-word .ensures)
+
+add-result : tie.Need-add-result Inv-loop μ-loop
+add-result c =
+    let a = c .before .before .before .before .args in
+    omega (arith, rule-length (a .n) (a .law) (a .t))
+
+same-length : tie.Need-same-length Inv-loop μ-loop
+same-length c = c .before .loop .inv .as-long
+
+returns : tie.Need-returns Inv-loop μ-loop
 returns c =
-    let codes2 = c .before .before in
-    let codes = codes2 .before .before .before .before .before in
-    let start = codes .before .before .before .before .before in
-    let lists = start .before .before .before in
-    let a = lists .before .before .before .before .before .args in (
-      omega arith,
-      rule-stores (a .table .now) (a .at) (headAt (a .n) (a .new) (a .law .head))
-          (λ k. complement (atTime (a .n) (a .new) k)) (atTime (a .n) (a .old)) (ifList (a .law)) (take (a .plain) (a .law .«after_codes»))
-          (start .before .head-word .ensures)
-          (lists .before .listed .ensures .0)
-          (lists .listed2 .ensures .0)
-          (start .write-start .ensures .1)
-          (start .write-start .ensures .0)
-          (rw (codes .before .shift .ensures .0) at (codes .write-codes .ensures .1))
-          (codes .write-codes .ensures .0)
-          (rw (codes2 .before .shift2 .ensures .0) at (codes2 .write-codes2 .ensures .1)),
-    )
+    let a = c .before .before .before .before .args in
+    let size = rule-length (a .n) (a .law) (a .t) in
+    (omega (arith, size), storing-last (c .before .loop .inv) (omega (arith, size)))
 
 pub write-rule-spec : {M : Type 1} → statement M
 write-rule-spec =
     tie.close
     (tie.spec
-    listed-requires
-    cast-negated
-    listed-requires-2
-    cast-plains
-    head-word-requires
-    write-start-requires
-    shift-requires
-    write-codes-requires
-    shift-requires-2
-    write-codes-requires-2
+    Inv-loop
+    μ-loop
+    rule-size-requires
+    loop-holds
+    rule-word-requires
+    add-table
+    mul-table
+    slice-write-table
+    add-i
+    loop-less
+    loop-again
+    add-result
     same-length
     returns)

@@ -37,7 +37,7 @@ fits s = omega arith
 
 -- the function's start, from behind each pass
 abbrev from₁ : tie.After-write-laws → tie.Start
-from₁ c = c .before .before .before .before
+from₁ c = c .before .before .before .before .before
 
 abbrev from₂ : tie.After-write-laws2 → tie.Start
 from₂ c = from₁ (c .before .before .before .before)
@@ -75,9 +75,12 @@ left₄ c =
 add-n : tie.Need-add-n
 add-n c = search needs
 
+add-write-laws : tie.Need-add-write-laws
+add-write-laws c = omega arith
+
 write-laws-requires : tie.Need-write-laws-requires
 write-laws-requires c κs =
-    let s = c .before .before .before in (omega arith, room (left₀ s) (front (static s) (dynamic s ++ choice s)) (fits s))
+    let s = c .before .before .before .before in (omega arith, room (left₀ s) (front (static s) (dynamic s ++ choice s)) (fits s))
 
 write-laws-requires-2 : tie.Need-write-laws-requires-2
 write-laws-requires-2 c κs =
@@ -105,6 +108,7 @@ write-table-spec =
     tie.close
     (tie.spec
     add-n
+    add-write-laws
     write-laws-requires
     write-laws-requires-2
     write-choices-requires

@@ -1,0 +1,40 @@
+-- What the description reader takes is accepted: the record and the laws that it leaves are refused neither by 8 nor by 3, and
+-- each law record is tidy.
+-- Assumes nothing.
+use mathlib.Core.Path.{_≡_}
+use mathlib.Core.List.{List, [], _++_}
+use mathlib.Core.Option.{none}
+use Prim.Native.Nat.{ℕ, min, _≤_}
+use lib.ListN.{length}
+use Rattle.search.specs.Search.{Each}
+use Rattle.search.specs.Replies.{answered}
+use Rattle.description.specs.declared.Kind.{Kind}
+use Rattle.description.specs.declared.Kind.the-variants.{Static, Dynamic}
+use Rattle.description.specs.declared.Law.{Law}
+use Rattle.description.specs.Laws.{ifList, afterList, lawOf}
+use Rattle.description.specs.Acceptance.{badRecord, badHorizon}
+use Rattle.description_reader.specs.LineSteps.{Draft}
+use Rattle.description_reader.specs.Descriptions.{read, described, descriptionOf}
+
+-- a static law's after-list is empty
+abbrev pub aftersOf : Kind → Law → List ℕ
+aftersOf Static l = []
+aftersOf Dynamic l = afterList l
+
+-- a law record as the reader leaves it: each list's codes, then 0; in a static law the after-list's count and places are 0 too
+abbrev pub Tidy : Law → Type 0
+Tidy l = l ≡ lawOf (l .kind) (l .head) (ifList l) (aftersOf (l .kind) l)
+
+pub record Accepted (lent : ℕ) (d : Draft) : Type 0 where
+  -- at most 64 laws, and no more than are lent
+  pub few : length (d .laws) ≤ min 64 lent
+  -- refusal 8: of every run that begins with the laws read, whatever stands behind them, where at least as many are lent
+  pub fits : (old : List Law) (room : ℕ) → length (d .laws) ≤ room → badRecord (descriptionOf d) (d .laws ++ old) room ≡ none
+  -- refusal 3
+  pub time : badHorizon (d .horizon) ≡ none
+  pub tidy : Each Tidy (d .laws)
+
+-- for every text that the reader takes, whatever number of laws is lent
+abbrev pub TakenAccepted : Type 0
+TakenAccepted =
+    (lent : ℕ) (text : List ℕ) (d : Draft) (rest : List ℕ) (lines : ℕ) → described lent text ≡ answered (read d rest lines) → Accepted lent d

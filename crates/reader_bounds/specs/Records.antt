@@ -1,0 +1,27 @@
+-- What the history reader takes is one value, 0 to 3, for each atom of the description.
+-- Assumes nothing.
+use mathlib.Core.Path.{_≡_}
+use mathlib.Core.List.{List}
+use Prim.Native.Nat.{ℕ, _≤_}
+use lib.ListN.{length}
+use Rattle.search.specs.Search.{Each}
+use Rattle.search.specs.Replies.{answered}
+use Rattle.description_reader.specs.LineSteps.{Draft}
+use Rattle.description_reader.specs.Descriptions.{read, described}
+use Rattle.history_reader.specs.Histories.{atoms, readHistory}
+
+pub record Valued (description : List ℕ) (room : ℕ) (values : List ℕ) : Type 0 where
+  -- the description that the names are taken from
+  pub draft : Draft
+  pub rest : List ℕ
+  pub lines : ℕ
+  pub is : described 64 description ≡ answered (read draft rest lines)
+  -- as many values as atoms, in a buffer of that length
+  pub fills : room ≡ atoms draft
+  pub count : length values ≡ atoms draft
+  -- 0 none, 1 true, 2 false, 3 both
+  pub each : Each (λ v. v ≤ 3) values
+
+-- for every history that the reader takes
+abbrev pub TakenValued : Type 0
+TakenValued = (description text : List ℕ) (room : ℕ) (values : List ℕ) → readHistory description text room ≡ answered values → Valued description room values

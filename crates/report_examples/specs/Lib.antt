@@ -1,2 +1,0 @@
--- Example outputs as bytes.
-pub mod Examples

@@ -1,1 +1,0 @@
-// Worked examples of what the program prints: theorems, and no function.

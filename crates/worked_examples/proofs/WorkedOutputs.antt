@@ -1,0 +1,30 @@
+-- What the program prints for the example texts.
+-- Assumes nothing.
+use mathlib.Core.Path.{refl}
+use Rattle.search.specs.Search.{Each}
+use Rattle.answer_sets.specs.Literals.{setOf, holdsTrue, holdsFalse}
+use Rattle.answer_sets.specs.Verdicts.{verdict}
+use Rattle.answer_sets.specs.Words.{rulesOf, badRule}
+use Rattle.answer_sets.specs.Answers as engine
+use Rattle.description.specs.Acceptance.{badRecord, badHorizon}
+use Rattle.translation.specs.Rules.{complement, translation}
+use Rattle.translation.specs.Translated as translated
+use Rattle.history.specs.Checks as history
+use Rattle.causal.specs.Verdicts.{causalVerdict}
+use Rattle.causal.specs.Readings as causal
+use Rattle.text.specs.Bytes.{cut}
+use Rattle.text.specs.Lines.{keyNumber, firstLine}
+use Rattle.text.specs.Names.{isName, literal}
+use Rattle.text.specs.Lists.{items, listOf}
+use Rattle.description_reader.specs.LineSteps.{horizonOf, headOf, lineStep}
+use Rattle.description_reader.specs.Descriptions.{described}
+use Rattle.history_reader.specs.Histories.{readHistory}
+use Rattle.description_reader.specs.Shown.{shownFluent}
+use Rattle.inputs.specs.Inputs.{recordedIn}
+use Rattle.report.specs.Writing.{decimal}
+use Rattle.report.specs.Output.{output}
+use Rattle.worked_examples.specs.Worked.{Holds, outputExamples}
+
+pub output-examples : Each Holds outputExamples
+unfolding output decimal shownFluent engine.answer verdict rulesOf badRule setOf holdsTrue holdsFalse complement badRecord badHorizon translation translated.outcome history.checked causalVerdict causal.reading cut keyNumber firstLine isName literal items listOf horizonOf headOf lineStep described readHistory recordedIn
+output-examples = (refl, (refl, (refl, (refl, (refl, (refl, (refl, tt)))))))

@@ -1,0 +1,19 @@
+-- The worked examples by records and values hold.
+-- Assumes nothing.
+use mathlib.Core.Path.{_≡_, refl}
+use Rattle.search.specs.Search.{Each}
+use Rattle.answer_sets.specs.Literals.{setOf, holdsTrue, holdsFalse}
+use Rattle.answer_sets.specs.Verdicts.{verdict}
+use Rattle.answer_sets.specs.Words.{rulesOf, badRule}
+use Rattle.answer_sets.specs.Answers as engine
+use Rattle.description.specs.Acceptance.{badRecord, badHorizon}
+use Rattle.translation.specs.Rules.{complement, translation}
+use Rattle.translation.specs.Translated as translated
+use Rattle.history.specs.Checks as history
+use Rattle.causal.specs.Verdicts.{causalVerdict}
+use Rattle.causal.specs.Readings as causal
+use Rattle.worked_examples.specs.Worked.{Holds, recordExamples}
+
+pub record-examples : Each Holds recordExamples
+unfolding engine.answer verdict rulesOf badRule setOf holdsTrue holdsFalse complement badRecord badHorizon translation translated.outcome history.checked causalVerdict causal.reading
+record-examples = ((refl, refl), ((refl, refl), (refl, (refl, (refl, (refl, (refl, (refl, (refl, (refl, (refl, (refl, (refl, (refl, (refl, (refl, (refl, (refl, (refl, (refl, (refl, (refl, (refl, (refl, (refl, (refl, (refl, (refl, (refl, (refl, (refl, (refl, tt))))))))))))))))))))))))))))))))

@@ -1,0 +1,37 @@
+-- The worked examples by texts hold.
+-- Assumes nothing.
+use mathlib.Core.Path.{refl}
+use native.Mathlib.Omega.{arith}
+use Rattle.search.specs.Search.{Each}
+use Rattle.text.specs.Bytes.{cut}
+use Rattle.text.specs.Lines.{keyNumber, firstLine}
+use Rattle.text.specs.Names.{isName, literal}
+use Rattle.text.specs.Lists.{items, listOf}
+use Rattle.description_reader.specs.LineSteps.{horizonOf, headOf, lineStep}
+use Rattle.description_reader.specs.Descriptions.{described}
+use Rattle.history_reader.specs.Histories.{readHistory}
+use Rattle.written_form.specs.Writing.{descriptionText}
+use Rattle.written_form.specs.HistoryWriting.{valuesText}
+use Rattle.written_form.specs.Writable.{Writable}
+use Rattle.description.specs.Examples.{recipeLaws}
+use Rattle.worked_examples.specs.Worked.{Holds, textExamples, recipeFluents, recipeActions}
+
+recipe-writable : Writable 6 1 recipeFluents recipeActions recipeLaws
+unfolding isName
+recipe-writable = record {
+  horizon-from = omega arith;
+  horizon-to = omega arith;
+  some-fluent = omega arith;
+  few-fluents = omega arith;
+  few-actions = omega arith;
+  are-names = (refl, (refl, (refl, tt)));
+  distinct = ((refl, (refl, tt)), ((refl, tt), (tt, tt)));
+  few-laws = omega arith;
+  held-laws = omega arith;
+  laws-fit = (refl, (refl, (refl, (refl, (refl, (refl, tt))))));
+  laws-tidy = (refl, (refl, (refl, (refl, (refl, (refl, tt))))));
+}
+
+pub text-examples : Each Holds textExamples
+unfolding cut keyNumber firstLine isName literal items listOf horizonOf headOf lineStep described readHistory descriptionText valuesText
+text-examples = (refl, (refl, (refl, (refl, (refl, (refl, (refl, ((refl, recipe-writable), (refl, tt)))))))))

@@ -1,0 +1,110 @@
+-- The bytes that the program prints for the example texts, by 01's "One recipe in full" and its list of other histories.
+-- Assumes nothing.
+use mathlib.Core.List.{List, [], _∷_, _++_}
+use Prim.Native.Nat.{ℕ}
+
+-- the full recipe's counts, the first four lines of each output of its histories
+abbrev pub recipeCounts : List ℕ
+recipeCounts =
+    -- horizon=1
+    (104 ∷ 111 ∷ 114 ∷ 105 ∷ 122 ∷ 111 ∷ 110 ∷ 61 ∷ 49 ∷ 10 ∷ [])
+    -- atoms=5
+    ++ (97 ∷ 116 ∷ 111 ∷ 109 ∷ 115 ∷ 61 ∷ 53 ∷ 10 ∷ [])
+    -- rules=12
+    ++ (114 ∷ 117 ∷ 108 ∷ 101 ∷ 115 ∷ 61 ∷ 49 ∷ 50 ∷ 10 ∷ [])
+    -- words=53
+    ++ (119 ∷ 111 ∷ 114 ∷ 100 ∷ 115 ∷ 61 ∷ 53 ∷ 51 ∷ 10 ∷ [])
+
+-- what 01 prints for its full recipe
+abbrev pub passedOutput : List ℕ
+passedOutput =
+    recipeCounts
+    -- answer=passes
+    ++ (97 ∷ 110 ∷ 115 ∷ 119 ∷ 101 ∷ 114 ∷ 61 ∷ 112 ∷ 97 ∷ 115 ∷ 115 ∷ 101 ∷ 115 ∷ 10 ∷ [])
+    -- at=
+    ++ (97 ∷ 116 ∷ 61 ∷ 10 ∷ [])
+    -- causal=path
+    ++ (99 ∷ 97 ∷ 117 ∷ 115 ∷ 97 ∷ 108 ∷ 61 ∷ 112 ∷ 97 ∷ 116 ∷ 104 ∷ 10 ∷ [])
+    -- time=
+    ++ (116 ∷ 105 ∷ 109 ∷ 101 ∷ 61 ∷ 10 ∷ [])
+    -- item=
+    ++ (105 ∷ 116 ∷ 101 ∷ 109 ∷ 61 ∷ 10 ∷ [])
+
+-- M1 to M5
+abbrev pub m1Output : List ℕ
+m1Output =
+    recipeCounts
+    -- answer=broken
+    ++ (97 ∷ 110 ∷ 115 ∷ 119 ∷ 101 ∷ 114 ∷ 61 ∷ 98 ∷ 114 ∷ 111 ∷ 107 ∷ 101 ∷ 110 ∷ 10 ∷ [])
+    -- at=1
+    ++ (97 ∷ 116 ∷ 61 ∷ 49 ∷ 10 ∷ [])
+    -- causal=contradicted
+    ++ (99 ∷ 97 ∷ 117 ∷ 115 ∷ 97 ∷ 108 ∷ 61 ∷ 99 ∷ 111 ∷ 110 ∷ 116 ∷ 114 ∷ 97 ∷ 100 ∷ 105 ∷ 99 ∷ 116 ∷ 101 ∷ 100 ∷ 10 ∷ [])
+    -- time=1
+    ++ (116 ∷ 105 ∷ 109 ∷ 101 ∷ 61 ∷ 49 ∷ 10 ∷ [])
+    -- item=1
+    ++ (105 ∷ 116 ∷ 101 ∷ 109 ∷ 61 ∷ 49 ∷ 10 ∷ [])
+
+abbrev pub m2Output : List ℕ
+m2Output =
+    recipeCounts
+    -- answer=unfounded
+    ++ (97 ∷ 110 ∷ 115 ∷ 119 ∷ 101 ∷ 114 ∷ 61 ∷ 117 ∷ 110 ∷ 102 ∷ 111 ∷ 117 ∷ 110 ∷ 100 ∷ 101 ∷ 100 ∷ 10 ∷ [])
+    -- at=8
+    ++ (97 ∷ 116 ∷ 61 ∷ 56 ∷ 10 ∷ [])
+    -- causal=uncaused
+    ++ (99 ∷ 97 ∷ 117 ∷ 115 ∷ 97 ∷ 108 ∷ 61 ∷ 117 ∷ 110 ∷ 99 ∷ 97 ∷ 117 ∷ 115 ∷ 101 ∷ 100 ∷ 10 ∷ [])
+    -- time=1
+    ++ (116 ∷ 105 ∷ 109 ∷ 101 ∷ 61 ∷ 49 ∷ 10 ∷ [])
+    -- item=flowed
+    ++ (105 ∷ 116 ∷ 101 ∷ 109 ∷ 61 ∷ 102 ∷ 108 ∷ 111 ∷ 119 ∷ 101 ∷ 100 ∷ 10 ∷ [])
+
+abbrev pub m3Output : List ℕ
+m3Output =
+    recipeCounts
+    -- answer=unfounded
+    ++ (97 ∷ 110 ∷ 115 ∷ 119 ∷ 101 ∷ 114 ∷ 61 ∷ 117 ∷ 110 ∷ 102 ∷ 111 ∷ 117 ∷ 110 ∷ 100 ∷ 101 ∷ 100 ∷ 10 ∷ [])
+    -- at=7
+    ++ (97 ∷ 116 ∷ 61 ∷ 55 ∷ 10 ∷ [])
+    -- causal=uncaused
+    ++ (99 ∷ 97 ∷ 117 ∷ 115 ∷ 97 ∷ 108 ∷ 61 ∷ 117 ∷ 110 ∷ 99 ∷ 97 ∷ 117 ∷ 115 ∷ 101 ∷ 100 ∷ 10 ∷ [])
+    -- time=1
+    ++ (116 ∷ 105 ∷ 109 ∷ 101 ∷ 61 ∷ 49 ∷ 10 ∷ [])
+    -- item=locked
+    ++ (105 ∷ 116 ∷ 101 ∷ 109 ∷ 61 ∷ 108 ∷ 111 ∷ 99 ∷ 107 ∷ 101 ∷ 100 ∷ 10 ∷ [])
+
+abbrev pub m4Output : List ℕ
+m4Output =
+    recipeCounts
+    -- answer=missing
+    ++ (97 ∷ 110 ∷ 115 ∷ 119 ∷ 101 ∷ 114 ∷ 61 ∷ 109 ∷ 105 ∷ 115 ∷ 115 ∷ 105 ∷ 110 ∷ 103 ∷ 10 ∷ [])
+    -- at=1
+    ++ (97 ∷ 116 ∷ 61 ∷ 49 ∷ 10 ∷ [])
+    -- causal=none
+    ++ (99 ∷ 97 ∷ 117 ∷ 115 ∷ 97 ∷ 108 ∷ 61 ∷ 110 ∷ 111 ∷ 110 ∷ 101 ∷ 10 ∷ [])
+    -- time=
+    ++ (116 ∷ 105 ∷ 109 ∷ 101 ∷ 61 ∷ 10 ∷ [])
+    -- item=
+    ++ (105 ∷ 116 ∷ 101 ∷ 109 ∷ 61 ∷ 10 ∷ [])
+
+abbrev pub m5Output : List ℕ
+m5Output =
+    recipeCounts
+    -- answer=clash
+    ++ (97 ∷ 110 ∷ 115 ∷ 119 ∷ 101 ∷ 114 ∷ 61 ∷ 99 ∷ 108 ∷ 97 ∷ 115 ∷ 104 ∷ 10 ∷ [])
+    -- at=0
+    ++ (97 ∷ 116 ∷ 61 ∷ 48 ∷ 10 ∷ [])
+    -- causal=none
+    ++ (99 ∷ 97 ∷ 117 ∷ 115 ∷ 97 ∷ 108 ∷ 61 ∷ 110 ∷ 111 ∷ 110 ∷ 101 ∷ 10 ∷ [])
+    -- time=
+    ++ (116 ∷ 105 ∷ 109 ∷ 101 ∷ 61 ∷ 10 ∷ [])
+    -- item=
+    ++ (105 ∷ 116 ∷ 101 ∷ 109 ∷ 61 ∷ 10 ∷ [])
+
+-- an empty line behind the full recipe: bytes behind the end line of the history, in line 28 of the input
+abbrev pub behindOutput : List ℕ
+behindOutput =
+    -- refused=7
+    (114 ∷ 101 ∷ 102 ∷ 117 ∷ 115 ∷ 101 ∷ 100 ∷ 61 ∷ 55 ∷ 10 ∷ [])
+    -- place=28
+    ++ (112 ∷ 108 ∷ 97 ∷ 99 ∷ 101 ∷ 61 ∷ 50 ∷ 56 ∷ 10 ∷ [])
