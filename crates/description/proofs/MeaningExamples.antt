@@ -10,7 +10,16 @@ use Rattle.description.specs.declared.Law.{Law}
 use Rattle.description.specs.Meaning.{Interpretation, Same, Explained}
 use Rattle.description.specs.Examples.{doorLaws, waterLaws}
 use Rattle.description.specs.Acceptance.{badRecord, badHorizon}
-use Rattle.description.specs.MeaningExamples.{one, two, ShownBy, DoorExamples, WaterExamples, RecipeExamples, AcceptanceExamples, AtomExamples, DefinitionsHold}
+use Rattle.description.specs.MeaningExamples.{one, two, ShownBy, CausedExamples, DoorExamples, WaterExamples, RecipeExamples, AcceptanceExamples, AtomExamples, DefinitionsHold}
+
+caused-examples : CausedExamples
+caused-examples = record {
+  closes-by-itself = refl;
+  opens-by-itself = refl;
+  opened-and-closed = refl;
+  dries = refl;
+  reflowed-while-locked = refl;
+}
 
 -- the fluents of one and of two
 of-one : (I J : Interpretation) → I 0 ≡ J 0 → Same 1 I J
@@ -112,6 +121,7 @@ atom-examples = record {
 
 pub definitions-hold : DefinitionsHold
 definitions-hold = record {
+  caused = caused-examples;
   door = door-examples;
   water = water-examples;
   recipe = recipe-examples;

@@ -27,6 +27,15 @@ two p q f = cond (eqb f 0) p q
 abbrev pub ShownBy : ℕ → List Law → Interpretation → Interpretation → Interpretation → Interpretation → Type 0
 ShownBy n ls s a s′ I = SatisfiesAll I (caused n s a s′ ls) × (Same n I s′ → ⊥)
 
+-- what is caused: where the door closes by itself, where it would open by itself, where it is opened and closed; where the object
+-- would dry; where a locked story is reflowed
+pub record CausedExamples : Type 0 where
+  pub closes-by-itself : caused 1 (one false) (one false) (one true) doorLaws ≡ Lit 0 ∷ []
+  pub opens-by-itself : caused 1 (one true) (one false) (one false) doorLaws ≡ []
+  pub opened-and-closed : caused 1 (one true) (one true) (one true) doorLaws ≡ Lit 0 ∷ Lit 1 ∷ []
+  pub dries : caused 2 (two false true) (one false) (two false false) waterLaws ≡ Lit 1 ∷ []
+  pub reflowed-while-locked : caused 2 (two true false) (one true) (two true true) recipeLaws ≡ Lit 2 ∷ False ∷ Lit 0 ∷ []
+
 -- 000's (3): a state is closed or not, an action opens the door or not
 pub record DoorExamples : Type 0 where
   pub closed-is-state : State doorLaws (one true)
@@ -92,6 +101,7 @@ pub record AtomExamples : Type 0 where
   pub four-values : wrongLength 5 4 ≡ some 4
 
 pub record DefinitionsHold : Type 0 where
+  pub caused : CausedExamples
   pub door : DoorExamples
   pub water : WaterExamples
   pub recipe : RecipeExamples
