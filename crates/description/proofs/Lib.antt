@@ -1,4 +1,5 @@
--- The laws of descriptions that proofs above cite.
+-- The laws of descriptions that proofs above cite, and the worked examples.
 pub mod Laws
 pub mod Literals
 pub mod Fits
+pub mod MeaningExamples

@@ -4,3 +4,4 @@ pub mod Atoms
 pub mod Meaning
 pub mod Acceptance
 pub mod Examples
+pub mod MeaningExamples
