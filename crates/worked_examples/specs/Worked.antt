@@ -1,12 +1,11 @@
 -- Worked examples of all layers, gathered as one list: the full recipe and M1 to M10 with all that 01 prints of them, the
--- horizons at the limits, and the transitions of 000's two examples.
+-- horizons and tables at the limits, the transitions of 000's two examples, and the rules of the text format one by one.
 -- Assumes nothing.
 use mathlib.Core.Path.{_≡_}
 use mathlib.Core.Bool.{Bool, true, false}
 use mathlib.Core.List.{List, [], _∷_, _++_, map}
-use mathlib.Core.Option.{Option, none, some}
 use Prim.Native.Nat.{ℕ}
-use lib.ListN.{length}
+use lib.ListN.{length, replicate}
 use Rattle.search.specs.Search.{Each, chosen, tuples}
 use Rattle.search.specs.Replies.{Reply, refused, answered}
 use Rattle.answer_sets.specs.Verdicts.{Verdict, clash, broken, unfounded, passes}
@@ -14,8 +13,7 @@ use Rattle.answer_sets.specs.Answers as engine
 use Rattle.answer_sets.specs.Examples as engine-examples
 use Rattle.description.specs.declared.Law.{Law}
 use Rattle.description.specs.declared.Description.{Description}
-use Rattle.description.specs.Acceptance.{badHorizon}
-use Rattle.description.specs.Examples.{recipe, recipeLaws, doorLaws, waterLaws}
+use Rattle.description.specs.Examples.{recipe, recipeLaws, door, doorLaws, water, waterLaws, largest, largestLaws}
 use Rattle.translation.specs.Translated as translated
 use Rattle.translation.specs.Translated.{Written, written}
 use Rattle.history.specs.Checks as history
@@ -28,8 +26,10 @@ use Rattle.history_reader.specs.Histories.{readHistory}
 use Rattle.written_form.specs.Writing.{descriptionText}
 use Rattle.written_form.specs.HistoryWriting.{valuesText}
 use Rattle.written_form.specs.Writable.{Writable}
-use Rattle.report.specs.Output.{output}
-use Rattle.worked_examples.specs.Tables.{recipeTable}
+use Rattle.report.specs.Output.{room, output}
+use Rattle.huntyghai.specs.Codes.{coded, pair}
+use Rattle.worked_examples.specs.Tables.{recipeTable, doorTable1, doorTable2, waterTable1, waterTable2}
+use Rattle.worked_examples.specs.Program11.{program11, answerSets11, allValues, passing}
 use Rattle.worked_examples.specs.Texts.{recipeText, historyText, m1Text, m2Text, m3Text, m4Text, m5Text}
 use Rattle.worked_examples.specs.Outputs.{passedOutput, m1Output, m2Output, m3Output, m4Output, m5Output, behindOutput}
 
@@ -58,13 +58,23 @@ paths n m T ls vss = chosen (λ vs. isPath (causalVerdict n m T ls vs)) vss
 
 -- a worked example: what a definition says of something
 pub data Example : Type 0 where
+  -- values and a table
   engineSays : List ℕ → List ℕ → Reply Verdict → Example
-  translates : Description → List Law → ℕ → Reply Written → List ℕ → Example
+  -- of all sets over so many atoms, those that pass a table
+  passingAre : ℕ → List ℕ → List (List ℕ) → Example
+  -- a description, its laws, and the room in the table
+  translates : Description → List Law → ℕ → Reply Written → Example
+  -- the words that are written
+  tableIs : Description → List Law → List ℕ → Example
+  -- what the lent table holds before and after
+  tableLeft : Description → List Law → List ℕ → List ℕ → Example
+  -- the same for the history check and a set's values
   historySays : Description → List Law → List ℕ → Reply Finding → Example
+  historyLeaves : Description → List Law → List ℕ → List ℕ → List ℕ → Example
   causalSays : Description → List Law → List ℕ → Reply Causal → Example
-  horizonTaken : ℕ → Option ℕ → Example
+  -- of some lists of values, those that are paths
   pathsAre : ℕ → ℕ → ℕ → List Law → List (List ℕ) → List (List ℕ) → Example
-  -- a run of as many law records as the number is lent, a text, and what is read of it
+  -- a run of so many law records is lent, a text, and what is read of it
   reads : ℕ → List ℕ → Reply Taken → Example
   -- a description text, a history text, the room for values, and the values read
   readsHistory : List ℕ → List ℕ → ℕ → Reply (List ℕ) → Example
@@ -73,27 +83,42 @@ pub data Example : Type 0 where
   writesHistory : ℕ → List (List ℕ) → List (List ℕ) → List ℕ → List ℕ → Example
   -- an input of the program and what it prints
   prints : List ℕ → List ℕ → Example
+  -- a code with a value, and two numbers, as one number
+  codedAs : ℕ → ℕ → ℕ → Example
+  pairedAs : ℕ → ℕ → ℕ → Example
 
 abbrev pub Holds : Example → Type 0
 Holds (engineSays vs ws reply) = engine.answer vs ws ≡ reply
-Holds (translates d ls room outcome ws) = (translated.outcome d ls (length ls) room ≡ outcome) × (translated.tableFor d ls ≡ ws)
-Holds (historySays d ls vs reply) = history.checked d ls (length ls) vs 53 ≡ reply
+Holds (passingAre atoms ws vss) = passing ws (allValues atoms) ≡ vss
+Holds (translates d ls words reply) = translated.outcome d ls (length ls) words ≡ reply
+Holds (tableIs d ls ws) = translated.tableFor d ls ≡ ws
+Holds (tableLeft d ls before after) = translated.tableAfter d ls (length ls) before ≡ after
+Holds (historySays d ls vs reply) = history.checked d ls (length ls) vs room ≡ reply
+Holds (historyLeaves d ls vs before after) = history.tableAfter d ls (length ls) vs before ≡ after
 Holds (causalSays d ls vs reply) = causal.reading d ls (length ls) vs ≡ reply
-Holds (horizonTaken T place) = badHorizon T ≡ place
 Holds (pathsAre n m T ls vss expected) = paths n m T ls vss ≡ expected
 Holds (reads lent text reply) = described lent text ≡ reply
-Holds (readsHistory description text room reply) = readHistory description text room ≡ reply
+Holds (readsHistory description text values reply) = readHistory description text values ≡ reply
 Holds (writes T fluents actions ls text) = (descriptionText T fluents actions ls ≡ text) × Writable (length ls) T fluents actions ls
 Holds (writesHistory T fluents actions vs text) = valuesText T fluents actions vs ≡ text
 Holds (prints input bytes) = output input ≡ bytes
+Holds (codedAs code value number) = coded code value ≡ number
+Holds (pairedAs high low number) = pair high low ≡ number
 
 -- an engine example of the crate below
 abbrev pub fromEngine : engine-examples.Example → Example
 fromEngine e = engineSays (e .values) (e .table) (e .reply)
 
--- a history of the full recipe with both verdicts; the causal reading refuses values 0 and 3 by 11
+-- both verdicts on a history; the causal reading refuses values 0 and 3 by 11
+abbrev pub both : Description → List Law → List ℕ → Reply Finding → Reply Causal → List Example
+both d ls vs answer reading = historySays d ls vs answer ∷ causalSays d ls vs reading ∷ []
+
 abbrev pub ofRecipe : List ℕ → Reply Finding → Reply Causal → List Example
-ofRecipe vs answer reading = historySays recipe recipeLaws vs answer ∷ causalSays recipe recipeLaws vs reading ∷ []
+ofRecipe vs answer reading = both recipe recipeLaws vs answer reading
+
+-- the full recipe for another horizon
+abbrev pub recipeFor : ℕ → Description
+recipeFor T = record { fluents = 2; actions = 1; laws = 6; horizon = T }
 
 -- locked, flowed
 abbrev pub recipeFluents : List (List ℕ)
@@ -110,9 +135,11 @@ recipeDraft = record { horizon = 1; fluents = 2; names = recipeFluents ++ recipe
 -- by records and values
 abbrev pub recordExamples : List Example
 recordExamples =
-    -- the full recipe: its table, its verdicts
-    (translates recipe recipeLaws 53 (answered (written 5 12 53)) recipeTable ∷ [])
-    ++ (translates recipe recipeLaws 52 (refused 9 53) recipeTable ∷ [])
+    -- the full recipe: its table, what is left behind its words, its verdicts
+    (translates recipe recipeLaws 53 (answered (written 5 12 53)) ∷ translates recipe recipeLaws 52 (refused 9 53) ∷ [])
+    ++ (tableIs recipe recipeLaws recipeTable ∷ [])
+    ++ (tableLeft recipe recipeLaws (replicate 60 7) (recipeTable ++ replicate 7 7) ∷ [])
+    ++ (tableLeft recipe recipeLaws (replicate 52 7) (replicate 52 7) ∷ [])
     ++ ofRecipe (2 ∷ 2 ∷ 1 ∷ 2 ∷ 1 ∷ []) (answered (judged passes)) (answered path)
     -- M1
     ++ ofRecipe (1 ∷ 2 ∷ 1 ∷ 1 ∷ 1 ∷ []) (answered (judged (broken 1))) (answered (contradicted 1 1))
@@ -120,19 +147,55 @@ recordExamples =
     ++ ofRecipe (2 ∷ 2 ∷ 2 ∷ 2 ∷ 1 ∷ []) (answered (judged (unfounded 8))) (answered (uncaused 1 1))
     -- M3
     ++ ofRecipe (1 ∷ 2 ∷ 2 ∷ 2 ∷ 2 ∷ []) (answered (judged (unfounded 7))) (answered (uncaused 1 0))
-    -- M4
+    -- M4; the whole translation is left in the table after missing
     ++ ofRecipe (2 ∷ 0 ∷ 1 ∷ 2 ∷ 1 ∷ []) (answered (missing 1)) (refused 11 1)
-    -- M5
+    ++ (historyLeaves recipe recipeLaws (2 ∷ 0 ∷ 1 ∷ 2 ∷ 1 ∷ []) (replicate 60 7) (recipeTable ++ replicate 7 7) ∷ [])
+    -- M5; and after clash
     ++ ofRecipe (3 ∷ 2 ∷ 1 ∷ 2 ∷ 1 ∷ []) (answered (judged (clash 0))) (refused 11 0)
-    -- M6 to M10, and the engine's other examples
-    ++ map fromEngine engine-examples.examples
+    ++ (historyLeaves recipe recipeLaws (3 ∷ 2 ∷ 1 ∷ 2 ∷ 1 ∷ []) (replicate 60 7) (recipeTable ++ replicate 7 7) ∷ [])
+    -- a value too few: refused, and the table is as it was
+    ++ ofRecipe (2 ∷ 2 ∷ 1 ∷ 2 ∷ []) (refused 10 4) (refused 10 4)
+    ++ (historyLeaves recipe recipeLaws (2 ∷ 2 ∷ 1 ∷ 2 ∷ []) (replicate 60 7) (replicate 60 7) ∷ [])
+    -- a contradiction at time 0 by a static law: in water and not wet
+    ++ both (water 1) waterLaws (1 ∷ 2 ∷ 2 ∷ 1 ∷ 1 ∷ []) (answered (judged (broken 0))) (answered (contradicted 0 1))
+    -- faults at time 2: the door opens by nothing; it stays closed though it is opened
+    ++ both (door 2) doorLaws (1 ∷ 2 ∷ 1 ∷ 2 ∷ 2 ∷ []) (answered (judged (unfounded 9))) (answered (uncaused 2 0))
+    ++ both (door 2) doorLaws (1 ∷ 2 ∷ 1 ∷ 1 ∷ 1 ∷ []) (answered (judged (broken 4))) (answered (contradicted 2 1))
     -- horizons at the limits
-    ++ (horizonTaken 0 (some 0) ∷ horizonTaken 1 none ∷ horizonTaken 30 none ∷ horizonTaken 31 (some 0) ∷ [])
+    ++ (translates (recipeFor 0) recipeLaws 53 (refused 3 0) ∷ translates (recipeFor 1) recipeLaws 53 (answered (written 5 12 53)) ∷ [])
+    ++ (translates (recipeFor 30) recipeLaws 1126 (answered (written 92 244 1126)) ∷ translates (recipeFor 31) recipeLaws 1200 (refused 3 0) ∷ [])
+
+-- 30,912 words for the largest table are enough, and one fewer are refused
+abbrev pub largestExamples : List Example
+largestExamples =
+    translates largest largestLaws 30912 (answered (written 984 2448 30912))
+    ∷ translates largest largestLaws 30911 (refused 9 30912)
+    ∷ []
+
+-- M6 to M10 and the engine's other examples; 000's program (11), its tables and transitions
+abbrev pub paperExamples : List Example
+paperExamples =
+    map fromEngine engine-examples.examples
+    -- of all 64 sets over three atoms, the four answer sets that 000 prints
+    ++ (passingAre 3 program11 answerSets11 ∷ [])
+    -- (9) and (10) for T = 1 and 2
+    ++ (tableIs (door 1) doorLaws doorTable1 ∷ tableIs (door 2) doorLaws doorTable2 ∷ [])
+    ++ (tableIs (water 1) waterLaws waterTable1 ∷ tableIs (water 2) waterLaws waterTable2 ∷ [])
+    ++ (translates (door 2) doorLaws 44 (answered (written 5 11 44)) ∷ translates (water 2) waterLaws 92 (answered (written 8 21 92)) ∷ [])
     -- (3) has 2 states and exactly 4 explained transitions, (4) has 3 and 6
     ++ (pathsAre 1 1 0 doorLaws (tuples (1 ∷ 2 ∷ []) 1) ((1 ∷ []) ∷ (2 ∷ []) ∷ []) ∷ [])
     ++ (pathsAre 1 1 1 doorLaws (tuples (1 ∷ 2 ∷ []) 3) doorTransitions ∷ [])
     ++ (pathsAre 2 1 0 waterLaws (tuples (1 ∷ 2 ∷ []) 2) ((1 ∷ 1 ∷ []) ∷ (2 ∷ 1 ∷ []) ∷ (2 ∷ 2 ∷ []) ∷ []) ∷ [])
     ++ (pathsAre 2 1 1 waterLaws (tuples (1 ∷ 2 ∷ []) 5) waterTransitions ∷ [])
+
+-- numbers for C: a value above its code, of which the low 56 bits are kept, and two numbers of 16 bits
+abbrev pub codeExamples : List Example
+codeExamples =
+    codedAs 66 1 322
+    ∷ codedAs 12 72057594037927939 780
+    ∷ pairedAs 1 2 65538
+    ∷ pairedAs 65537 131071 131071
+    ∷ []
 
 -- the full recipe and M1 to M5 as texts: what is read
 abbrev pub textExamples : List Example
@@ -161,5 +224,10 @@ outputExamples =
     ∷ prints (recipeText ++ historyText ++ (10 ∷ [])) behindOutput
     ∷ []
 
+abbrev pub gathered : List (List Example) → List Example
+gathered [] = []
+gathered (es ∷ ess) = es ++ gathered ess
+
+-- the one list
 abbrev pub worked : List Example
-worked = recordExamples ++ textExamples ++ outputExamples
+worked = gathered (recordExamples ∷ largestExamples ∷ paperExamples ∷ textExamples ∷ outputExamples ∷ codeExamples ∷ [])
