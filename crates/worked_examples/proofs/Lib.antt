@@ -5,5 +5,7 @@ pub mod Transitions
 pub mod WorkedRecords
 pub mod WorkedCodes
 pub mod WorkedTexts
+pub mod WorkedFormat
+pub mod WorkedLong
 pub mod WorkedOutputs
 pub mod Worked

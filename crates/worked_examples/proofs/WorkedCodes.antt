@@ -3,7 +3,8 @@
 use mathlib.Core.Path.{refl}
 use Rattle.search.specs.Search.{Each}
 use Rattle.huntyghai.specs.Codes.{coded, pair}
-use Rattle.worked_examples.specs.Worked.{Holds, largestExamples, codeExamples}
+use Rattle.worked_examples.specs.Examples.{Holds}
+use Rattle.worked_examples.specs.Worked.{largestExamples, codeExamples}
 use Rattle.worked_examples.proofs.Tables.{largest-taken, largest-refused}
 
 pub largest-examples : Each Holds largestExamples

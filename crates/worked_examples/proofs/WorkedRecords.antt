@@ -12,7 +12,8 @@ use Rattle.translation.specs.Translated as translated
 use Rattle.history.specs.Checks as history
 use Rattle.causal.specs.Verdicts.{causalVerdict}
 use Rattle.causal.specs.Readings as causal
-use Rattle.worked_examples.specs.Worked.{Holds, recordExamples, paperExamples}
+use Rattle.worked_examples.specs.Examples.{Holds}
+use Rattle.worked_examples.specs.Worked.{recordExamples, paperExamples}
 
 pub record-examples : Each Holds recordExamples
 unfolding engine.answer verdict rulesOf badRule setOf holdsTrue holdsFalse complement badRecord badHorizon translation translated.outcome translated.tableAfter history.checked history.tableAfter causalVerdict causal.reading

@@ -1,37 +1,31 @@
 -- Worked examples of all layers, gathered as one list: the full recipe and M1 to M10 with all that 01 prints of them, the
 -- horizons and tables at the limits, the transitions of 000's two examples, and the rules of the text format one by one.
 -- Assumes nothing.
-use mathlib.Core.Path.{_≡_}
-use mathlib.Core.Bool.{Bool, true, false}
 use mathlib.Core.List.{List, [], _∷_, _++_, map}
 use Prim.Native.Nat.{ℕ}
-use lib.ListN.{length, replicate}
-use Rattle.search.specs.Search.{Each, chosen, tuples}
+use lib.ListN.{replicate}
+use Rattle.search.specs.Search.{tuples}
 use Rattle.search.specs.Replies.{Reply, refused, answered}
-use Rattle.answer_sets.specs.Verdicts.{Verdict, clash, broken, unfounded, passes}
-use Rattle.answer_sets.specs.Answers as engine
+use Rattle.answer_sets.specs.Verdicts.{clash, broken, unfounded, passes}
 use Rattle.answer_sets.specs.Examples as engine-examples
 use Rattle.description.specs.declared.Law.{Law}
 use Rattle.description.specs.declared.Description.{Description}
 use Rattle.description.specs.Examples.{recipe, recipeLaws, door, doorLaws, water, waterLaws, largest, largestLaws}
-use Rattle.translation.specs.Translated as translated
-use Rattle.translation.specs.Translated.{Written, written}
-use Rattle.history.specs.Checks as history
+use Rattle.translation.specs.Translated.{written}
 use Rattle.history.specs.Checks.{Finding, missing, judged}
-use Rattle.causal.specs.Verdicts.{Causal, contradicted, uncaused, path, causalVerdict}
-use Rattle.causal.specs.Readings as causal
+use Rattle.causal.specs.Verdicts.{Causal, contradicted, uncaused, path}
 use Rattle.description_reader.specs.LineSteps.{Draft}
-use Rattle.description_reader.specs.Descriptions.{Taken, read, described}
-use Rattle.history_reader.specs.Histories.{readHistory}
-use Rattle.written_form.specs.Writing.{descriptionText}
-use Rattle.written_form.specs.HistoryWriting.{valuesText}
-use Rattle.written_form.specs.Writable.{Writable}
-use Rattle.report.specs.Output.{room, output}
-use Rattle.huntyghai.specs.Codes.{coded, pair}
+use Rattle.description_reader.specs.Descriptions.{read}
 use Rattle.worked_examples.specs.Tables.{recipeTable, doorTable1, doorTable2, waterTable1, waterTable2}
-use Rattle.worked_examples.specs.Program11.{program11, answerSets11, allValues, passing}
-use Rattle.worked_examples.specs.Texts.{recipeText, historyText, m1Text, m2Text, m3Text, m4Text, m5Text}
+use Rattle.worked_examples.specs.Program11.{program11, answerSets11}
+use Rattle.worked_examples.specs.Texts.{recipeText, historyText, m1Text, m2Text, m3Text, m4Text, m5Text, otherOrderText, badActText}
+use Rattle.worked_examples.specs.Texts.{doorText, doorHistoryText, doorText2, lateFaultText, firstFaultText, letters}
 use Rattle.worked_examples.specs.Outputs.{passedOutput, m1Output, m2Output, m3Output, m4Output, m5Output, behindOutput}
+use Rattle.worked_examples.specs.Outputs.{badActOutput, doorOutput, lateFaultOutput, firstFaultOutput, emptyOutput, longOutput}
+use Rattle.worked_examples.specs.Examples.{Example, engineSays, passingAre, translates, tableIs, tableLeft, historySays}
+use Rattle.worked_examples.specs.Examples.{historyLeaves, causalSays, pathsAre, reads, readsHistory, writes, writesHistory}
+use Rattle.worked_examples.specs.Examples.{prints, showsFluent, showsAction, codedAs, pairedAs}
+use Rattle.worked_examples.specs.Format.{readerExamples, lineExamples, historyExamples, longExamples}
 
 -- a state, an action and a resulting state as values, 1 true and 2 false
 abbrev pub doorTransitions : List (List ℕ)
@@ -46,64 +40,6 @@ waterTransitions =
     ∷ (2 ∷ 2 ∷ 1 ∷ 1 ∷ 1 ∷ [])
     ∷ (2 ∷ 2 ∷ 2 ∷ 2 ∷ 2 ∷ [])
     ∷ []
-
-abbrev pub isPath : Causal → Bool
-isPath path = true
-isPath (contradicted t l) = false
-isPath (uncaused t f) = false
-
--- the value lists of a horizon that the causal verdict passes: states for horizon 0, transitions for horizon 1
-abbrev pub paths : ℕ → ℕ → ℕ → List Law → List (List ℕ) → List (List ℕ)
-paths n m T ls vss = chosen (λ vs. isPath (causalVerdict n m T ls vs)) vss
-
--- a worked example: what a definition says of something
-pub data Example : Type 0 where
-  -- values and a table
-  engineSays : List ℕ → List ℕ → Reply Verdict → Example
-  -- of all sets over so many atoms, those that pass a table
-  passingAre : ℕ → List ℕ → List (List ℕ) → Example
-  -- a description, its laws, and the room in the table
-  translates : Description → List Law → ℕ → Reply Written → Example
-  -- the words that are written
-  tableIs : Description → List Law → List ℕ → Example
-  -- what the lent table holds before and after
-  tableLeft : Description → List Law → List ℕ → List ℕ → Example
-  -- the same for the history check and a set's values
-  historySays : Description → List Law → List ℕ → Reply Finding → Example
-  historyLeaves : Description → List Law → List ℕ → List ℕ → List ℕ → Example
-  causalSays : Description → List Law → List ℕ → Reply Causal → Example
-  -- of some lists of values, those that are paths
-  pathsAre : ℕ → ℕ → ℕ → List Law → List (List ℕ) → List (List ℕ) → Example
-  -- a run of so many law records is lent, a text, and what is read of it
-  reads : ℕ → List ℕ → Reply Taken → Example
-  -- a description text, a history text, the room for values, and the values read
-  readsHistory : List ℕ → List ℕ → ℕ → Reply (List ℕ) → Example
-  -- the text written for a horizon, fluents, actions and laws, which meet the conditions of the round trip
-  writes : ℕ → List (List ℕ) → List (List ℕ) → List Law → List ℕ → Example
-  writesHistory : ℕ → List (List ℕ) → List (List ℕ) → List ℕ → List ℕ → Example
-  -- an input of the program and what it prints
-  prints : List ℕ → List ℕ → Example
-  -- a code with a value, and two numbers, as one number
-  codedAs : ℕ → ℕ → ℕ → Example
-  pairedAs : ℕ → ℕ → ℕ → Example
-
-abbrev pub Holds : Example → Type 0
-Holds (engineSays vs ws reply) = engine.answer vs ws ≡ reply
-Holds (passingAre atoms ws vss) = passing ws (allValues atoms) ≡ vss
-Holds (translates d ls words reply) = translated.outcome d ls (length ls) words ≡ reply
-Holds (tableIs d ls ws) = translated.tableFor d ls ≡ ws
-Holds (tableLeft d ls before after) = translated.tableAfter d ls (length ls) before ≡ after
-Holds (historySays d ls vs reply) = history.checked d ls (length ls) vs room ≡ reply
-Holds (historyLeaves d ls vs before after) = history.tableAfter d ls (length ls) vs before ≡ after
-Holds (causalSays d ls vs reply) = causal.reading d ls (length ls) vs ≡ reply
-Holds (pathsAre n m T ls vss expected) = paths n m T ls vss ≡ expected
-Holds (reads lent text reply) = described lent text ≡ reply
-Holds (readsHistory description text values reply) = readHistory description text values ≡ reply
-Holds (writes T fluents actions ls text) = (descriptionText T fluents actions ls ≡ text) × Writable (length ls) T fluents actions ls
-Holds (writesHistory T fluents actions vs text) = valuesText T fluents actions vs ≡ text
-Holds (prints input bytes) = output input ≡ bytes
-Holds (codedAs code value number) = coded code value ≡ number
-Holds (pairedAs high low number) = pair high low ≡ number
 
 -- an engine example of the crate below
 abbrev pub fromEngine : engine-examples.Example → Example
@@ -188,6 +124,10 @@ paperExamples =
     ++ (pathsAre 2 1 0 waterLaws (tuples (1 ∷ 2 ∷ []) 2) ((1 ∷ 1 ∷ []) ∷ (2 ∷ 1 ∷ []) ∷ (2 ∷ 2 ∷ []) ∷ []) ∷ [])
     ++ (pathsAre 2 1 1 waterLaws (tuples (1 ∷ 2 ∷ []) 5) waterTransitions ∷ [])
 
+-- a text that is too long
+abbrev pub longOutputs : List Example
+longOutputs = prints (letters 65536) longOutput ∷ []
+
 -- numbers for C: a value above its code, of which the low 56 bits are kept, and two numbers of 16 bits
 abbrev pub codeExamples : List Example
 codeExamples =
@@ -207,6 +147,14 @@ textExamples =
     ∷ readsHistory recipeText m3Text 5 (answered (1 ∷ 2 ∷ 2 ∷ 2 ∷ 2 ∷ []))
     ∷ readsHistory recipeText m4Text 5 (answered (2 ∷ 0 ∷ 1 ∷ 2 ∷ 1 ∷ []))
     ∷ readsHistory recipeText m5Text 5 (answered (3 ∷ 2 ∷ 1 ∷ 2 ∷ 1 ∷ []))
+    ∷ readsHistory recipeText otherOrderText 5 (answered (3 ∷ 2 ∷ 1 ∷ 2 ∷ 1 ∷ []))
+    -- the names shown: the part where each was declared; an empty one for a number that nothing declares
+    ∷ showsFluent recipeText 0 (108 ∷ 111 ∷ 99 ∷ 107 ∷ 101 ∷ 100 ∷ [])
+    ∷ showsFluent recipeText 1 (102 ∷ 108 ∷ 111 ∷ 119 ∷ 101 ∷ 100 ∷ [])
+    ∷ showsFluent recipeText 2 []
+    ∷ showsAction recipeText 0 (114 ∷ 101 ∷ 102 ∷ 108 ∷ 111 ∷ 119 ∷ [])
+    ∷ showsAction recipeText 1 []
+    -- the same texts written
     ∷ writes 1 recipeFluents recipeActions recipeLaws recipeText
     ∷ writesHistory 1 recipeFluents recipeActions (2 ∷ 2 ∷ 1 ∷ 2 ∷ 1 ∷ []) historyText
     ∷ []
@@ -222,6 +170,13 @@ outputExamples =
     ∷ prints (recipeText ++ m5Text) m5Output
     -- an empty line behind the history
     ∷ prints (recipeText ++ historyText ++ (10 ∷ [])) behindOutput
+    -- lines count over the whole input
+    ∷ prints (recipeText ++ badActText) badActOutput
+    ∷ prints [] emptyOutput
+    -- a static law, every key; a fault at time 2; one at time 0
+    ∷ prints (doorText ++ doorHistoryText) doorOutput
+    ∷ prints (doorText2 ++ lateFaultText) lateFaultOutput
+    ∷ prints firstFaultText firstFaultOutput
     ∷ []
 
 abbrev pub gathered : List (List Example) → List Example
@@ -230,4 +185,4 @@ gathered (es ∷ ess) = es ++ gathered ess
 
 -- the one list
 abbrev pub worked : List Example
-worked = gathered (recordExamples ∷ largestExamples ∷ paperExamples ∷ textExamples ∷ outputExamples ∷ codeExamples ∷ [])
+worked = gathered (recordExamples ∷ largestExamples ∷ paperExamples ∷ textExamples ∷ readerExamples ∷ lineExamples ∷ historyExamples ∷ longExamples ∷ outputExamples ∷ longOutputs ∷ codeExamples ∷ [])
