@@ -5,9 +5,9 @@ use Rattle.search.specs.Search.{Each}
 use Rattle.search.proofs.Tests.{each-append}
 use Rattle.worked_examples.specs.Examples.{Example, Holds}
 use Rattle.worked_examples.specs.Format.{readerExamples, lineExamples, historyExamples, longExamples}
-use Rattle.worked_examples.specs.Worked.{worked, gathered, recordExamples, largestExamples, paperExamples, textExamples}
+use Rattle.worked_examples.specs.Worked.{worked, gathered, recordExamples, largestExamples, engineExamples, paperExamples, textExamples}
 use Rattle.worked_examples.specs.Worked.{outputExamples, longOutputs, codeExamples}
-use Rattle.worked_examples.proofs.WorkedRecords.{record-examples, paper-examples}
+use Rattle.worked_examples.proofs.WorkedRecords.{record-examples, engine-examples, paper-examples}
 use Rattle.worked_examples.proofs.WorkedCodes.{largest-examples, code-examples}
 use Rattle.worked_examples.proofs.WorkedTexts.{text-examples}
 use Rattle.worked_examples.proofs.WorkedFormat.{reader-examples, line-examples, history-examples}
@@ -21,5 +21,5 @@ all-hold (es ∷ ess) h = each-append Holds es (gathered ess) .1 (h .0, all-hold
 pub worked-examples : Each Holds worked
 worked-examples =
     all-hold
-    (recordExamples ∷ largestExamples ∷ paperExamples ∷ textExamples ∷ readerExamples ∷ lineExamples ∷ historyExamples ∷ longExamples ∷ outputExamples ∷ longOutputs ∷ codeExamples ∷ [])
-    (record-examples, (largest-examples, (paper-examples, (text-examples, (reader-examples, (line-examples, (history-examples, (long-examples, (output-examples, (long-outputs, (code-examples, tt)))))))))))
+    (recordExamples ∷ largestExamples ∷ engineExamples ∷ paperExamples ∷ textExamples ∷ readerExamples ∷ lineExamples ∷ historyExamples ∷ longExamples ∷ outputExamples ∷ longOutputs ∷ codeExamples ∷ [])
+    (record-examples, (largest-examples, (engine-examples, (paper-examples, (text-examples, (reader-examples, (line-examples, (history-examples, (long-examples, (output-examples, (long-outputs, (code-examples, tt))))))))))))

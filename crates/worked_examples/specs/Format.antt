@@ -50,94 +50,95 @@ readerExamples =
     ∷ readsHistory doorText doorHistoryText 3 (answered (1 ∷ 1 ∷ 2 ∷ []))
     -- the description reader stops behind its end line and says where
     ∷ reads 64 (smallText ++ (10 ∷ 120 ∷ [])) (answered (read (smallDraft []) (10 ∷ 120 ∷ []) 4))
-    -- names: of 16 bytes, falsey; but not of 17 bytes, false, 1a, _a, A, none at all, a=b
+    -- names have up to 16 bytes; `false` is none, nor is what begins with a digit or an underscore, nor anything but small letters
+    -- fluent=b.. of 16 bytes, then of 17
     ∷ reads 64 (withFluent (replicate 16 98)) (answered (read (tinyDraft 1 (replicate 16 98)) [] 3))
-    -- falsey
-    ∷ reads 64 (withFluent (102 ∷ 97 ∷ 108 ∷ 115 ∷ 101 ∷ 121 ∷ [])) (answered (read (tinyDraft 1 (102 ∷ 97 ∷ 108 ∷ 115 ∷ 101 ∷ 121 ∷ [])) [] 3))
     ∷ reads 64 (withFluent (replicate 17 98)) (refused 4 2)
-    -- false
+    -- fluent=falsey
+    ∷ reads 64 (withFluent (102 ∷ 97 ∷ 108 ∷ 115 ∷ 101 ∷ 121 ∷ [])) (answered (read (tinyDraft 1 (102 ∷ 97 ∷ 108 ∷ 115 ∷ 101 ∷ 121 ∷ [])) [] 3))
+    -- fluent=false
     ∷ reads 64 (withFluent (102 ∷ 97 ∷ 108 ∷ 115 ∷ 101 ∷ [])) (refused 4 2)
-    -- 1a
+    -- fluent=1a
     ∷ reads 64 (withFluent (49 ∷ 97 ∷ [])) (refused 4 2)
-    -- _a
+    -- fluent=_a
     ∷ reads 64 (withFluent (95 ∷ 97 ∷ [])) (refused 4 2)
-    -- A
+    -- fluent=A
     ∷ reads 64 (withFluent (65 ∷ [])) (refused 4 2)
-    -- (nothing)
+    -- fluent=
     ∷ reads 64 (withFluent []) (refused 4 2)
-    -- a=b
+    -- fluent=a=b
     ∷ reads 64 (withFluent (97 ∷ 61 ∷ 98 ∷ [])) (refused 4 2)
-    -- a fluent declared twice; an action with a fluent's name
+    -- no name is declared twice, fluents and actions taken together
     -- fluent=a
     ∷ reads 64 (tinyLines ++ (102 ∷ 108 ∷ 117 ∷ 101 ∷ 110 ∷ 116 ∷ 61 ∷ 97 ∷ 10 ∷ [])) (refused 4 3)
     -- action=a
     ∷ reads 64 (tinyLines ++ (97 ∷ 99 ∷ 116 ∷ 105 ∷ 111 ∷ 110 ∷ 61 ∷ 97 ∷ 10 ∷ [])) (refused 4 3)
-    -- horizons: 30; but not 0, 31, 01, 100, none at all
-    -- 30
+    -- a horizon is 1 to 30 and has no leading zero
+    -- horizon=30
     ∷ reads 64 (withHorizon (51 ∷ 48 ∷ [])) (answered (read (tinyDraft 30 (97 ∷ [])) [] 3))
-    -- 0
+    -- horizon=0
     ∷ reads 64 (withHorizon (48 ∷ [])) (refused 3 1)
-    -- 31
+    -- horizon=31
     ∷ reads 64 (withHorizon (51 ∷ 49 ∷ [])) (refused 3 1)
-    -- 01
+    -- horizon=01
     ∷ reads 64 (withHorizon (48 ∷ 49 ∷ [])) (refused 3 1)
-    -- 100
+    -- horizon=100
     ∷ reads 64 (withHorizon (49 ∷ 48 ∷ 48 ∷ [])) (refused 3 1)
-    -- (nothing)
+    -- horizon=
     ∷ reads 64 (withHorizon []) (refused 3 1)
-    -- heads: -a, false; but not an action, nor b, which nobody declared, nor -false, a lone hyphen, two, or none at all
-    -- -a
+    -- a head is a fluent literal or false; c is an action, b not declared
+    -- static=-a
     ∷ reads 64 (withHead (45 ∷ 97 ∷ [])) (answered (read (smallDraft (lawOf Static (Lit 1) [] [] ∷ [])) [] 6))
-    -- false
+    -- static=false
     ∷ reads 64 (withHead (102 ∷ 97 ∷ 108 ∷ 115 ∷ 101 ∷ [])) (answered (read (smallDraft (lawOf Static False [] [] ∷ [])) [] 6))
-    -- c
+    -- static=c
     ∷ reads 64 (withHead (99 ∷ [])) (refused 6 4)
-    -- b
+    -- static=b
     ∷ reads 64 (withHead (98 ∷ [])) (refused 6 4)
-    -- -false
+    -- static=-false
     ∷ reads 64 (withHead (45 ∷ 102 ∷ 97 ∷ 108 ∷ 115 ∷ 101 ∷ [])) (refused 6 4)
-    -- -
+    -- static=-
     ∷ reads 64 (withHead (45 ∷ [])) (refused 6 4)
-    -- --a
+    -- static=--a
     ∷ reads 64 (withHead (45 ∷ 45 ∷ 97 ∷ [])) (refused 6 4)
-    -- (nothing)
+    -- static=
     ∷ reads 64 (withHead []) (refused 6 4)
-    -- if-lists: a,-a,a, and six literals; but not an action, an empty item, a last comma, false
-    -- a,-a,a
+    -- an if-list has fluent literals between single commas, repeated or contradictory ones too
+    -- if=a,-a,a
     ∷ reads 64 (withIf (97 ∷ 44 ∷ 45 ∷ 97 ∷ 44 ∷ 97 ∷ [])) (answered (read (smallDraft (lawOf Static (Lit 0) (0 ∷ 1 ∷ 0 ∷ []) [] ∷ [])) [] 6))
-    -- a,a,a,a,a,-a
+    -- if=a,a,a,a,a,-a
     ∷ reads 64 (withIf (97 ∷ 44 ∷ 97 ∷ 44 ∷ 97 ∷ 44 ∷ 97 ∷ 44 ∷ 97 ∷ 44 ∷ 45 ∷ 97 ∷ [])) (answered (read (smallDraft (lawOf Static (Lit 0) (0 ∷ 0 ∷ 0 ∷ 0 ∷ 0 ∷ 1 ∷ []) [] ∷ [])) [] 6))
-    -- c
+    -- if=c
     ∷ reads 64 (withIf (99 ∷ [])) (refused 6 5)
-    -- a,,a
+    -- if=a,,a
     ∷ reads 64 (withIf (97 ∷ 44 ∷ 44 ∷ 97 ∷ [])) (refused 6 5)
-    -- a,
+    -- if=a,
     ∷ reads 64 (withIf (97 ∷ 44 ∷ [])) (refused 6 5)
-    -- false
+    -- if=false
     ∷ reads 64 (withIf (102 ∷ 97 ∷ 108 ∷ 115 ∷ 101 ∷ [])) (refused 6 5)
-    -- a seventh literal: 5 before 6 at each item, left to right
-    -- a,a,a,a,a,a,a
+    -- a seventh literal: item by item, 5 before 6 at each
+    -- if=a,a,a,a,a,a,a
     ∷ reads 64 (withIf (97 ∷ 44 ∷ 97 ∷ 44 ∷ 97 ∷ 44 ∷ 97 ∷ 44 ∷ 97 ∷ 44 ∷ 97 ∷ 44 ∷ 97 ∷ [])) (refused 5 5)
-    -- a,a,a,a,a,a,b
+    -- if=a,a,a,a,a,a,b
     ∷ reads 64 (withIf (97 ∷ 44 ∷ 97 ∷ 44 ∷ 97 ∷ 44 ∷ 97 ∷ 44 ∷ 97 ∷ 44 ∷ 97 ∷ 44 ∷ 98 ∷ [])) (refused 5 5)
-    -- b,a,a,a,a,a,a
+    -- if=b,a,a,a,a,a,a
     ∷ reads 64 (withIf (98 ∷ 44 ∷ 97 ∷ 44 ∷ 97 ∷ 44 ∷ 97 ∷ 44 ∷ 97 ∷ 44 ∷ 97 ∷ 44 ∷ 97 ∷ [])) (refused 6 5)
-    -- after-lists: a,-c, of either sort; but not b; no seventh
-    -- a,-c
+    -- an after-list has literals of either sort
+    -- after=a,-c
     ∷ reads 64 (withAfter (97 ∷ 44 ∷ 45 ∷ 99 ∷ [])) (answered (read (smallDraft (lawOf Dynamic (Lit 0) [] (0 ∷ 3 ∷ []) ∷ [])) [] 7))
-    -- b
+    -- after=b
     ∷ reads 64 (withAfter (98 ∷ [])) (refused 6 6)
-    -- c,c,c,c,c,c,b
+    -- after=c,c,c,c,c,c,b
     ∷ reads 64 (withAfter (99 ∷ 44 ∷ 99 ∷ 44 ∷ 99 ∷ 44 ∷ 99 ∷ 44 ∷ 99 ∷ 44 ∷ 99 ∷ 44 ∷ 98 ∷ [])) (refused 5 6)
     -- every number shows an empty part in a text that is refused
-    -- 0
+    -- horizon=0
     ∷ showsFluent (withHorizon (48 ∷ [])) 0 []
     ∷ []
 
 -- which lines may follow each other, and how many: refusals 2 and 5
 abbrev pub lineExamples : List Example
 lineExamples =
-    -- a key that is not allowed here: fluent first; no fluent; an action before fluents; a second horizon; a fluent behind an action
+    -- a key that is not allowed here, among names
     -- fluent=a
     reads 64 (102 ∷ 108 ∷ 117 ∷ 101 ∷ 110 ∷ 116 ∷ 61 ∷ 97 ∷ 10 ∷ []) (refused 2 1)
     -- horizon=1 / end=
@@ -148,7 +149,7 @@ lineExamples =
     ∷ reads 64 (tinyLines ++ (104 ∷ 111 ∷ 114 ∷ 105 ∷ 122 ∷ 111 ∷ 110 ∷ 61 ∷ 49 ∷ 10 ∷ [])) (refused 2 3)
     -- fluent=b
     ∷ reads 64 (smallNames ++ (102 ∷ 108 ∷ 117 ∷ 101 ∷ 110 ∷ 116 ∷ 61 ∷ 98 ∷ 10 ∷ [])) (refused 2 4)
-    -- an action behind a law; a static law without its if-list; with an after-list; a dynamic law without; a state; no key at all
+    -- and among laws; no key at all
     -- action=d
     ∷ reads 64 (smallNames ++ lawText ++ (97 ∷ 99 ∷ 116 ∷ 105 ∷ 111 ∷ 110 ∷ 61 ∷ 100 ∷ 10 ∷ [])) (refused 2 6)
     -- static=a / end=
@@ -164,7 +165,7 @@ lineExamples =
     -- no equals sign; no ending byte; a line lacking; a value after end; nothing
     -- horizon
     ∷ reads 64 (104 ∷ 111 ∷ 114 ∷ 105 ∷ 122 ∷ 111 ∷ 110 ∷ 10 ∷ []) (refused 2 1)
-    -- horizon=1
+    -- horizon=1, without its ending byte
     ∷ reads 64 (104 ∷ 111 ∷ 114 ∷ 105 ∷ 122 ∷ 111 ∷ 110 ∷ 61 ∷ 49 ∷ []) (refused 2 1)
     -- horizon=1
     ∷ reads 64 (104 ∷ 111 ∷ 114 ∷ 105 ∷ 122 ∷ 111 ∷ 110 ∷ 61 ∷ 49 ∷ 10 ∷ []) (refused 2 2)
@@ -200,32 +201,32 @@ lineExamples =
 abbrev pub historyExamples : List Example
 historyExamples =
     -- state lists are of any number; a literal may be repeated, or with its complement, in both orders
-    -- a
+    -- state=a
     readsHistory smallText (withState (97 ∷ [])) 3 (answered (1 ∷ 1 ∷ 1 ∷ []))
-    -- (nothing)
+    -- state=
     ∷ readsHistory smallText (withState []) 3 (answered (0 ∷ 1 ∷ 1 ∷ []))
-    -- a,a
+    -- state=a,a
     ∷ readsHistory smallText (withState (97 ∷ 44 ∷ 97 ∷ [])) 3 (answered (1 ∷ 1 ∷ 1 ∷ []))
-    -- -a,-a
+    -- state=-a,-a
     ∷ readsHistory smallText (withState (45 ∷ 97 ∷ 44 ∷ 45 ∷ 97 ∷ [])) 3 (answered (2 ∷ 1 ∷ 1 ∷ []))
-    -- a,-a
+    -- state=a,-a
     ∷ readsHistory smallText (withState (97 ∷ 44 ∷ 45 ∷ 97 ∷ [])) 3 (answered (3 ∷ 1 ∷ 1 ∷ []))
-    -- -a,a
+    -- state=-a,a
     ∷ readsHistory smallText (withState (45 ∷ 97 ∷ 44 ∷ 97 ∷ [])) 3 (answered (3 ∷ 1 ∷ 1 ∷ []))
-    -- a,a,a,a,a,a,a,-a
+    -- state=a,a,a,a,a,a,a,-a
     ∷ readsHistory smallText (withState (97 ∷ 44 ∷ 97 ∷ 44 ∷ 97 ∷ 44 ∷ 97 ∷ 44 ∷ 97 ∷ 44 ∷ 97 ∷ 44 ∷ 97 ∷ 44 ∷ 45 ∷ 97 ∷ [])) 3 (answered (3 ∷ 1 ∷ 1 ∷ []))
-    -- -c
+    -- act=-c
     ∷ readsHistory smallText (withAct (45 ∷ 99 ∷ [])) 3 (answered (1 ∷ 2 ∷ 1 ∷ []))
-    -- an action in a state; a name that nobody declared; a last comma; a fluent in an act
-    -- c
+    -- literals of the wrong sort, or none
+    -- state=c
     ∷ readsHistory smallText (withState (99 ∷ [])) 3 (refused 6 1)
-    -- b
+    -- state=b
     ∷ readsHistory smallText (withState (98 ∷ [])) 3 (refused 6 1)
-    -- a,
+    -- state=a,
     ∷ readsHistory smallText (withState (97 ∷ 44 ∷ [])) 3 (refused 6 1)
-    -- a
+    -- act=a
     ∷ readsHistory smallText (withAct (97 ∷ [])) 3 (refused 6 2)
-    -- an act first; no act line; the end line lacking; with a value; another key for it
+    -- a key that is not allowed here, a line lacking, a value after end
     -- act=c
     ∷ readsHistory smallText (97 ∷ 99 ∷ 116 ∷ 61 ∷ 99 ∷ 10 ∷ []) 3 (refused 2 1)
     -- state=a / state=a
@@ -237,15 +238,15 @@ historyExamples =
     -- state=a / act=c / state=a / act=c
     ∷ readsHistory smallText (115 ∷ 116 ∷ 97 ∷ 116 ∷ 101 ∷ 61 ∷ 97 ∷ 10 ∷ 97 ∷ 99 ∷ 116 ∷ 61 ∷ 99 ∷ 10 ∷ 115 ∷ 116 ∷ 97 ∷ 116 ∷ 101 ∷ 61 ∷ 97 ∷ 10 ∷ 97 ∷ 99 ∷ 116 ∷ 61 ∷ 99 ∷ 10 ∷ []) 3 (refused 2 4)
     -- bytes behind the end line
-    -- a
+    -- state=a
     ∷ readsHistory smallText (withState (97 ∷ []) ++ (10 ∷ [])) 3 (refused 7 5)
     -- not the number of atoms: one too few, one too many
-    -- a
+    -- state=a
     ∷ readsHistory smallText (withState (97 ∷ [])) 2 (refused 10 2)
-    -- a
+    -- state=a
     ∷ readsHistory smallText (withState (97 ∷ [])) 4 (refused 10 4)
     -- the description's own refusal comes first, no law run counted
-    -- 0
+    -- horizon=0
     ∷ readsHistory (withHorizon (48 ∷ [])) [] 9 (refused 3 1)
     ∷ []
 

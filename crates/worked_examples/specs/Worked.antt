@@ -108,12 +108,15 @@ largestExamples =
     ∷ translates largest largestLaws 30911 (refused 9 30912)
     ∷ []
 
--- M6 to M10 and the engine's other examples; 000's program (11), its tables and transitions
+-- M6 to M10 and the engine's other examples
+abbrev pub engineExamples : List Example
+engineExamples = map fromEngine engine-examples.examples
+
+-- 000's program (11), its tables and transitions
 abbrev pub paperExamples : List Example
 paperExamples =
-    map fromEngine engine-examples.examples
     -- of all 64 sets over three atoms, the four answer sets that 000 prints
-    ++ (passingAre 3 program11 answerSets11 ∷ [])
+    (passingAre 3 program11 answerSets11 ∷ [])
     -- (9) and (10) for T = 1 and 2
     ++ (tableIs (door 1) doorLaws doorTable1 ∷ tableIs (door 2) doorLaws doorTable2 ∷ [])
     ++ (tableIs (water 1) waterLaws waterTable1 ∷ tableIs (water 2) waterLaws waterTable2 ∷ [])
@@ -185,4 +188,4 @@ gathered (es ∷ ess) = es ++ gathered ess
 
 -- the one list
 abbrev pub worked : List Example
-worked = gathered (recordExamples ∷ largestExamples ∷ paperExamples ∷ textExamples ∷ readerExamples ∷ lineExamples ∷ historyExamples ∷ longExamples ∷ outputExamples ∷ longOutputs ∷ codeExamples ∷ [])
+worked = gathered (recordExamples ∷ largestExamples ∷ engineExamples ∷ paperExamples ∷ textExamples ∷ readerExamples ∷ lineExamples ∷ historyExamples ∷ longExamples ∷ outputExamples ∷ longOutputs ∷ codeExamples ∷ [])
