@@ -50,12 +50,14 @@ readerExamples =
     ∷ readsHistory doorText doorHistoryText 3 (answered (1 ∷ 1 ∷ 2 ∷ []))
     -- the description reader stops behind its end line and says where
     ∷ reads 64 (smallText ++ (10 ∷ 120 ∷ [])) (answered (read (smallDraft []) (10 ∷ 120 ∷ []) 4))
-    -- names have up to 16 bytes; `false` is none, nor is what begins with a digit or an underscore, nor anything but small letters
+    -- names have up to 16 bytes; `false` is none, nor is what begins with a digit or an underscore, and small letters, digits and underscores are all
     -- fluent=b.. of 16 bytes, then of 17
     ∷ reads 64 (withFluent (replicate 16 98)) (answered (read (tinyDraft 1 (replicate 16 98)) [] 3))
     ∷ reads 64 (withFluent (replicate 17 98)) (refused 4 2)
     -- fluent=falsey
     ∷ reads 64 (withFluent (102 ∷ 97 ∷ 108 ∷ 115 ∷ 101 ∷ 121 ∷ [])) (answered (read (tinyDraft 1 (102 ∷ 97 ∷ 108 ∷ 115 ∷ 101 ∷ 121 ∷ [])) [] 3))
+    -- fluent=az0_9
+    ∷ reads 64 (withFluent (97 ∷ 122 ∷ 48 ∷ 95 ∷ 57 ∷ [])) (answered (read (tinyDraft 1 (97 ∷ 122 ∷ 48 ∷ 95 ∷ 57 ∷ [])) [] 3))
     -- fluent=false
     ∷ reads 64 (withFluent (102 ∷ 97 ∷ 108 ∷ 115 ∷ 101 ∷ [])) (refused 4 2)
     -- fluent=1a
@@ -68,6 +70,14 @@ readerExamples =
     ∷ reads 64 (withFluent []) (refused 4 2)
     -- fluent=a=b
     ∷ reads 64 (withFluent (97 ∷ 61 ∷ 98 ∷ [])) (refused 4 2)
+    -- fluent=a`
+    ∷ reads 64 (withFluent (97 ∷ 96 ∷ [])) (refused 4 2)
+    -- fluent=a{
+    ∷ reads 64 (withFluent (97 ∷ 123 ∷ [])) (refused 4 2)
+    -- fluent=a/
+    ∷ reads 64 (withFluent (97 ∷ 47 ∷ [])) (refused 4 2)
+    -- fluent=a:
+    ∷ reads 64 (withFluent (97 ∷ 58 ∷ [])) (refused 4 2)
     -- no name is declared twice, fluents and actions taken together
     -- fluent=a
     ∷ reads 64 (tinyLines ++ (102 ∷ 108 ∷ 117 ∷ 101 ∷ 110 ∷ 116 ∷ 61 ∷ 97 ∷ 10 ∷ [])) (refused 4 3)
@@ -76,6 +86,8 @@ readerExamples =
     -- a horizon is 1 to 30 and has no leading zero
     -- horizon=30
     ∷ reads 64 (withHorizon (51 ∷ 48 ∷ [])) (answered (read (tinyDraft 30 (97 ∷ [])) [] 3))
+    -- horizon=12
+    ∷ reads 64 (withHorizon (49 ∷ 50 ∷ [])) (answered (read (tinyDraft 12 (97 ∷ [])) [] 3))
     -- horizon=0
     ∷ reads 64 (withHorizon (48 ∷ [])) (refused 3 1)
     -- horizon=31
@@ -84,6 +96,8 @@ readerExamples =
     ∷ reads 64 (withHorizon (48 ∷ 49 ∷ [])) (refused 3 1)
     -- horizon=100
     ∷ reads 64 (withHorizon (49 ∷ 48 ∷ 48 ∷ [])) (refused 3 1)
+    -- horizon=1:
+    ∷ reads 64 (withHorizon (49 ∷ 58 ∷ [])) (refused 3 1)
     -- horizon=
     ∷ reads 64 (withHorizon []) (refused 3 1)
     -- a head is a fluent literal or false; c is an action, b not declared
@@ -162,6 +176,8 @@ lineExamples =
     ∷ reads 64 (smallNames ++ (115 ∷ 116 ∷ 97 ∷ 116 ∷ 101 ∷ 61 ∷ 97 ∷ 10 ∷ [])) (refused 2 4)
     -- Horizon=1
     ∷ reads 64 (72 ∷ 111 ∷ 114 ∷ 105 ∷ 122 ∷ 111 ∷ 110 ∷ 61 ∷ 49 ∷ 10 ∷ []) (refused 2 1)
+    -- horizons=1
+    ∷ reads 64 (104 ∷ 111 ∷ 114 ∷ 105 ∷ 122 ∷ 111 ∷ 110 ∷ 115 ∷ 61 ∷ 49 ∷ 10 ∷ []) (refused 2 1)
     -- no equals sign; no ending byte; a line lacking; a value after end; nothing
     -- horizon
     ∷ reads 64 (104 ∷ 111 ∷ 114 ∷ 105 ∷ 122 ∷ 111 ∷ 110 ∷ 10 ∷ []) (refused 2 1)
@@ -217,6 +233,8 @@ historyExamples =
     ∷ readsHistory smallText (withState (97 ∷ 44 ∷ 97 ∷ 44 ∷ 97 ∷ 44 ∷ 97 ∷ 44 ∷ 97 ∷ 44 ∷ 97 ∷ 44 ∷ 97 ∷ 44 ∷ 45 ∷ 97 ∷ [])) 3 (answered (3 ∷ 1 ∷ 1 ∷ []))
     -- act=-c
     ∷ readsHistory smallText (withAct (45 ∷ 99 ∷ [])) 3 (answered (1 ∷ 2 ∷ 1 ∷ []))
+    -- act=-c,c
+    ∷ readsHistory smallText (withAct (45 ∷ 99 ∷ 44 ∷ 99 ∷ [])) 3 (answered (1 ∷ 3 ∷ 1 ∷ []))
     -- literals of the wrong sort, or none
     -- state=c
     ∷ readsHistory smallText (withState (99 ∷ [])) 3 (refused 6 1)

@@ -19,9 +19,9 @@ use Rattle.description_reader.specs.Descriptions.{read}
 use Rattle.worked_examples.specs.Tables.{recipeTable, doorTable1, doorTable2, waterTable1, waterTable2}
 use Rattle.worked_examples.specs.Program11.{program11, answerSets11}
 use Rattle.worked_examples.specs.Texts.{recipeText, historyText, m1Text, m2Text, m3Text, m4Text, m5Text, otherOrderText, badActText}
-use Rattle.worked_examples.specs.Texts.{doorText, doorHistoryText, doorText2, lateFaultText, firstFaultText, letters}
+use Rattle.worked_examples.specs.Texts.{doorText, doorHistoryText, doorText2, lateFaultText, firstFaultText, smallNames, lawText, badLawText, copies, letters}
 use Rattle.worked_examples.specs.Outputs.{passedOutput, m1Output, m2Output, m3Output, m4Output, m5Output, behindOutput}
-use Rattle.worked_examples.specs.Outputs.{badActOutput, doorOutput, lateFaultOutput, firstFaultOutput, emptyOutput, longOutput}
+use Rattle.worked_examples.specs.Outputs.{badActOutput, doorOutput, lateFaultOutput, firstFaultOutput, emptyOutput, law65Output, longOutput}
 use Rattle.worked_examples.specs.Examples.{Example, engineSays, passingAre, translates, tableIs, tableLeft, historySays}
 use Rattle.worked_examples.specs.Examples.{historyLeaves, causalSays, pathsAre, reads, readsHistory, writes, writesHistory}
 use Rattle.worked_examples.specs.Examples.{prints, showsFluent, showsAction, codedAs, pairedAs}
@@ -176,6 +176,7 @@ outputExamples =
     -- lines count over the whole input
     ∷ prints (recipeText ++ badActText) badActOutput
     ∷ prints [] emptyOutput
+    ∷ prints (smallNames ++ copies 64 lawText ++ badLawText) law65Output
     -- a static law, every key; a fault at time 2; one at time 0
     ∷ prints (doorText ++ doorHistoryText) doorOutput
     ∷ prints (doorText2 ++ lateFaultText) lateFaultOutput
