@@ -248,7 +248,7 @@ tinyLines =
 -- with a value as its horizon, and with one as its fluent's name
 abbrev pub withHorizon : List ℕ → List ℕ
 withHorizon value =
-    -- horizon= (and no ending byte)
+    -- horizon= with the value, then byte 10
     (104 ∷ 111 ∷ 114 ∷ 105 ∷ 122 ∷ 111 ∷ 110 ∷ 61 ∷ [])
     ++ value
     ++ (10 ∷ [])
@@ -261,7 +261,7 @@ abbrev pub withFluent : List ℕ → List ℕ
 withFluent value =
     -- horizon=1
     (104 ∷ 111 ∷ 114 ∷ 105 ∷ 122 ∷ 111 ∷ 110 ∷ 61 ∷ 49 ∷ 10 ∷ [])
-    -- fluent= (and no ending byte)
+    -- fluent= with the value, then byte 10
     ++ (102 ∷ 108 ∷ 117 ∷ 101 ∷ 110 ∷ 116 ∷ 61 ∷ [])
     ++ value
     ++ (10 ∷ [])
@@ -292,7 +292,7 @@ smallText =
 abbrev pub withHead : List ℕ → List ℕ
 withHead value =
     smallNames
-    -- static= (and no ending byte)
+    -- static= with the value, then byte 10
     ++ (115 ∷ 116 ∷ 97 ∷ 116 ∷ 105 ∷ 99 ∷ 61 ∷ [])
     ++ value
     ++ (10 ∷ [])
@@ -306,7 +306,7 @@ withIf value =
     smallNames
     -- static=a
     ++ (115 ∷ 116 ∷ 97 ∷ 116 ∷ 105 ∷ 99 ∷ 61 ∷ 97 ∷ 10 ∷ [])
-    -- if= (and no ending byte)
+    -- if= with the value, then byte 10
     ++ (105 ∷ 102 ∷ 61 ∷ [])
     ++ value
     ++ (10 ∷ [])
@@ -320,7 +320,7 @@ withAfter value =
     ++ (100 ∷ 121 ∷ 110 ∷ 97 ∷ 109 ∷ 105 ∷ 99 ∷ 61 ∷ 97 ∷ 10 ∷ [])
     -- if=
     ++ (105 ∷ 102 ∷ 61 ∷ 10 ∷ [])
-    -- after= (and no ending byte)
+    -- after= with the value, then byte 10
     ++ (97 ∷ 102 ∷ 116 ∷ 101 ∷ 114 ∷ 61 ∷ [])
     ++ value
     ++ (10 ∷ [])
@@ -432,7 +432,7 @@ actions8 =
 -- histories of the small text: with a value as the first state, and as the action
 abbrev pub withState : List ℕ → List ℕ
 withState value =
-    -- state= (and no ending byte)
+    -- state= with the value, then byte 10
     (115 ∷ 116 ∷ 97 ∷ 116 ∷ 101 ∷ 61 ∷ [])
     ++ value
     ++ (10 ∷ [])
@@ -447,7 +447,7 @@ abbrev pub withAct : List ℕ → List ℕ
 withAct value =
     -- state=a
     (115 ∷ 116 ∷ 97 ∷ 116 ∷ 101 ∷ 61 ∷ 97 ∷ 10 ∷ [])
-    -- act= (and no ending byte)
+    -- act= with the value, then byte 10
     ++ (97 ∷ 99 ∷ 116 ∷ 61 ∷ [])
     ++ value
     ++ (10 ∷ [])

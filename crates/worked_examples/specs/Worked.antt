@@ -127,19 +127,6 @@ paperExamples =
     ++ (pathsAre 2 1 0 waterLaws (tuples (1 ∷ 2 ∷ []) 2) ((1 ∷ 1 ∷ []) ∷ (2 ∷ 1 ∷ []) ∷ (2 ∷ 2 ∷ []) ∷ []) ∷ [])
     ++ (pathsAre 2 1 1 waterLaws (tuples (1 ∷ 2 ∷ []) 5) waterTransitions ∷ [])
 
--- a text that is too long
-abbrev pub longOutputs : List Example
-longOutputs = prints (letters 65536) longOutput ∷ []
-
--- numbers for C: a value above its code, of which the low 56 bits are kept, and two numbers of 16 bits
-abbrev pub codeExamples : List Example
-codeExamples =
-    codedAs 66 1 322
-    ∷ codedAs 12 72057594037927939 780
-    ∷ pairedAs 1 2 65538
-    ∷ pairedAs 65537 131071 131071
-    ∷ []
-
 -- the full recipe and M1 to M5 as texts: what is read
 abbrev pub textExamples : List Example
 textExamples =
@@ -157,7 +144,7 @@ textExamples =
     ∷ showsFluent recipeText 2 []
     ∷ showsAction recipeText 0 (114 ∷ 101 ∷ 102 ∷ 108 ∷ 111 ∷ 119 ∷ [])
     ∷ showsAction recipeText 1 []
-    -- the same texts written
+    -- the same texts are written for what was read
     ∷ writes 1 recipeFluents recipeActions recipeLaws recipeText
     ∷ writesHistory 1 recipeFluents recipeActions (2 ∷ 2 ∷ 1 ∷ 2 ∷ 1 ∷ []) historyText
     ∷ []
@@ -183,10 +170,37 @@ outputExamples =
     ∷ prints firstFaultText firstFaultOutput
     ∷ []
 
+-- a text that is too long
+abbrev pub longOutputs : List Example
+longOutputs = prints (letters 65536) longOutput ∷ []
+
+-- numbers for C: a value above its code, of which the low 56 bits are kept, and two numbers of 16 bits
+abbrev pub codeExamples : List Example
+codeExamples =
+    codedAs 66 1 322
+    ∷ codedAs 12 72057594037927939 780
+    ∷ pairedAs 1 2 65538
+    ∷ pairedAs 65537 131071 131071
+    ∷ []
+
 abbrev pub gathered : List (List Example) → List Example
 gathered [] = []
 gathered (es ∷ ess) = es ++ gathered ess
 
 -- the one list
 abbrev pub worked : List Example
-worked = gathered (recordExamples ∷ largestExamples ∷ engineExamples ∷ paperExamples ∷ textExamples ∷ readerExamples ∷ lineExamples ∷ historyExamples ∷ longExamples ∷ outputExamples ∷ longOutputs ∷ codeExamples ∷ [])
+worked =
+    gathered
+    (recordExamples
+    ∷ largestExamples
+    ∷ engineExamples
+    ∷ paperExamples
+    ∷ textExamples
+    ∷ readerExamples
+    ∷ lineExamples
+    ∷ historyExamples
+    ∷ longExamples
+    ∷ outputExamples
+    ∷ longOutputs
+    ∷ codeExamples
+    ∷ [])
