@@ -3,6 +3,9 @@ pub mod Tables
 pub mod Program11
 pub mod Transitions
 pub mod WorkedRecords
+pub mod WorkedCodes
 pub mod WorkedTexts
+pub mod WorkedFormat
+pub mod WorkedLong
 pub mod WorkedOutputs
 pub mod Worked

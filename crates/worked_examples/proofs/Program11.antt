@@ -3,6 +3,7 @@
 use mathlib.Core.Path.{_≡_, refl}
 use mathlib.Core.Logic.{_↔_, Iff·trans}
 use mathlib.Core.Bool.{true}
+use mathlib.Core.Option.{none}
 use mathlib.Core.List.{List, [], _∷_, List·Memᴰ, List·Memᴰ·head, List·Memᴰ·tail}
 use Prim.Native.Nat.{ℕ, zero, suc, _≤_}
 use native.Mathlib.Omega.{arith}
@@ -17,8 +18,8 @@ use Rattle.answer_sets.specs.Literals.{setOf, holdsTrue, holdsFalse}
 use Rattle.answer_sets.specs.AnswerSets.{AnswerSet}
 use Rattle.answer_sets.specs.Verdicts.{Verdict, clash, broken, unfounded, passes, verdict}
 use Rattle.answer_sets.specs.Words.{rulesOf, badRule}
-use Rattle.answer_sets.specs.Answers.{answer}
-use Rattle.answer_sets.proofs.Theorems.{Accepted, passes-exactly}
+use Rattle.answer_sets.specs.Answers.{tooManyValues, badValue, answer}
+use Rattle.answer_sets.proofs.Theorems.{passes-exactly}
 use Rattle.worked_examples.specs.Program11.{program11, answerSets11, allValues, isPass, passing}
 
 program11-passing : passing program11 (allValues 3) ≡ answerSets11
@@ -40,7 +41,9 @@ isPass-iff (answered (broken r)) = (λ e. cc, λ e. cc)
 isPass-iff (answered (unfounded c)) = (λ e. cc, λ e. cc)
 isPass-iff (refused k p) = (λ e. cc, λ e. cc)
 
-accepted11 : (vs : List ℕ) → length vs ≡ 3 → Each (λ v. v ≤ 3) vs → Accepted vs program11
+-- neither 10 nor 11 nor 12 refuses
+accepted11 : (vs : List ℕ) → length vs ≡ 3 → Each (λ v. v ≤ 3) vs
+    → (tooManyValues vs ≡ none) × (badValue vs ≡ none) × (badRule (length vs) program11 ≡ none)
 unfolding badRule
 accepted11 vs e h = (
   rw e refl,

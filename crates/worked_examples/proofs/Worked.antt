@@ -1,14 +1,25 @@
 -- Every worked example holds of the definitions.
 -- Assumes nothing.
-use mathlib.Core.List.{_++_}
+use mathlib.Core.List.{List, [], _∷_}
 use Rattle.search.specs.Search.{Each}
 use Rattle.search.proofs.Tests.{each-append}
-use Rattle.worked_examples.specs.Worked.{Holds, worked, recordExamples, textExamples, outputExamples}
-use Rattle.worked_examples.proofs.WorkedRecords.{record-examples}
+use Rattle.worked_examples.specs.Examples.{Example, Holds}
+use Rattle.worked_examples.specs.Format.{readerExamples, lineExamples, historyExamples, longExamples}
+use Rattle.worked_examples.specs.Worked.{worked, gathered, recordExamples, largestExamples, engineExamples, paperExamples, textExamples}
+use Rattle.worked_examples.specs.Worked.{outputExamples, longOutputs, codeExamples}
+use Rattle.worked_examples.proofs.WorkedRecords.{record-examples, engine-examples, paper-examples}
+use Rattle.worked_examples.proofs.WorkedCodes.{largest-examples, code-examples}
 use Rattle.worked_examples.proofs.WorkedTexts.{text-examples}
+use Rattle.worked_examples.proofs.WorkedFormat.{reader-examples, line-examples, history-examples}
+use Rattle.worked_examples.proofs.WorkedLong.{long-examples, long-outputs}
 use Rattle.worked_examples.proofs.WorkedOutputs.{output-examples}
+
+all-hold : (ess : List (List Example)) → Each (λ es. Each Holds es) ess → Each Holds (gathered ess)
+all-hold [] h = tt
+all-hold (es ∷ ess) h = each-append Holds es (gathered ess) .1 (h .0, all-hold ess (h .1))
 
 pub worked-examples : Each Holds worked
 worked-examples =
-    each-append Holds recordExamples (textExamples ++ outputExamples) .1
-    (record-examples, each-append Holds textExamples outputExamples .1 (text-examples, output-examples))
+    all-hold
+    (recordExamples ∷ largestExamples ∷ engineExamples ∷ paperExamples ∷ textExamples ∷ readerExamples ∷ lineExamples ∷ historyExamples ∷ longExamples ∷ outputExamples ∷ longOutputs ∷ codeExamples ∷ [])
+    (record-examples, (largest-examples, (engine-examples, (paper-examples, (text-examples, (reader-examples, (line-examples, (history-examples, (long-examples, (output-examples, (long-outputs, (code-examples, tt))))))))))))

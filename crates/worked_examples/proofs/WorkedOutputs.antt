@@ -23,8 +23,9 @@ use Rattle.description_reader.specs.Shown.{shownFluent}
 use Rattle.inputs.specs.Inputs.{recordedIn}
 use Rattle.report.specs.Writing.{decimal}
 use Rattle.report.specs.Output.{output}
-use Rattle.worked_examples.specs.Worked.{Holds, outputExamples}
+use Rattle.worked_examples.specs.Examples.{Holds}
+use Rattle.worked_examples.specs.Worked.{outputExamples}
 
 pub output-examples : Each Holds outputExamples
 unfolding output decimal shownFluent engine.answer verdict rulesOf badRule setOf holdsTrue holdsFalse complement badRecord badHorizon translation translated.outcome history.checked causalVerdict causal.reading cut keyNumber firstLine isName literal items listOf horizonOf headOf lineStep described readHistory recordedIn
-output-examples = (refl, (refl, (refl, (refl, (refl, (refl, (refl, tt)))))))
+output-examples = (refl, (refl, (refl, (refl, (refl, (refl, (refl, (refl, (refl, (refl, (refl, (refl, (refl, tt)))))))))))))

@@ -1,19 +1,31 @@
--- The worked examples by records and values hold.
+-- The worked examples by records and values hold, and those of 000.
 -- Assumes nothing.
-use mathlib.Core.Path.{_≡_, refl}
+use mathlib.Core.Path.{refl}
 use Rattle.search.specs.Search.{Each}
+use Rattle.search.proofs.Lists.{each-mapped}
 use Rattle.answer_sets.specs.Literals.{setOf, holdsTrue, holdsFalse}
 use Rattle.answer_sets.specs.Verdicts.{verdict}
 use Rattle.answer_sets.specs.Words.{rulesOf, badRule}
 use Rattle.answer_sets.specs.Answers as engine
+use Rattle.answer_sets.specs.Examples as engine-list
+use Rattle.answer_sets.proofs.Examples as engine-list-holds
 use Rattle.description.specs.Acceptance.{badRecord, badHorizon}
 use Rattle.translation.specs.Rules.{complement, translation}
 use Rattle.translation.specs.Translated as translated
 use Rattle.history.specs.Checks as history
 use Rattle.causal.specs.Verdicts.{causalVerdict}
 use Rattle.causal.specs.Readings as causal
-use Rattle.worked_examples.specs.Worked.{Holds, recordExamples}
+use Rattle.worked_examples.specs.Examples.{Holds}
+use Rattle.worked_examples.specs.Worked.{fromEngine, recordExamples, engineExamples, paperExamples}
 
 pub record-examples : Each Holds recordExamples
-unfolding engine.answer verdict rulesOf badRule setOf holdsTrue holdsFalse complement badRecord badHorizon translation translated.outcome history.checked causalVerdict causal.reading
-record-examples = ((refl, refl), ((refl, refl), (refl, (refl, (refl, (refl, (refl, (refl, (refl, (refl, (refl, (refl, (refl, (refl, (refl, (refl, (refl, (refl, (refl, (refl, (refl, (refl, (refl, (refl, (refl, (refl, (refl, (refl, (refl, (refl, (refl, (refl, tt))))))))))))))))))))))))))))))))
+unfolding engine.answer verdict rulesOf badRule setOf holdsTrue holdsFalse complement badRecord badHorizon translation translated.outcome translated.tableAfter history.checked history.tableAfter causalVerdict causal.reading
+record-examples = (refl, (refl, (refl, (refl, (refl, (refl, (refl, (refl, (refl, (refl, (refl, (refl, (refl, (refl, (refl, (refl, (refl, (refl, (refl, (refl, (refl, (refl, (refl, (refl, (refl, (refl, (refl, (refl, (refl, (refl, (refl, (refl, tt))))))))))))))))))))))))))))))))
+
+pub paper-examples : Each Holds paperExamples
+unfolding engine.answer verdict rulesOf badRule setOf holdsTrue holdsFalse complement badRecord badHorizon translation translated.outcome translated.tableAfter history.checked history.tableAfter causalVerdict causal.reading
+paper-examples = (refl, (refl, (refl, (refl, (refl, (refl, (refl, (refl, (refl, (refl, (refl, tt)))))))))))
+
+-- as the engine's crate shows
+pub engine-examples : Each Holds engineExamples
+engine-examples = each-mapped Holds fromEngine engine-list.examples .1 engine-list-holds.worked

@@ -9,12 +9,14 @@ use Rattle.text.specs.Names.{isName, literal}
 use Rattle.text.specs.Lists.{items, listOf}
 use Rattle.description_reader.specs.LineSteps.{horizonOf, headOf, lineStep}
 use Rattle.description_reader.specs.Descriptions.{described}
+use Rattle.description_reader.specs.Shown.{shownFluent, shownAction}
 use Rattle.history_reader.specs.Histories.{readHistory}
 use Rattle.written_form.specs.Writing.{descriptionText}
 use Rattle.written_form.specs.HistoryWriting.{valuesText}
 use Rattle.written_form.specs.Writable.{Writable}
 use Rattle.description.specs.Examples.{recipeLaws}
-use Rattle.worked_examples.specs.Worked.{Holds, textExamples, recipeFluents, recipeActions}
+use Rattle.worked_examples.specs.Examples.{Holds}
+use Rattle.worked_examples.specs.Worked.{textExamples, recipeFluents, recipeActions}
 
 recipe-writable : Writable 6 1 recipeFluents recipeActions recipeLaws
 unfolding isName
@@ -33,5 +35,5 @@ recipe-writable = record {
 }
 
 pub text-examples : Each Holds textExamples
-unfolding cut keyNumber firstLine isName literal items listOf horizonOf headOf lineStep described readHistory descriptionText valuesText
-text-examples = (refl, (refl, (refl, (refl, (refl, (refl, (refl, ((refl, recipe-writable), (refl, tt)))))))))
+unfolding cut keyNumber firstLine isName literal items listOf horizonOf headOf lineStep described readHistory shownFluent shownAction descriptionText valuesText
+text-examples = (refl, (refl, (refl, (refl, (refl, (refl, (refl, (refl, (refl, (refl, (refl, (refl, (refl, ((refl, recipe-writable), (refl, tt)))))))))))))))

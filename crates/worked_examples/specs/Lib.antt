@@ -3,4 +3,6 @@ pub mod Tables
 pub mod Program11
 pub mod Texts
 pub mod Outputs
+pub mod Examples
+pub mod Format
 pub mod Worked

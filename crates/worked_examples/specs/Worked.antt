@@ -1,37 +1,31 @@
 -- Worked examples of all layers, gathered as one list: the full recipe and M1 to M10 with all that 01 prints of them, the
--- horizons at the limits, and the transitions of 000's two examples.
+-- horizons and tables at the limits, the transitions of 000's two examples, and the rules of the text format one by one.
 -- Assumes nothing.
-use mathlib.Core.Path.{_≡_}
-use mathlib.Core.Bool.{Bool, true, false}
 use mathlib.Core.List.{List, [], _∷_, _++_, map}
-use mathlib.Core.Option.{Option, none, some}
 use Prim.Native.Nat.{ℕ}
-use lib.ListN.{length}
-use Rattle.search.specs.Search.{Each, chosen, tuples}
+use lib.ListN.{replicate}
+use Rattle.search.specs.Search.{tuples}
 use Rattle.search.specs.Replies.{Reply, refused, answered}
-use Rattle.answer_sets.specs.Verdicts.{Verdict, clash, broken, unfounded, passes}
-use Rattle.answer_sets.specs.Answers as engine
+use Rattle.answer_sets.specs.Verdicts.{clash, broken, unfounded, passes}
 use Rattle.answer_sets.specs.Examples as engine-examples
 use Rattle.description.specs.declared.Law.{Law}
 use Rattle.description.specs.declared.Description.{Description}
-use Rattle.description.specs.Acceptance.{badHorizon}
-use Rattle.description.specs.Examples.{recipe, recipeLaws, doorLaws, waterLaws}
-use Rattle.translation.specs.Translated as translated
-use Rattle.translation.specs.Translated.{Written, written}
-use Rattle.history.specs.Checks as history
+use Rattle.description.specs.Examples.{recipe, recipeLaws, door, doorLaws, water, waterLaws, largest, largestLaws}
+use Rattle.translation.specs.Translated.{written}
 use Rattle.history.specs.Checks.{Finding, missing, judged}
-use Rattle.causal.specs.Verdicts.{Causal, contradicted, uncaused, path, causalVerdict}
-use Rattle.causal.specs.Readings as causal
+use Rattle.causal.specs.Verdicts.{Causal, contradicted, uncaused, path}
 use Rattle.description_reader.specs.LineSteps.{Draft}
-use Rattle.description_reader.specs.Descriptions.{Taken, read, described}
-use Rattle.history_reader.specs.Histories.{readHistory}
-use Rattle.written_form.specs.Writing.{descriptionText}
-use Rattle.written_form.specs.HistoryWriting.{valuesText}
-use Rattle.written_form.specs.Writable.{Writable}
-use Rattle.report.specs.Output.{output}
-use Rattle.worked_examples.specs.Tables.{recipeTable}
-use Rattle.worked_examples.specs.Texts.{recipeText, historyText, m1Text, m2Text, m3Text, m4Text, m5Text}
+use Rattle.description_reader.specs.Descriptions.{read}
+use Rattle.worked_examples.specs.Tables.{recipeTable, doorTable1, doorTable2, waterTable1, waterTable2}
+use Rattle.worked_examples.specs.Program11.{program11, answerSets11}
+use Rattle.worked_examples.specs.Texts.{recipeText, historyText, m1Text, m2Text, m3Text, m4Text, m5Text, otherOrderText, badActText}
+use Rattle.worked_examples.specs.Texts.{doorText, doorHistoryText, doorText2, lateFaultText, firstFaultText, smallNames, lawText, badLawText, copies, letters}
 use Rattle.worked_examples.specs.Outputs.{passedOutput, m1Output, m2Output, m3Output, m4Output, m5Output, behindOutput}
+use Rattle.worked_examples.specs.Outputs.{badActOutput, doorOutput, lateFaultOutput, firstFaultOutput, emptyOutput, law65Output, longOutput}
+use Rattle.worked_examples.specs.Examples.{Example, engineSays, passingAre, translates, tableIs, tableLeft, historySays}
+use Rattle.worked_examples.specs.Examples.{historyLeaves, causalSays, pathsAre, reads, readsHistory, writes, writesHistory}
+use Rattle.worked_examples.specs.Examples.{prints, showsFluent, showsAction, codedAs, pairedAs}
+use Rattle.worked_examples.specs.Format.{readerExamples, lineExamples, historyExamples, longExamples}
 
 -- a state, an action and a resulting state as values, 1 true and 2 false
 abbrev pub doorTransitions : List (List ℕ)
@@ -47,53 +41,20 @@ waterTransitions =
     ∷ (2 ∷ 2 ∷ 2 ∷ 2 ∷ 2 ∷ [])
     ∷ []
 
-abbrev pub isPath : Causal → Bool
-isPath path = true
-isPath (contradicted t l) = false
-isPath (uncaused t f) = false
-
--- the value lists of a horizon that the causal verdict passes: states for horizon 0, transitions for horizon 1
-abbrev pub paths : ℕ → ℕ → ℕ → List Law → List (List ℕ) → List (List ℕ)
-paths n m T ls vss = chosen (λ vs. isPath (causalVerdict n m T ls vs)) vss
-
--- a worked example: what a definition says of something
-pub data Example : Type 0 where
-  engineSays : List ℕ → List ℕ → Reply Verdict → Example
-  translates : Description → List Law → ℕ → Reply Written → List ℕ → Example
-  historySays : Description → List Law → List ℕ → Reply Finding → Example
-  causalSays : Description → List Law → List ℕ → Reply Causal → Example
-  horizonTaken : ℕ → Option ℕ → Example
-  pathsAre : ℕ → ℕ → ℕ → List Law → List (List ℕ) → List (List ℕ) → Example
-  -- a run of as many law records as the number is lent, a text, and what is read of it
-  reads : ℕ → List ℕ → Reply Taken → Example
-  -- a description text, a history text, the room for values, and the values read
-  readsHistory : List ℕ → List ℕ → ℕ → Reply (List ℕ) → Example
-  -- the text written for a horizon, fluents, actions and laws, which meet the conditions of the round trip
-  writes : ℕ → List (List ℕ) → List (List ℕ) → List Law → List ℕ → Example
-  writesHistory : ℕ → List (List ℕ) → List (List ℕ) → List ℕ → List ℕ → Example
-  -- an input of the program and what it prints
-  prints : List ℕ → List ℕ → Example
-
-abbrev pub Holds : Example → Type 0
-Holds (engineSays vs ws reply) = engine.answer vs ws ≡ reply
-Holds (translates d ls room outcome ws) = (translated.outcome d ls (length ls) room ≡ outcome) × (translated.tableFor d ls ≡ ws)
-Holds (historySays d ls vs reply) = history.checked d ls (length ls) vs 53 ≡ reply
-Holds (causalSays d ls vs reply) = causal.reading d ls (length ls) vs ≡ reply
-Holds (horizonTaken T place) = badHorizon T ≡ place
-Holds (pathsAre n m T ls vss expected) = paths n m T ls vss ≡ expected
-Holds (reads lent text reply) = described lent text ≡ reply
-Holds (readsHistory description text room reply) = readHistory description text room ≡ reply
-Holds (writes T fluents actions ls text) = (descriptionText T fluents actions ls ≡ text) × Writable (length ls) T fluents actions ls
-Holds (writesHistory T fluents actions vs text) = valuesText T fluents actions vs ≡ text
-Holds (prints input bytes) = output input ≡ bytes
-
 -- an engine example of the crate below
 abbrev pub fromEngine : engine-examples.Example → Example
 fromEngine e = engineSays (e .values) (e .table) (e .reply)
 
--- a history of the full recipe with both verdicts; the causal reading refuses values 0 and 3 by 11
+-- both verdicts on a history; the causal reading refuses values 0 and 3 by 11
+abbrev pub both : Description → List Law → List ℕ → Reply Finding → Reply Causal → List Example
+both d ls vs answer reading = historySays d ls vs answer ∷ causalSays d ls vs reading ∷ []
+
 abbrev pub ofRecipe : List ℕ → Reply Finding → Reply Causal → List Example
-ofRecipe vs answer reading = historySays recipe recipeLaws vs answer ∷ causalSays recipe recipeLaws vs reading ∷ []
+ofRecipe vs answer reading = both recipe recipeLaws vs answer reading
+
+-- the full recipe for another horizon
+abbrev pub recipeFor : ℕ → Description
+recipeFor T = record { fluents = 2; actions = 1; laws = 6; horizon = T }
 
 -- locked, flowed
 abbrev pub recipeFluents : List (List ℕ)
@@ -110,9 +71,11 @@ recipeDraft = record { horizon = 1; fluents = 2; names = recipeFluents ++ recipe
 -- by records and values
 abbrev pub recordExamples : List Example
 recordExamples =
-    -- the full recipe: its table, its verdicts
-    (translates recipe recipeLaws 53 (answered (written 5 12 53)) recipeTable ∷ [])
-    ++ (translates recipe recipeLaws 52 (refused 9 53) recipeTable ∷ [])
+    -- the full recipe: its table, what is left behind its words, its verdicts
+    (translates recipe recipeLaws 53 (answered (written 5 12 53)) ∷ translates recipe recipeLaws 52 (refused 9 53) ∷ [])
+    ++ (tableIs recipe recipeLaws recipeTable ∷ [])
+    ++ (tableLeft recipe recipeLaws (replicate 60 7) (recipeTable ++ replicate 7 7) ∷ [])
+    ++ (tableLeft recipe recipeLaws (replicate 52 7) (replicate 52 7) ∷ [])
     ++ ofRecipe (2 ∷ 2 ∷ 1 ∷ 2 ∷ 1 ∷ []) (answered (judged passes)) (answered path)
     -- M1
     ++ ofRecipe (1 ∷ 2 ∷ 1 ∷ 1 ∷ 1 ∷ []) (answered (judged (broken 1))) (answered (contradicted 1 1))
@@ -120,14 +83,44 @@ recordExamples =
     ++ ofRecipe (2 ∷ 2 ∷ 2 ∷ 2 ∷ 1 ∷ []) (answered (judged (unfounded 8))) (answered (uncaused 1 1))
     -- M3
     ++ ofRecipe (1 ∷ 2 ∷ 2 ∷ 2 ∷ 2 ∷ []) (answered (judged (unfounded 7))) (answered (uncaused 1 0))
-    -- M4
+    -- M4; the whole translation is left in the table after missing
     ++ ofRecipe (2 ∷ 0 ∷ 1 ∷ 2 ∷ 1 ∷ []) (answered (missing 1)) (refused 11 1)
-    -- M5
+    ++ (historyLeaves recipe recipeLaws (2 ∷ 0 ∷ 1 ∷ 2 ∷ 1 ∷ []) (replicate 60 7) (recipeTable ++ replicate 7 7) ∷ [])
+    -- M5; and after clash
     ++ ofRecipe (3 ∷ 2 ∷ 1 ∷ 2 ∷ 1 ∷ []) (answered (judged (clash 0))) (refused 11 0)
-    -- M6 to M10, and the engine's other examples
-    ++ map fromEngine engine-examples.examples
+    ++ (historyLeaves recipe recipeLaws (3 ∷ 2 ∷ 1 ∷ 2 ∷ 1 ∷ []) (replicate 60 7) (recipeTable ++ replicate 7 7) ∷ [])
+    -- a value too few: refused, and the table is as it was
+    ++ ofRecipe (2 ∷ 2 ∷ 1 ∷ 2 ∷ []) (refused 10 4) (refused 10 4)
+    ++ (historyLeaves recipe recipeLaws (2 ∷ 2 ∷ 1 ∷ 2 ∷ []) (replicate 60 7) (replicate 60 7) ∷ [])
+    -- a contradiction at time 0 by a static law: in water and not wet
+    ++ both (water 1) waterLaws (1 ∷ 2 ∷ 2 ∷ 1 ∷ 1 ∷ []) (answered (judged (broken 0))) (answered (contradicted 0 1))
+    -- faults at time 2: the door opens by nothing; it stays closed though it is opened
+    ++ both (door 2) doorLaws (1 ∷ 2 ∷ 1 ∷ 2 ∷ 2 ∷ []) (answered (judged (unfounded 9))) (answered (uncaused 2 0))
+    ++ both (door 2) doorLaws (1 ∷ 2 ∷ 1 ∷ 1 ∷ 1 ∷ []) (answered (judged (broken 4))) (answered (contradicted 2 1))
     -- horizons at the limits
-    ++ (horizonTaken 0 (some 0) ∷ horizonTaken 1 none ∷ horizonTaken 30 none ∷ horizonTaken 31 (some 0) ∷ [])
+    ++ (translates (recipeFor 0) recipeLaws 53 (refused 3 0) ∷ translates (recipeFor 1) recipeLaws 53 (answered (written 5 12 53)) ∷ [])
+    ++ (translates (recipeFor 30) recipeLaws 1126 (answered (written 92 244 1126)) ∷ translates (recipeFor 31) recipeLaws 1200 (refused 3 0) ∷ [])
+
+-- 30,912 words for the largest table are enough, and one fewer are refused
+abbrev pub largestExamples : List Example
+largestExamples =
+    translates largest largestLaws 30912 (answered (written 984 2448 30912))
+    ∷ translates largest largestLaws 30911 (refused 9 30912)
+    ∷ []
+
+-- M6 to M10 and the engine's other examples
+abbrev pub engineExamples : List Example
+engineExamples = map fromEngine engine-examples.examples
+
+-- 000's program (11), its tables and transitions
+abbrev pub paperExamples : List Example
+paperExamples =
+    -- of all 64 sets over three atoms, the four answer sets that 000 prints
+    (passingAre 3 program11 answerSets11 ∷ [])
+    -- (9) and (10) for T = 1 and 2
+    ++ (tableIs (door 1) doorLaws doorTable1 ∷ tableIs (door 2) doorLaws doorTable2 ∷ [])
+    ++ (tableIs (water 1) waterLaws waterTable1 ∷ tableIs (water 2) waterLaws waterTable2 ∷ [])
+    ++ (translates (door 2) doorLaws 44 (answered (written 5 11 44)) ∷ translates (water 2) waterLaws 92 (answered (written 8 21 92)) ∷ [])
     -- (3) has 2 states and exactly 4 explained transitions, (4) has 3 and 6
     ++ (pathsAre 1 1 0 doorLaws (tuples (1 ∷ 2 ∷ []) 1) ((1 ∷ []) ∷ (2 ∷ []) ∷ []) ∷ [])
     ++ (pathsAre 1 1 1 doorLaws (tuples (1 ∷ 2 ∷ []) 3) doorTransitions ∷ [])
@@ -144,6 +137,14 @@ textExamples =
     ∷ readsHistory recipeText m3Text 5 (answered (1 ∷ 2 ∷ 2 ∷ 2 ∷ 2 ∷ []))
     ∷ readsHistory recipeText m4Text 5 (answered (2 ∷ 0 ∷ 1 ∷ 2 ∷ 1 ∷ []))
     ∷ readsHistory recipeText m5Text 5 (answered (3 ∷ 2 ∷ 1 ∷ 2 ∷ 1 ∷ []))
+    ∷ readsHistory recipeText otherOrderText 5 (answered (3 ∷ 2 ∷ 1 ∷ 2 ∷ 1 ∷ []))
+    -- the names shown: the part where each was declared; an empty one for a number that nothing declares
+    ∷ showsFluent recipeText 0 (108 ∷ 111 ∷ 99 ∷ 107 ∷ 101 ∷ 100 ∷ [])
+    ∷ showsFluent recipeText 1 (102 ∷ 108 ∷ 111 ∷ 119 ∷ 101 ∷ 100 ∷ [])
+    ∷ showsFluent recipeText 2 []
+    ∷ showsAction recipeText 0 (114 ∷ 101 ∷ 102 ∷ 108 ∷ 111 ∷ 119 ∷ [])
+    ∷ showsAction recipeText 1 []
+    -- the same texts are written for what was read
     ∷ writes 1 recipeFluents recipeActions recipeLaws recipeText
     ∷ writesHistory 1 recipeFluents recipeActions (2 ∷ 2 ∷ 1 ∷ 2 ∷ 1 ∷ []) historyText
     ∷ []
@@ -159,7 +160,47 @@ outputExamples =
     ∷ prints (recipeText ++ m5Text) m5Output
     -- an empty line behind the history
     ∷ prints (recipeText ++ historyText ++ (10 ∷ [])) behindOutput
+    -- lines count over the whole input
+    ∷ prints (recipeText ++ badActText) badActOutput
+    ∷ prints [] emptyOutput
+    ∷ prints (smallNames ++ copies 64 lawText ++ badLawText) law65Output
+    -- a static law, every key; a fault at time 2; one at time 0
+    ∷ prints (doorText ++ doorHistoryText) doorOutput
+    ∷ prints (doorText2 ++ lateFaultText) lateFaultOutput
+    ∷ prints firstFaultText firstFaultOutput
     ∷ []
 
+-- a text that is too long
+abbrev pub longOutputs : List Example
+longOutputs = prints (letters 65536) longOutput ∷ []
+
+-- numbers for C: a value above its code, of which the low 56 bits are kept, and two numbers of 16 bits
+abbrev pub codeExamples : List Example
+codeExamples =
+    codedAs 66 1 322
+    ∷ codedAs 12 72057594037927939 780
+    ∷ pairedAs 1 2 65538
+    ∷ pairedAs 65537 131071 131071
+    ∷ []
+
+abbrev pub gathered : List (List Example) → List Example
+gathered [] = []
+gathered (es ∷ ess) = es ++ gathered ess
+
+-- the one list
 abbrev pub worked : List Example
-worked = recordExamples ++ textExamples ++ outputExamples
+worked =
+    gathered
+    (recordExamples
+    ∷ largestExamples
+    ∷ engineExamples
+    ∷ paperExamples
+    ∷ textExamples
+    ∷ readerExamples
+    ∷ lineExamples
+    ∷ historyExamples
+    ∷ longExamples
+    ∷ outputExamples
+    ∷ longOutputs
+    ∷ codeExamples
+    ∷ [])

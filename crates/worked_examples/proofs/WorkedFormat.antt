@@ -1,0 +1,26 @@
+-- The worked examples of the text format hold.
+-- Assumes nothing.
+use mathlib.Core.Path.{refl}
+use Rattle.search.specs.Search.{Each}
+use Rattle.text.specs.Bytes.{cut}
+use Rattle.text.specs.Lines.{keyNumber, firstLine}
+use Rattle.text.specs.Names.{isName, literal}
+use Rattle.text.specs.Lists.{items, listOf}
+use Rattle.description_reader.specs.LineSteps.{horizonOf, headOf, lineStep}
+use Rattle.description_reader.specs.Descriptions.{described}
+use Rattle.description_reader.specs.Shown.{shownFluent, shownAction}
+use Rattle.history_reader.specs.Histories.{readHistory}
+use Rattle.worked_examples.specs.Examples.{Holds}
+use Rattle.worked_examples.specs.Format.{readerExamples, lineExamples, historyExamples}
+
+pub reader-examples : Each Holds readerExamples
+unfolding cut keyNumber firstLine isName literal items listOf horizonOf headOf lineStep described readHistory shownFluent shownAction
+reader-examples = (refl, (refl, (refl, (refl, (refl, (refl, (refl, (refl, (refl, (refl, (refl, (refl, (refl, (refl, (refl, (refl, (refl, (refl, (refl, (refl, (refl, (refl, (refl, (refl, (refl, (refl, (refl, (refl, (refl, (refl, (refl, (refl, (refl, (refl, (refl, (refl, (refl, (refl, (refl, (refl, (refl, (refl, (refl, (refl, (refl, (refl, (refl, (refl, tt))))))))))))))))))))))))))))))))))))))))))))))))
+
+pub line-examples : Each Holds lineExamples
+unfolding cut keyNumber firstLine isName literal items listOf horizonOf headOf lineStep described readHistory shownFluent shownAction
+line-examples = (refl, (refl, (refl, (refl, (refl, (refl, (refl, (refl, (refl, (refl, (refl, (refl, (refl, (refl, (refl, (refl, (refl, (refl, (refl, (refl, (refl, (refl, (refl, (refl, (refl, (refl, (refl, (refl, (refl, (refl, tt))))))))))))))))))))))))))))))
+
+pub history-examples : Each Holds historyExamples
+unfolding cut keyNumber firstLine isName literal items listOf horizonOf headOf lineStep described readHistory shownFluent shownAction
+history-examples = (refl, (refl, (refl, (refl, (refl, (refl, (refl, (refl, (refl, (refl, (refl, (refl, (refl, (refl, (refl, (refl, (refl, (refl, (refl, (refl, (refl, (refl, tt))))))))))))))))))))))

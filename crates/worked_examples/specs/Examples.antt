@@ -1,0 +1,91 @@
+-- What a worked example says: a definition of one of the layers at given arguments, and what it comes to.
+-- Assumes nothing.
+use mathlib.Core.Path.{_≡_}
+use mathlib.Core.Bool.{Bool, true, false}
+use mathlib.Core.List.{List}
+use Prim.Native.Nat.{ℕ}
+use lib.ListN.{length}
+use Rattle.search.specs.Search.{chosen}
+use Rattle.search.specs.Replies.{Reply}
+use Rattle.answer_sets.specs.Verdicts.{Verdict}
+use Rattle.answer_sets.specs.Answers as engine
+use Rattle.description.specs.declared.Law.{Law}
+use Rattle.description.specs.declared.Description.{Description}
+use Rattle.translation.specs.Translated as translated
+use Rattle.translation.specs.Translated.{Written}
+use Rattle.history.specs.Checks as history
+use Rattle.history.specs.Checks.{Finding}
+use Rattle.causal.specs.Verdicts.{Causal, contradicted, uncaused, path, causalVerdict}
+use Rattle.causal.specs.Readings as causal
+use Rattle.description_reader.specs.Descriptions.{Taken, described}
+use Rattle.description_reader.specs.Shown.{shownFluent, shownAction}
+use Rattle.history_reader.specs.Histories.{readHistory}
+use Rattle.written_form.specs.Writing.{descriptionText}
+use Rattle.written_form.specs.HistoryWriting.{valuesText}
+use Rattle.written_form.specs.Writable.{Writable}
+use Rattle.report.specs.Output.{room, output}
+use Rattle.huntyghai.specs.Codes.{coded, pair}
+use Rattle.worked_examples.specs.Program11.{allValues, passing}
+
+abbrev pub isPath : Causal → Bool
+isPath path = true
+isPath (contradicted t l) = false
+isPath (uncaused t f) = false
+
+-- the value lists of a horizon that the causal verdict passes: states for horizon 0, transitions for horizon 1
+abbrev pub paths : ℕ → ℕ → ℕ → List Law → List (List ℕ) → List (List ℕ)
+paths n m T ls vss = chosen (λ vs. isPath (causalVerdict n m T ls vs)) vss
+
+-- a worked example: what a definition says of something
+pub data Example : Type 0 where
+  -- values and a table
+  engineSays : List ℕ → List ℕ → Reply Verdict → Example
+  -- of all sets over so many atoms, those that pass a table
+  passingAre : ℕ → List ℕ → List (List ℕ) → Example
+  -- a description, its laws, and the room in the table
+  translates : Description → List Law → ℕ → Reply Written → Example
+  -- the words that are written
+  tableIs : Description → List Law → List ℕ → Example
+  -- what the lent table holds before and after
+  tableLeft : Description → List Law → List ℕ → List ℕ → Example
+  -- the same for the history check and a set's values
+  historySays : Description → List Law → List ℕ → Reply Finding → Example
+  historyLeaves : Description → List Law → List ℕ → List ℕ → List ℕ → Example
+  causalSays : Description → List Law → List ℕ → Reply Causal → Example
+  -- of some lists of values, those that are paths
+  pathsAre : ℕ → ℕ → ℕ → List Law → List (List ℕ) → List (List ℕ) → Example
+  -- a run of so many law records is lent, a text, and what is read of it
+  reads : ℕ → List ℕ → Reply Taken → Example
+  -- a description text, a history text, the room for values, and the values read
+  readsHistory : List ℕ → List ℕ → ℕ → Reply (List ℕ) → Example
+  -- the text written for a horizon, fluents, actions and laws, which meet the conditions of the round trip
+  writes : ℕ → List (List ℕ) → List (List ℕ) → List Law → List ℕ → Example
+  writesHistory : ℕ → List (List ℕ) → List (List ℕ) → List ℕ → List ℕ → Example
+  -- an input of the program and what it prints
+  prints : List ℕ → List ℕ → Example
+  -- the name shown for a fluent's number and for an action's
+  showsFluent : List ℕ → ℕ → List ℕ → Example
+  showsAction : List ℕ → ℕ → List ℕ → Example
+  -- a code with a value, and two numbers, as one number
+  codedAs : ℕ → ℕ → ℕ → Example
+  pairedAs : ℕ → ℕ → ℕ → Example
+
+abbrev pub Holds : Example → Type 0
+Holds (engineSays vs ws reply) = engine.answer vs ws ≡ reply
+Holds (passingAre atoms ws vss) = passing ws (allValues atoms) ≡ vss
+Holds (translates d ls words reply) = translated.outcome d ls (length ls) words ≡ reply
+Holds (tableIs d ls ws) = translated.tableFor d ls ≡ ws
+Holds (tableLeft d ls before after) = translated.tableAfter d ls (length ls) before ≡ after
+Holds (historySays d ls vs reply) = history.checked d ls (length ls) vs room ≡ reply
+Holds (historyLeaves d ls vs before after) = history.tableAfter d ls (length ls) vs before ≡ after
+Holds (causalSays d ls vs reply) = causal.reading d ls (length ls) vs ≡ reply
+Holds (pathsAre n m T ls vss expected) = paths n m T ls vss ≡ expected
+Holds (reads lent text reply) = described lent text ≡ reply
+Holds (readsHistory description text values reply) = readHistory description text values ≡ reply
+Holds (writes T fluents actions ls text) = (descriptionText T fluents actions ls ≡ text) × Writable (length ls) T fluents actions ls
+Holds (writesHistory T fluents actions vs text) = valuesText T fluents actions vs ≡ text
+Holds (prints input bytes) = output input ≡ bytes
+Holds (showsFluent text f name) = shownFluent text f ≡ name
+Holds (showsAction text k name) = shownAction text k ≡ name
+Holds (codedAs code value number) = coded code value ≡ number
+Holds (pairedAs high low number) = pair high low ≡ number
