@@ -2,10 +2,10 @@
 -- Assumes nothing.
 use mathlib.Core.Path.{refl}
 use native.Mathlib.Omega.{arith}
-use Rattle.huntyghai.specs.Codes.{pair}
+use Rattle.answer_codes.specs.Codes.{pair}
 use borrow.Author.Needs.{needs}
-use Rattle.huntyghai.proofs.codes.both.Statement.{statement}
-use Rattle.huntyghai.proofs.codes.both.Tie as tie
+use Rattle.answer_codes.proofs.both.Statement.{statement}
+use Rattle.answer_codes.proofs.both.Tie as tie
 
 mul-result : tie.Need-mul-result
 mul-result c = search needs

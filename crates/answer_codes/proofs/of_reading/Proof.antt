@@ -1,8 +1,8 @@
 -- `of_reading` meets its contract, arm by arm.
 -- Assumes nothing.
 use borrow.Author.Needs.{needs}
-use Rattle.huntyghai.proofs.codes.of_reading.Statement.{statement}
-use Rattle.huntyghai.proofs.codes.of_reading.Tie as tie
+use Rattle.answer_codes.proofs.of_reading.Statement.{statement}
+use Rattle.answer_codes.proofs.of_reading.Tie as tie
 
 enum-known-reading : tie.Need-enum-known-reading
 enum-known-reading c = search needs

@@ -1,8 +1,8 @@
 -- `of_translated` meets its contract, arm by arm.
 -- Assumes nothing.
 use borrow.Author.Needs.{needs}
-use Rattle.huntyghai.proofs.codes.of_translated.Statement.{statement}
-use Rattle.huntyghai.proofs.codes.of_translated.Tie as tie
+use Rattle.answer_codes.proofs.of_translated.Statement.{statement}
+use Rattle.answer_codes.proofs.of_translated.Tie as tie
 
 enum-known-translated : tie.Need-enum-known-translated
 enum-known-translated c = search needs

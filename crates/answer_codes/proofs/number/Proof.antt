@@ -1,10 +1,10 @@
 -- `number` meets its contract.
 -- Assumes nothing.
 use mathlib.Core.Path.{refl}
-use Rattle.huntyghai.specs.Codes.{coded}
+use Rattle.answer_codes.specs.Codes.{coded}
 use borrow.Author.Needs.{needs}
-use Rattle.huntyghai.proofs.codes.number.Statement.{statement}
-use Rattle.huntyghai.proofs.codes.number.Tie as tie
+use Rattle.answer_codes.proofs.number.Statement.{statement}
+use Rattle.answer_codes.proofs.number.Tie as tie
 
 mul-result : tie.Need-mul-result
 mul-result c = search needs

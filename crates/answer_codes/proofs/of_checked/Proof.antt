@@ -1,8 +1,8 @@
 -- `of_checked` meets its contract, arm by arm.
 -- Assumes nothing.
 use borrow.Author.Needs.{needs}
-use Rattle.huntyghai.proofs.codes.of_checked.Statement.{statement}
-use Rattle.huntyghai.proofs.codes.of_checked.Tie as tie
+use Rattle.answer_codes.proofs.of_checked.Statement.{statement}
+use Rattle.answer_codes.proofs.of_checked.Tie as tie
 
 enum-known-checked : tie.Need-enum-known-checked
 enum-known-checked c = search needs

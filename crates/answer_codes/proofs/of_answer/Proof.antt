@@ -1,8 +1,8 @@
 -- `of_answer` meets its contract, arm by arm.
 -- Assumes nothing.
 use borrow.Author.Needs.{needs}
-use Rattle.huntyghai.proofs.codes.of_answer.Statement.{statement}
-use Rattle.huntyghai.proofs.codes.of_answer.Tie as tie
+use Rattle.answer_codes.proofs.of_answer.Statement.{statement}
+use Rattle.answer_codes.proofs.of_answer.Tie as tie
 
 enum-known-answer : tie.Need-enum-known-answer
 enum-known-answer c = search needs

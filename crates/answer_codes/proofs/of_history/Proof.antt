@@ -1,8 +1,8 @@
 -- `of_history` meets its contract, arm by arm.
 -- Assumes nothing.
 use borrow.Author.Needs.{needs}
-use Rattle.huntyghai.proofs.codes.of_history.Statement.{statement}
-use Rattle.huntyghai.proofs.codes.of_history.Tie as tie
+use Rattle.answer_codes.proofs.of_history.Statement.{statement}
+use Rattle.answer_codes.proofs.of_history.Tie as tie
 
 enum-known-said : tie.Need-enum-known-said
 enum-known-said c = search needs

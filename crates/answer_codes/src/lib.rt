@@ -11,10 +11,10 @@ ghost use Rattle.translation.specs.Translated.{outcomeOf};
 ghost use Rattle.history.specs.Checks;
 ghost use Rattle.causal.specs.Readings;
 ghost use Rattle.history_reader.specs.Histories.{historyReplyOf};
-ghost use Rattle.huntyghai.specs.Codes.{coded, pair, replyCode, verdictCode, findingCode, causalCode, writtenCode, readCode};
+ghost use Rattle.answer_codes.specs.Codes.{coded, pair, replyCode, verdictCode, findingCode, causalCode, writtenCode, readCode};
 
 // A code, and 256 times a value of up to 56 bits.
-pub(crate) fn number(code: u8, value: usize) -> u64
+pub fn number(code: u8, value: usize) -> u64
     ensures { λ r. ⌜ r ≡ coded code value ⌝ }
 {
     code as u64 + value as u64 % 72057594037927936 * 256
@@ -28,7 +28,8 @@ fn both(high: usize, low: usize) -> usize
     high % 65536 * 65536 + low % 65536
 }
 
-pub(crate) fn of_answer(answer: Answer) -> u64
+// The engine's answer: 64 to 67.
+pub fn of_answer(answer: Answer) -> u64
     ensures { λ r. ⌜ r ≡ replyCode verdictCode (Answers.replyOf answer) ⌝ }
 {
     match answer {
@@ -40,7 +41,8 @@ pub(crate) fn of_answer(answer: Answer) -> u64
     }
 }
 
-pub(crate) fn of_checked(checked: Checked) -> u64
+// The history check's answer: 64 to 68.
+pub fn of_checked(checked: Checked) -> u64
     ensures { λ r. ⌜ r ≡ replyCode findingCode (Checks.replyOf checked) ⌝ }
 {
     match checked {
@@ -53,7 +55,8 @@ pub(crate) fn of_checked(checked: Checked) -> u64
     }
 }
 
-pub(crate) fn of_reading(reading: Reading) -> u64
+// The causal reading's answer: 80 to 82.
+pub fn of_reading(reading: Reading) -> u64
     ensures { λ r. ⌜ r ≡ replyCode causalCode (Readings.replyOf reading) ⌝ }
 {
     match reading {
@@ -64,7 +67,8 @@ pub(crate) fn of_reading(reading: Reading) -> u64
     }
 }
 
-pub(crate) fn of_translated(translated: Translated) -> u64
+// The translation's answer: 96.
+pub fn of_translated(translated: Translated) -> u64
     ensures { λ r. ⌜ r ≡ replyCode writtenCode (outcomeOf translated) ⌝ }
 {
     match translated {
@@ -75,7 +79,8 @@ pub(crate) fn of_translated(translated: Translated) -> u64
     }
 }
 
-pub(crate) fn of_history(said: HistoryAnswer) -> u64
+// The history reader's answer: 112.
+pub fn of_history(said: HistoryAnswer) -> u64
     ensures { λ r. ⌜ r ≡ replyCode readCode (historyReplyOf said) ⌝ }
 {
     match said {
