@@ -22,7 +22,7 @@ use Rattle.description_reader.specs.Shown.{shownFluent}
 use Rattle.history_reader.specs.Histories.{readHistory}
 use Rattle.written_form.specs.Examples.{recipeText, historyText}
 use Rattle.inputs.specs.Inputs.{recordedIn}
-use Rattle.report.specs.Writing.{decimal}
+use Rattle.output_lines.specs.Writing.{decimal}
 use Rattle.report.specs.Output.{output}
 use Rattle.report_examples.specs.Examples.{passedOutput, m1Text, m1Output, m2Text, m2Output, m4Text, m4Output, refusedOutput}
 
