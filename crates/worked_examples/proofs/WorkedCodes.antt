@@ -2,7 +2,7 @@
 -- Assumes nothing.
 use mathlib.Core.Path.{refl}
 use Rattle.search.specs.Search.{Each}
-use Rattle.huntyghai.specs.Codes.{coded, pair}
+use Rattle.answer_codes.specs.Codes.{coded, pair}
 use Rattle.worked_examples.specs.Examples.{Holds}
 use Rattle.worked_examples.specs.Worked.{largestExamples, codeExamples}
 use Rattle.worked_examples.proofs.Tables.{largest-taken, largest-refused}

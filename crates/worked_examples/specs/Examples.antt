@@ -24,7 +24,7 @@ use Rattle.written_form.specs.Writing.{descriptionText}
 use Rattle.written_form.specs.HistoryWriting.{valuesText}
 use Rattle.written_form.specs.Writable.{Writable}
 use Rattle.report.specs.Output.{room, output}
-use Rattle.huntyghai.specs.Codes.{coded, pair}
+use Rattle.answer_codes.specs.Codes.{coded, pair}
 use Rattle.worked_examples.specs.Program11.{allValues, passing}
 
 abbrev pub isPath : Causal → Bool
