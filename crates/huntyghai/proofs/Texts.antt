@@ -20,7 +20,7 @@ use Rattle.inputs.proofs.Known.{known, description-refused, history-refused, hi
 use Rattle.report.specs.Output.{lawsTaken}
 use Rattle.report.proofs.Composing.{same-laws, same-outcome, same-check, same-reading}
 use Rattle.report.proofs.Reported.{unread, laws-left, laws-counted}
-use Rattle.huntyghai.specs.Codes.{coded, replyCode, writtenCode, findingCode, causalCode}
+use Rattle.answer_codes.specs.Codes.{coded, replyCode, writtenCode, findingCode, causalCode}
 use Rattle.huntyghai.specs.Texts.{translatedText, tableOfText, checkedText, tableOfCheck, readingOf, readingOfInput}
 
 module _ (text : List ℕ) where

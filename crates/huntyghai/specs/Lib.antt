@@ -1,3 +1,2 @@
--- The library for C: answers as numbers, and what the functions on texts answer and leave.
-pub mod Codes
+-- The library for C: what the functions on texts answer and leave.
 pub mod Texts

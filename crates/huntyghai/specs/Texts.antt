@@ -10,7 +10,7 @@ use Rattle.description_reader.specs.Descriptions.{Taken, read, described, descr
 use Rattle.description_reader.specs.Answers.{recordOf}
 use Rattle.inputs.specs.Inputs.{recordedIn}
 use Rattle.report.specs.Output.{lawsTaken}
-use Rattle.huntyghai.specs.Codes.{replyCode, writtenCode, findingCode, causalCode}
+use Rattle.answer_codes.specs.Codes.{replyCode, writtenCode, findingCode, causalCode}
 
 -- the description's own refusal, or the translation of what was read
 abbrev pub translatedTaken : ℕ → Taken → ℕ

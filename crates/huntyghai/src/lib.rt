@@ -1,7 +1,5 @@
 // The library for C and Rust (include/huntyghai.h): functions on numbers and slices of numbers. An answer is one number, its
 // code and 256 times its value.
-mod codes;
-
 use description_reader::Answer;
 use history_reader::HistoryAnswer;
 ghost use mathlib.Core.Path.{_≡_};
@@ -11,7 +9,7 @@ ghost use lib.Seq.{sets};
 ghost use Rattle.answer_sets.specs.Answers.{answer};
 ghost use Rattle.history_reader.specs.Histories.{readHistory, historyReplied, valuesLeft};
 ghost use Rattle.report.specs.Output.{output};
-ghost use Rattle.huntyghai.specs.Codes.{replyCode, verdictCode, readCode};
+ghost use Rattle.answer_codes.specs.Codes.{replyCode, verdictCode, readCode};
 ghost use Rattle.huntyghai.specs.Texts.{translatedText, tableOfText, checkedText, tableOfCheck, readingOfInput};
 
 // What the program check prints for an input, as far as the buffer goes; the result is the whole output's length, at most 400.
@@ -28,7 +26,7 @@ pub extern "C" fn huntyghai_report(input: &[u8], out: &mut [u8]) -> usize
 pub extern "C" fn huntyghai_check_set(values: &[u8], table: &[u16]) -> u64
     ensures { λ r. ⌜ r ≡ replyCode verdictCode (answer (now (values .entry)) (now (table .entry))) ⌝ }
 {
-    codes::of_answer(answer_sets::check_set(values, table))
+    answer_codes::of_answer(answer_sets::check_set(values, table))
 }
 
 // Translates the description at the text's start.
@@ -41,11 +39,11 @@ pub extern "C" fn huntyghai_translate(text: &[u8], table: &mut [u16]) -> u64
     let read = run.read;
     let answer = read.answer;
     match answer {
-        Answer::Refused(number, place) => codes::number(number, place),
+        Answer::Refused(number, place) => answer_codes::number(number, place),
         Answer::Read(_bytes, _lines) => {
             let d = read.description;
             let laws = run.laws;
-            codes::of_translated(translation::translate(d, laws, 64, table))
+            answer_codes::of_translated(translation::translate(d, laws, 64, table))
         }
     }
 }
@@ -56,7 +54,7 @@ pub extern "C" fn huntyghai_read_history(description: &[u8], text: &[u8], values
     ensures { λ r. ⌜ r ≡ replyCode readCode (historyReplied (readHistory (now (description .entry)) (now (text .entry)) (length (now (values .entry))))) ⌝ }
     ensures { λ _. ⌜ now (values .exit) ≡ valuesLeft (readHistory (now (description .entry)) (now (text .entry)) (length (now (values .entry)))) (now (values .entry)) ⌝ }
 {
-    codes::of_history(history_reader::read_history(description, text, values))
+    answer_codes::of_history(history_reader::read_history(description, text, values))
 }
 
 // Checks values against the description at the text's start.
@@ -69,11 +67,11 @@ pub extern "C" fn huntyghai_check_history(text: &[u8], values: &[u8], table: &mu
     let read = run.read;
     let answer = read.answer;
     match answer {
-        Answer::Refused(number, place) => codes::number(number, place),
+        Answer::Refused(number, place) => answer_codes::number(number, place),
         Answer::Read(_bytes, _lines) => {
             let d = read.description;
             let laws = run.laws;
-            codes::of_checked(history::check_history(d, laws, 64, values, table))
+            answer_codes::of_checked(history::check_history(d, laws, 64, values, table))
         }
     }
 }
@@ -86,13 +84,13 @@ pub extern "C" fn huntyghai_causal_reading(input: &[u8]) -> u64
     let whole = inputs::read_input(input);
     let answer = whole.answer;
     match answer {
-        HistoryAnswer::Refused(number, place) => codes::number(number, place),
+        HistoryAnswer::Refused(number, place) => answer_codes::number(number, place),
         HistoryAnswer::Complete => {
             let d = whole.description;
             let laws = whole.laws;
             let values = whole.values;
             let atoms = whole.atoms;
-            codes::of_reading(causal::causal_reading(d, laws, 64, &values[..atoms]))
+            answer_codes::of_reading(causal::causal_reading(d, laws, 64, &values[..atoms]))
         }
     }
 }

@@ -1,5 +1,2 @@
-pub mod Stores
-pub mod Decimals
 pub mod Composing
 pub mod Reported
-pub mod Short

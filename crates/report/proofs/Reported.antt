@@ -17,8 +17,9 @@ use Rattle.history_reader.specs.Histories.{historyReplied, valuesLeft}
 use Rattle.law_runs.specs.Runs.{noLaws}
 use Rattle.inputs.specs.Inputs.{recordedIn}
 use Rattle.inputs.proofs.Known.{history-refused, history-read}
-use Rattle.report.specs.Output.{refusal, room, afterOutcome, lawsTaken, afterInput, output}
-use Rattle.report.proofs.Stores.{Wrote}
+use Rattle.output_lines.specs.Printed.{refusal}
+use Rattle.output_lines.proofs.Stores.{Wrote}
+use Rattle.report.specs.Output.{room, afterOutcome, lawsTaken, afterInput, output}
 use Rattle.report.proofs.Composing.{laws-behind}
 
 -- stores from the first byte on

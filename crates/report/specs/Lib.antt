@@ -1,3 +1,2 @@
--- What the program prints: from input bytes to output bytes. Read in this order.
-pub mod Writing
+-- What the program prints: from input bytes to output bytes.
 pub mod Output

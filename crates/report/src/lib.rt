@@ -1,11 +1,8 @@
 // What the program check prints: the nine lines of a history check, or a refusal.
-mod answers;
-mod writing;
-
-use answers::Counts;
 use description::Description;
 use description::Law;
 use history_reader::HistoryAnswer;
+use output_lines::Counts;
 use translation::Translated;
 ghost use mathlib.Core.Path.{_≡_};
 ghost use Prim.Native.Nat.{_+_, _≤_, min};
@@ -31,10 +28,11 @@ fn put_outcome(
 ) -> usize
     ensures { λ r. ⌜ (let ws = afterOutcome (now (input .entry)) d laws (now (values .entry)) (outcome d laws 64 room) in
         (r ≡ 0 + length ws) × (now (out .exit) ≡ sets (now (out .entry)) 0 ws)) ⌝ }
+    ensures { λ r. ⌜ r ≤ 400 ⌝ }
 {
     let measured = translation::measure(d, laws, 64, 30912);
     match measured {
-        Translated::Refused(number, place) => answers::put_refusal(out, 0, number, place),
+        Translated::Refused(number, place) => output_lines::put_refusal(out, number, place),
         Translated::Written(atoms, rules, words) => {
             let mut table = no_table();
             let judged = held_laws::judge(d, laws, values, &mut table);
@@ -46,7 +44,7 @@ fn put_outcome(
                 rules,
                 words,
             };
-            answers::put_checked(out, input, counts, checked, reading)
+            output_lines::put_checked(out, input, counts, checked, reading)
         }
     }
 }
@@ -60,7 +58,7 @@ pub fn report(input: &[u8], out: &mut [u8]) -> usize
     let whole = inputs::read_input(input);
     let answer = whole.answer;
     match answer {
-        HistoryAnswer::Refused(number, place) => answers::put_refusal(out, 0, number, place),
+        HistoryAnswer::Refused(number, place) => output_lines::put_refusal(out, number, place),
         HistoryAnswer::Complete => {
             let d = whole.description;
             let laws = whole.laws;

@@ -21,7 +21,7 @@ use Rattle.description_reader.specs.Descriptions.{described}
 use Rattle.history_reader.specs.Histories.{readHistory}
 use Rattle.description_reader.specs.Shown.{shownFluent}
 use Rattle.inputs.specs.Inputs.{recordedIn}
-use Rattle.report.specs.Writing.{decimal}
+use Rattle.output_lines.specs.Writing.{decimal}
 use Rattle.report.specs.Output.{output}
 use Rattle.worked_examples.specs.Worked.{Holds, outputExamples}
 

@@ -4,7 +4,7 @@ use mathlib.Core.Path.{sym, ap, _∙_}
 use native.Mathlib.Omega.{arith}
 use lib.ListN.{length-take, replicate}
 use Rattle.history_reader.specs.Histories.{historyReplyOf}
-use Rattle.huntyghai.specs.Codes.{replyCode, causalCode}
+use Rattle.answer_codes.specs.Codes.{replyCode, causalCode}
 use Rattle.huntyghai.proofs.Texts.{reading-refused, reading-read}
 use borrow.Author.Needs.{needs}
 use Rattle.huntyghai.proofs.huntyghai_causal_reading.Statement.{statement}

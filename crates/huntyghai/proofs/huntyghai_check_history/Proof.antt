@@ -3,7 +3,7 @@
 use mathlib.Core.Path.{sym, ap, _∙_}
 use lib.ListN.{length}
 use Rattle.description_reader.specs.Answers.{replyOf}
-use Rattle.huntyghai.specs.Codes.{replyCode, findingCode}
+use Rattle.answer_codes.specs.Codes.{replyCode, findingCode}
 use Rattle.huntyghai.proofs.Texts.{check-refused, check-table-refused, check-read, check-table-read}
 use borrow.Author.Needs.{needs}
 use Rattle.huntyghai.proofs.huntyghai_check_history.Statement.{statement}

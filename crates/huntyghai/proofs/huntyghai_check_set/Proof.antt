@@ -1,7 +1,7 @@
 -- `huntyghai_check_set` meets its contract.
 -- Assumes nothing.
 use mathlib.Core.Path.{_∙_, ap}
-use Rattle.huntyghai.specs.Codes.{replyCode, verdictCode}
+use Rattle.answer_codes.specs.Codes.{replyCode, verdictCode}
 use borrow.Author.Needs.{needs}
 use Rattle.huntyghai.proofs.huntyghai_check_set.Statement.{statement}
 use Rattle.huntyghai.proofs.huntyghai_check_set.Tie as tie

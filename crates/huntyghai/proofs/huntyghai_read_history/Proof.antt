@@ -1,7 +1,7 @@
 -- `huntyghai_read_history` meets its contract.
 -- Assumes nothing.
 use mathlib.Core.Path.{_∙_, ap}
-use Rattle.huntyghai.specs.Codes.{replyCode, readCode}
+use Rattle.answer_codes.specs.Codes.{replyCode, readCode}
 use borrow.Author.Needs.{needs}
 use Rattle.huntyghai.proofs.huntyghai_read_history.Statement.{statement}
 use Rattle.huntyghai.proofs.huntyghai_read_history.Tie as tie

@@ -3,7 +3,7 @@
 use mathlib.Core.Path.{sym, ap, _∙_}
 use lib.ListN.{length}
 use Rattle.description_reader.specs.Answers.{replyOf}
-use Rattle.huntyghai.specs.Codes.{replyCode, writtenCode}
+use Rattle.answer_codes.specs.Codes.{replyCode, writtenCode}
 use Rattle.huntyghai.proofs.Texts.{translate-refused, table-refused, translate-read, table-read}
 use borrow.Author.Needs.{needs}
 use Rattle.huntyghai.proofs.huntyghai_translate.Statement.{statement}

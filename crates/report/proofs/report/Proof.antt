@@ -6,7 +6,6 @@ use lib.ListN.{length, take, replicate, length-take}
 use Rattle.history_reader.specs.Histories.{historyReplyOf}
 use Rattle.report.specs.Output.{output}
 use Rattle.report.proofs.Reported.{from-first, says-refused, says-values}
-use Rattle.report.proofs.Short.{short-too}
 use borrow.Author.Needs.{needs}
 use Rattle.report.proofs.report.Statement.{statement}
 use Rattle.report.proofs.report.Tie as tie
@@ -46,8 +45,7 @@ returns c =
     let i = told .before .before in
     let a = i .before .before .before .args in
     let input = a .input .now in
-    short-too input (from-first (a .out .now) (output input)
-    (rw (says-refused input (sym (ap historyReplyOf (told .answer .given .1)) ∙ i .read-input .ensures .0)) (w .put-refusal .ensures)))
+    (from-first (a .out .now) (output input) (rw (says-refused input (sym (ap historyReplyOf (told .answer .given .1)) ∙ i .read-input .ensures .0)) (w .put-refusal .ensures .0)), w .put-refusal .ensures .1)
 
 same-length-2 : tie.Need-same-length-2
 same-length-2 c = search needs
@@ -62,7 +60,7 @@ returns-2 c =
     let e = i .read-input .ensures in
     let is = says-values input (replicate (i .read-input .result .atoms) 0) (e .1 .0) (e .1 .1 .0) (e .1 .1 .1 .1 .0)
     (sym (ap historyReplyOf (told .enum-told .given .1)) ∙ e .0) in
-    short-too input (from-first (a .out .now) (output input) (rw is (w .put-outcome .ensures)))
+    (from-first (a .out .now) (output input) (rw is (w .put-outcome .ensures .0)), w .put-outcome .ensures .1)
 
 pub report-spec : {M : Type 1} → statement M
 report-spec =

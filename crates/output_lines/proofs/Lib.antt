@@ -1,0 +1,5 @@
+pub mod Stores
+pub mod Decimals
+pub mod WordTable
+pub mod Names
+pub mod Showing
