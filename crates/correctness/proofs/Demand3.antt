@@ -1,5 +1,5 @@
 -- Demand 3, for every accepted description, an open horizon and every set with one value for each atom. The engine's part goes
--- through its own theorem (it passes exactly the answer sets), the history check's through the engine's. And what the functions
+-- through what the engine promises (demand 2: it passes exactly the answer sets), the history check's through the engine's. And what the functions
 -- open to callers promise of it.
 -- Assumes nothing.
 use mathlib.Core.Path.{_≡_, refl, sym, _∙_, ap}
@@ -22,9 +22,9 @@ use Rattle.answer_sets.specs.AnswerSets.{AnswerSet}
 use Rattle.answer_sets.specs.Verdicts.{Verdict, passes}
 use Rattle.answer_sets.specs.Words.{rulesOf}
 use Rattle.answer_sets.specs.Answers as engine
+use Rattle.answer_sets.specs.Demand2.{Accepted, Demand2}
 use Rattle.answer_sets.proofs.Decoding.{rules-words, codes-coded}
-use Rattle.answer_sets.proofs.Theorems.{Accepted}
-use Rattle.answer_sets.proofs.Theorems.{passes-exactly as engine-passes-exactly}
+use Rattle.answer_sets.proofs.Theorems.{demand-2}
 use Rattle.description.specs.declared.Law.{Law}
 use Rattle.description.specs.declared.Description.{Description}
 use Rattle.description.specs.Laws.{lawsOf}
@@ -92,7 +92,8 @@ module _ (d : Description) (ls : List Law) (lent : ℕ) (vs : List ℕ) (complet
   by-answer-set = answer-set-iff-path (d .fluents) (d .actions) (d .horizon) (lawsOf d ls) vs (accepted-law d ls lent taken) size one
 
   by-engine : engine.answer vs (tableFor d ls) ≡ answered passes ↔ PathOf d ls vs
-  by-engine = Iff·trans (rw decoded at (engine-passes-exactly vs (tableFor d ls) accepted)) by-answer-set
+  unfolding Demand2
+  by-engine = Iff·trans (rw decoded at (demand-2 vs (tableFor d ls) accepted .passes-exactly)) by-answer-set
 
   -- the words that the translation left at the front are those of the rules
   left-in-front : (old : List ℕ) → length (tableFor d ls) ≤ length old → take (length (tableFor d ls)) (tableAfter d ls lent old) ≡ tableFor d ls

@@ -1,42 +1,92 @@
--- The answer sets of a tight program are its consistent, closed and supported sets (000, section 7.4, Proposition 4).
+-- The answer sets of a tight program are its consistent, closed and supported sets (000, section 7.4, Proposition 4). All is said
+-- of rules and the reduct; how an engine finds answer sets plays no part.
 -- Assumes nothing.
-use mathlib.Core.Path.{_≡_, refl}
-use mathlib.Core.Logic.{_↔_, _⊎_, inl, inr, ⊎-elim}
-use mathlib.Core.Bool.{true, false, not, _&&_, _||_}
-use mathlib.Core.List.{List, [], _∷_}
+use mathlib.Core.Path.{_≡_, refl, ap}
+use mathlib.Core.Logic.{_↔_, _⊎_, inl, inr, ⊎-elim, Iff·trans}
+use mathlib.Core.Bool.{Bool, true, false, not, _&&_}
+use mathlib.Core.List.{List, [], _∷_, List·Memᴰ, List·Memᴰ·head, List·Memᴰ·tail}
 use Prim.Native.Nat.{ℕ, zero, suc, _<_}
 use native.Mathlib.Omega.{arith}
-use lib.Dec.{ltb, eqb}
-use borrow.Author.Tests.{ltb-true, lt-ltb, eqb-true, eq-eqb}
-use Rattle.search.specs.Search.{Each}
-use Rattle.search.proofs.Tests.{true-or-false, not-both, false-of-not, true-of-not, and-iff, and-or-iff, or-iff, not-iff, each-map₂}
+use lib.Dec.{eqb}
+use borrow.Author.Tests.{eqb-true, eq-eqb}
+use Rattle.search.specs.Search.{Each, all}
+use Rattle.search.proofs.Tests.{true-or-false, not-both, false-of-not, and-iff, not-iff, each-map, each-map₂}
+use Rattle.search.proofs.Lists.{each-iff, each-member, member-each}
 use Rattle.answer_sets.specs.Literals.{Lits}
 use Rattle.answer_sets.specs.Rules.{Head, lit, falsum, Rule}
-use Rattle.answer_sets.specs.AnswerSets.{reduct, HeadIn, Closed, Subset, Consistent, AnswerSet}
-use Rattle.answer_sets.specs.Verdicts.{applies, headIs, round}
-use Rattle.answer_sets.proofs.Least.{LiteralIn, applies-iff, applies-subset, reduct-closed, round-iff}
+use Rattle.answer_sets.specs.AnswerSets.{PositiveRule, meets, reduct, Within, HeadIn, Closed, Subset, AnswerSet}
+use Rattle.answer_sets.proofs.Sets.{all-within, within-subset}
+use Rattle.correctness.specs.TightPrograms.{Support, Supported, LowerParts, Tight, Proposition4}
 
--- each literal of X is the head of a rule that applies in X
-abbrev pub Supported : List Rule → Lits → Type 0
-Supported Π X = Subset X (round Π X X)
+-- The reduct, rule by rule
 
--- each plain part of a rule with a literal head has a lower level than the head
-abbrev pub LowerParts : (ℕ → ℕ) → List ℕ → Head → Type 0
-LowerParts level cs (lit h) = Each (λ c. level c < level h) cs
-LowerParts level cs falsum = Unit
+-- a fact of each rule of the reduct is one of each rule that the reduct keeps
+reduct-each : (Q : Head → List ℕ → Type 0) (Π : List Rule) (X : Lits)
+    → Each (λ r. Q (r .head) (r .body)) (reduct Π X) ↔ Each (λ r. meets (r .negated) X ≡ false → Q (r .head) (r .plain)) Π
+reduct-each Q [] X = (λ h. h, λ h. h)
+reduct-each Q (r ∷ rs) X = go (meets (r .negated) X) refl (reduct-each Q rs X)
+  where
+    go : (b : Bool) → meets (r .negated) X ≡ b
+        → (Each (λ r. Q (r .head) (r .body)) (reduct rs X) ↔ Each (λ r. meets (r .negated) X ≡ false → Q (r .head) (r .plain)) rs)
+        → Each (λ r. Q (r .head) (r .body)) (reduct (r ∷ rs) X) ↔ Each (λ r. meets (r .negated) X ≡ false → Q (r .head) (r .plain)) (r ∷ rs)
+    go true t rest = rw t (λ h. (λ f. absurd (not-both refl f), rest .0 h), λ h. rest .1 (h .1))
+    go false f rest = rw f (λ h. (λ e. h .0, rest .0 (h .1)), λ h. (h .0 refl, rest .1 (h .1)))
 
-abbrev pub Tight : (ℕ → ℕ) → List Rule → Type 0
-Tight level Π = Each (λ r. LowerParts level (r .plain) (r .head)) Π
+-- no negated part of a rule is in X and each plain part is
+abbrev pub bodyIn : Lits → Rule → Bool
+bodyIn X r = not (meets (r .negated) X) && all X (r .plain)
 
--- what follows from each rule that applies with head c follows where a round has c
-pub round-cases : {G : Type 0} (Π : List Rule) (X Y : Lits) (c : ℕ) → round Π X Y c ≡ true
-    → Each (λ r. applies X Y r ≡ true → headIs (r .head) c ≡ true → G) Π → G
-round-cases [] X Y c e h = absurd (not-both e refl)
-round-cases (r ∷ rs) X Y c e h =
-    ⊎-elim (λ i. h .0 (i .1) (i .0)) (λ later. round-cases rs X Y c later (h .1))
-    (and-or-iff (headIs (r .head) c) (applies X Y r) (round rs X Y c) .0 e)
+body-iff : (X : Lits) (r : Rule) → bodyIn X r ≡ true ↔ ((meets (r .negated) X ≡ false) × Within (r .plain) X)
+body-iff X r = Iff·trans (and-iff (not (meets (r .negated) X)) (all X (r .plain))) (
+  λ h. (not-iff _ .0 (h .0), all-within X (r .plain) .0 (h .1)),
+  λ h. (not-iff _ .1 (h .0), all-within X (r .plain) .1 (h .1)),
+)
+
+-- what is so of each rule of the reduct with its body in X is so of each rule with its body in X
+body-each : (Q : Head → Type 0) (Π : List Rule) (X : Lits)
+    → Each (λ r. Within (r .body) X → Q (r .head)) (reduct Π X) ↔ Each (λ r. bodyIn X r ≡ true → Q (r .head)) Π
+body-each Q Π X =
+    Iff·trans (reduct-each (λ h cs. Within cs X → Q h) Π X)
+    (each-iff (λ r. (λ h e. let (kept, body) = body-iff X r .0 e in h kept body, λ h kept body. h (body-iff X r .1 (kept, body)))) Π)
+
+pub closed-rules : (Π : List Rule) (X : Lits) → Closed (reduct Π X) X ↔ Each (λ r. bodyIn X r ≡ true → HeadIn (r .head) X) Π
+closed-rules Π X = body-each (λ h. HeadIn h X) Π X
+
+-- each rule with its body in X supports its head
+pub rules-support : (Π : List Rule) (X : Lits) → Each (λ r. bodyIn X r ≡ true → (c : ℕ) → r .head ≡ lit c → Support Π X c) Π
+rules-support Π X =
+    body-each (λ h. (c : ℕ) → h ≡ lit c → Support Π X c) Π X .0
+    (each-map (λ r m body c e. (r, m, e, body)) (reduct Π X) (each-member (reduct Π X)))
+
+-- what follows from each rule with head c and its body in X follows where c has support
+pub support-cases : {G : Type 0} (Π : List Rule) (X : Lits) (c : ℕ) → Support Π X c
+    → Each (λ r. bodyIn X r ≡ true → r .head ≡ lit c → G) Π → G
+support-cases {G} Π X c (r, m, e, body) h =
+    member-each (λ r. Within (r .body) X → r .head ≡ lit c → G) (reduct Π X) (body-each (λ h. h ≡ lit c → G) Π X .1 h) m body e
 
 -- Answer sets are supported: X without a literal that is not would be closed too
+
+abbrev isHead : ℕ → Head → Bool
+isHead c (lit h) = eqb h c
+isHead c falsum = false
+
+head-iff : (c : ℕ) (h : Head) → isHead c h ≡ true ↔ h ≡ lit c
+head-iff c (lit h) = (λ e. ap lit (eqb-true h c e), λ e. let same : h ≡ c = cc in eq-eqb h c same)
+head-iff c falsum = (λ e. absurd (not-both e refl), λ e. let z : _≡_ {A = ℕ} 0 1 = cc in absurd (omega arith))
+
+-- an element that passes a test, or none does
+find : {A : Type 0} (p : A → Bool) (xs : List A) → ((x : A) × List·Memᴰ x xs × (p x ≡ true)) ⊎ Each (λ x. p x ≡ false) xs
+find p [] = inr tt
+find {A} p (x ∷ xs) = go (true-or-false (p x)) (find p xs)
+  where
+    go : (p x ≡ true) ⊎ (p x ≡ false) → ((y : A) × List·Memᴰ y xs × (p y ≡ true)) ⊎ Each (λ y. p y ≡ false) xs
+        → ((y : A) × List·Memᴰ y (x ∷ xs) × (p y ≡ true)) ⊎ Each (λ y. p y ≡ false) (x ∷ xs)
+    go (inl t) rest = inl (x, List·Memᴰ·head refl, t)
+    go (inr f) (inl (y, m, t)) = inl (y, List·Memᴰ·tail m, t)
+    go (inr f) (inr rest) = inr (f, rest)
+
+abbrev supports : Lits → ℕ → PositiveRule → Bool
+supports X c r = isHead c (r .head) && all X (r .body)
 
 abbrev without : ℕ → Lits → Lits
 without d X c = X c && not (eqb c d)
@@ -44,68 +94,51 @@ without d X c = X c && not (eqb c d)
 without-subset : (d : ℕ) (X : Lits) → Subset (without d X) X
 without-subset d X c e = and-iff (X c) (not (eqb c d)) .0 e .0
 
-without-closed : (Π : List Rule) (X : Lits) (d : ℕ) → round Π X X d ≡ false → Closed (reduct Π X) X → Closed (reduct Π X) (without d X)
-without-closed Π X d unsupported closed =
-    reduct-closed Π X (without d X) .1
-    (each-map₂ (λ r inX inRound e. let e′ = applies-subset X (without-subset d X) r e in head (r .head) (inX e′) (inRound e′)) Π
-    (reduct-closed Π X X .0 closed) (round-iff Π X X (round Π X X) .0 (λ c e. e)))
+without-closed : (P : List PositiveRule) (X : Lits) (d : ℕ) → Each (λ r. supports X d r ≡ false) P → Closed P X → Closed P (without d X)
+without-closed P X d unsupported closed =
+    each-map₂ (λ r none-there kept body. let inX = within-subset (without-subset d X) (r .body) body in
+    head (r .head) (kept inX) (λ e. not-both (and-iff (isHead d (r .head)) (all X (r .body)) .1 (e, all-within X (r .body) .1 inX)) none-there)) P
+    unsupported closed
   where
-    head : (h : Head) → HeadIn h X → LiteralIn h (round Π X X) → HeadIn h (without d X)
-    head (lit c) x r =
-        and-iff (X c) (not (eqb c d)) .1 (
-          x,
-          not-iff (eqb c d) .1
-              (false-of-not (eqb c d) (λ t. not-both r (rw (eqb-true c d t) unsupported))),
-        )
-    head falsum x r = x
+    head : (h : Head) → HeadIn h X → (isHead d h ≡ true → ⊥) → HeadIn h (without d X)
+    head (lit c) x other = and-iff (X c) (not (eqb c d)) .1 (x, not-iff (eqb c d) .1 (false-of-not (eqb c d) other))
+    head falsum x other = x
 
 answer-supported : (Π : List Rule) (X : Lits) → AnswerSet Π X → Supported Π X
-answer-supported Π X h c x = true-of-not (round Π X X c) (λ unsupported.
-    h .minimal (without c X) (without-subset c X, (c, x, removed)) (without-closed Π X c unsupported (h .closed)))
+answer-supported Π X h c x = ⊎-elim found none-there (find (supports X c) (reduct Π X))
   where
+    found : ((r : PositiveRule) × List·Memᴰ r (reduct Π X) × (supports X c r ≡ true)) → Support Π X c
+    found (r, m, e) = let (head, body) = and-iff (isHead c (r .head)) (all X (r .body)) .0 e in
+        (r, m, head-iff c (r .head) .0 head, all-within X (r .body) .0 body)
+
     removed : without c X c ≡ false
     removed = rw (eq-eqb c c refl, x)
+
+    none-there : Each (λ r. supports X c r ≡ false) (reduct Π X) → Support Π X c
+    none-there unsupported =
+        absurd (h .minimal (without c X) (without-subset c X, (c, x, removed)) (without-closed (reduct Π X) X c unsupported (h .closed)))
 
 -- Closed and supported sets of tight programs are minimal: level by level, they are within each closed subset
 
 module _ (level : ℕ → ℕ) (Π : List Rule) (tight : Tight level Π) (X Y : Lits)
     (supported : Supported Π X) (closed : Closed (reduct Π X) Y) where
-  -- c is in Y, or not below level k
-  abbrev upTo : ℕ → Lits
-  upTo k c = Y c || not (ltb (level c) k)
+  lower : Each (λ r. LowerParts level (r .body) (r .head)) (reduct Π X)
+  lower = reduct-each (λ h cs. LowerParts level cs h) Π X .1 (each-map (λ r low kept. low) Π tight)
 
-  upTo-iff : (k c : ℕ) → upTo k c ≡ true ↔ (level c < k → Y c ≡ true)
-  upTo-iff k c = (
-    λ e b. ⊎-elim (λ y. y) (λ h. absurd (not-both (lt-ltb (level c) k b) (not-iff _ .0 h))) (either .0 e),
-    λ h. ⊎-elim (λ t. either .1 (inl (h (ltb-true (level c) k t)))) (λ f. either .1 (inr (not-iff _ .1 f))) (true-or-false (ltb (level c) k)),
-  )
-    where
-      either : upTo k c ≡ true ↔ ((Y c ≡ true) ⊎ (not (ltb (level c) k) ≡ true))
-      either = or-iff (Y c) (not (ltb (level c) k))
-
-  within-upTo : (k : ℕ) → Subset X (upTo k)
-  within-upTo zero = λ c x. upTo-iff 0 c .1 (λ b. absurd (omega arith))
-  within-upTo (suc k) = next (within-upTo k)
-    where
-      rule : Subset X (upTo k) → (r : Rule) (h : Head) → LowerParts level (r .plain) h → (applies X Y r ≡ true → HeadIn h Y)
-          → applies X X r ≡ true → LiteralIn h (upTo (suc k))
-      rule below r (lit h) lower kept e =
-          let (n, w) = applies-iff X X r .0 e in
-          upTo-iff (suc k) h .1 (λ b. kept (applies-iff X Y r .1
-          (n, each-map₂ (λ c l x. upTo-iff k c .0 (below c x) (omega arith)) (r .plain) lower w)))
-      rule below r falsum lower kept e = tt
-
-      next : Subset X (upTo k) → Subset X (upTo (suc k))
-      next below c x =
-          round-iff Π X X (upTo (suc k)) .1
-          (each-map₂ (λ r lower kept e. rule below r (r .head) lower kept e) Π tight (reduct-closed Π X Y .0 closed)) c (supported c x)
+  -- the literals below level k
+  within-below : (k c : ℕ) → level c < k → X c ≡ true → Y c ≡ true
+  within-below zero c b x = absurd (omega arith)
+  within-below (suc k) c b x =
+      let (r, m, head, body) = supported c x in
+      let parts = rw head at (member-each (λ r. LowerParts level (r .body) (r .head)) (reduct Π X) lower m) in
+      rw head at (member-each (λ r. Within (r .body) Y → HeadIn (r .head) Y) (reduct Π X) closed m
+      (each-map₂ (λ d low x. within-below k d (omega arith) x) (r .body) parts body))
 
   supported-within : Subset X Y
-  supported-within c x = upTo-iff (suc (level c)) c .0 (within-upTo (suc (level c)) c x) (omega arith)
+  supported-within c x = within-below (suc (level c)) c (omega arith) x
 
-pub tight-answer-set-iff : (level : ℕ → ℕ) (Π : List Rule) → Tight level Π → (X : Lits)
-    → AnswerSet Π X ↔ (Consistent X × Closed (reduct Π X) X × Supported Π X)
-tight-answer-set-iff level Π tight X = (
+pub proposition-4 : Proposition4
+proposition-4 level Π tight X = (
   λ h. (h .consistent, h .closed, answer-supported Π X h),
   λ h. record {
     consistent = h .0;

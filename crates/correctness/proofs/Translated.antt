@@ -3,25 +3,23 @@
 -- Assumes nothing.
 use mathlib.Core.Path.{_≡_, refl, sym, ap, _∙_}
 use mathlib.Core.Logic.{_↔_, ⊎-elim, Iff·trans, Iff·symm}
-use mathlib.Core.Bool.{Bool, true, false, not, and-true, Bool·not-not}
+use mathlib.Core.Bool.{Bool, true, false, not, _&&_, _||_, and-true, Bool·not-not}
 use mathlib.Core.List.{List, []}
 use Prim.Native.Nat.{ℕ, zero, suc, _+_, _-_, _*_, _/_, _%_, _≤_, _<_}
 use native.Mathlib.Omega.{arith}
 use native.Mathlib.Nat.{mul-le-mul-right}
-use lib.Dec.{eqb, ltb}
+use lib.Dec.{ltb}
 use lib.ListN.{length}
-use borrow.Author.Tests.{ltb-true, ltb-false, eqb-true, eq-eqb}
+use borrow.Author.Tests.{ltb-true, ltb-false, eq-eqb}
 use Rattle.search.specs.Search.{Each}
 use Rattle.search.proofs.Tests.{true-or-false, not-both, each-map, each-map₂}
 use Rattle.search.proofs.Lists.{each-iff-given, each-mapped}
 use Rattle.answer_sets.specs.Literals.{Lits, setOf}
 use Rattle.answer_sets.specs.Rules.{Head, lit, falsum, Rule}
 use Rattle.answer_sets.specs.AnswerSets.{reduct, HeadIn, Closed, Consistent, AnswerSet}
-use Rattle.answer_sets.specs.Verdicts.{applies, headIn, round}
-use Rattle.answer_sets.specs.Verdicts.{headIs as ruleHeadIs}
 use Rattle.translation_bounds.proofs.Complements.{complement-even}
-use Rattle.answer_sets.proofs.Least.{LiteralIn, reduct-closed, round-iff}
-use Rattle.correctness.proofs.Supported.{Supported, LowerParts, Tight, round-cases, tight-answer-set-iff}
+use Rattle.correctness.specs.TightPrograms.{Support, Supported, LowerParts, Tight}
+use Rattle.correctness.proofs.Supported.{bodyIn, closed-rules, rules-support, support-cases, proposition-4}
 use Rattle.answer_sets.proofs.Theorems.{setOf-below}
 use Rattle.description.specs.declared.Head as described
 use Rattle.description.specs.declared.Head.the-variants.{Lit, False}
@@ -115,13 +113,19 @@ step-head : (N t : ℕ) (k : Kind) (l : Law) → (stepRule N t k l) .head ≡ he
 step-head N t Static l = refl
 step-head N t Dynamic l = refl
 
+same-code : {a b : ℕ} → lit a ≡ lit b → a ≡ b
+same-code e = cc
+
+not-literal : {a : ℕ} → falsum ≡ lit a → ⊥
+not-literal e = let z : _≡_ {A = ℕ} 0 1 = cc in omega arith
+
 -- a head's literal and time are settled by its code
 head-time : (n m i j c : ℕ) (h : described.Head) → HeadBelow (2 * n) h → c < 2 * n
-    → ruleHeadIs (headAt (n + m) i h) (atTime (n + m) j c) ≡ true → (i ≡ j) × (headIs h c ≡ true)
+    → headAt (n + m) i h ≡ lit (atTime (n + m) j c) → (i ≡ j) × (headIs h c ≡ true)
 head-time n m i j c (Lit d) low low′ e =
-    let (time, code) = same-time (n + m) i j d c (omega arith) (omega arith) (eqb-true (atTime (n + m) i d) (atTime (n + m) j c) e) in
+    let (time, code) = same-time (n + m) i j d c (omega arith) (omega arith) (same-code e) in
     (time, eq-eqb d c code)
-head-time n m i j c False low low′ e = absurd (not-both e refl)
+head-time n m i j c False low low′ e = absurd (not-literal e)
 
 implies-iff : {a b : Bool} {A B : Type 0} → a ≡ b → A ↔ B → (a ≡ true → A) ↔ (b ≡ true → B)
 implies-iff same iff = (λ h e. iff .0 (h (same ∙ e)), λ h e. iff .1 (h (sym same ∙ e)))
@@ -152,20 +156,27 @@ module _ (n m T : ℕ) (ls : List Law) (vs : List ℕ)
   head-in t b (Lit c) low = let same = fluent-in n m T vs size one t c b low in (λ e. sym same ∙ e, λ e. same ∙ e)
   head-in t b False low = (λ e. absurd e, λ e. not-both e refl)
 
-  start-applies : (l : Law) → Fits n m l → applies X X (staticRule N l 0) ≡ holds (s 0) (ifList l)
+  start-applies : (l : Law) → Fits n m l → bodyIn X (staticRule N l 0) ≡ holds (s 0) (ifList l)
   start-applies l f = rw (if-holds n m T vs size one 0 (ifList l) (omega arith) (f .if-list)) (and-true _)
 
-  step-applies : (t : ℕ) → t < T → (l : Law) → Fits n m l → applies X X (stepRule N t (l .kind) l) ≡ inStep n m vs t l
+  step-applies : (t : ℕ) → t < T → (l : Law) → Fits n m l → bodyIn X (stepRule N t (l .kind) l) ≡ inStep n m vs t l
   step-applies t b l f = go (l .kind) refl (f .after-list)
     where
-      go : (k : Kind) → l .kind ≡ k → AfterBelow (2 * (n + m)) k l → applies X X (stepRule N t k l) ≡ inStep n m vs t l
+      go : (k : Kind) → l .kind ≡ k → AfterBelow (2 * (n + m)) k l → bodyIn X (stepRule N t k l) ≡ inStep n m vs t l
       go Static e low = rw (e, if-holds n m T vs size one (suc t) (ifList l) b (f .if-list))
       go Dynamic e low =
           rw (e, if-holds n m T vs size one (suc t) (ifList l) b (f .if-list), after-holds n m T vs size one t (afterList l) b low)
 
-  -- the rule for a value of an open atom applies exactly where the atom has that value
-  choice-applies : (B : ℕ) → B < length vs → AtChoice (λ r. applies X X r ≡ headIn (r .head) X) B
-  choice-applies B b = rw (odd-in B b) (and-true _ ∙ and-true _, and-true _ ∙ and-true _ ∙ Bool·not-not (X (2 * B)))
+  -- the rule for a value of an open atom has its body in the set exactly where the atom has that value
+  unless : (p : Bool) → (not (p || false) && true) ≡ not p
+  unless true = refl
+  unless false = refl
+
+  choice-applies : (B : ℕ) → B < length vs → AtChoice (λ r. bodyIn X r ≡ true ↔ HeadIn (r .head) X) B
+  choice-applies B b =
+      let even : (not (X (2 * B) || false) && true) ≡ X (2 * B + 1) = unless (X (2 * B)) ∙ sym (odd-in B b) in
+      let odd : (not (X (2 * B + 1) || false) && true) ≡ X (2 * B) = unless (X (2 * B + 1)) ∙ ap not (odd-in B b) ∙ Bool·not-not (X (2 * B)) in
+      ((λ e. sym even ∙ e, λ e. even ∙ e), (λ e. sym odd ∙ e, λ e. odd ∙ e))
 
   fluent-open : (f : ℕ) → f < n → f < length vs
   fluent-open f b = omega arith
@@ -176,7 +187,7 @@ module _ (n m T : ℕ) (ls : List Law) (vs : List ℕ)
   -- Closed: the laws are obeyed
 
   abbrev Keeps : Rule → Type 0
-  Keeps r = applies X X r ≡ true → HeadIn (r .head) X
+  Keeps r = bodyIn X r ≡ true → HeadIn (r .head) X
 
   start-kept : (l : Law) → Fits n m l → AtStart Keeps N (l .kind) l ↔ (appliesAtStart (s 0) l ≡ true → satisfiesHead (s 0) (l .head) ≡ true)
   start-kept l f = go (l .kind) refl
@@ -190,12 +201,12 @@ module _ (n m T : ℕ) (ls : List Law) (vs : List ℕ)
   step-kept t b l f = implies-iff (step-applies t b l f) (rw step-head (head-in (suc t) b (l .head) (f .head)))
 
   choice-kept : (B : ℕ) → B < length vs → AtChoice Keeps B
-  choice-kept B b = let same = choice-applies B b in (λ e. sym (same .0) ∙ e, λ e. sym (same .1) ∙ e)
+  choice-kept B b = let same = choice-applies B b in (same .0 .0, same .1 .0)
 
   closed-iff : Closed (reduct Π X) X
       ↔ (Obeyed (s 0) (appliesAtStart (s 0)) ls × ((t : ℕ) → t < T → Obeyed (s (suc t)) (inStep n m vs t) ls))
   closed-iff =
-      Iff·trans (reduct-closed Π X X)
+      Iff·trans (closed-rules Π X)
       (Iff·trans (each-rule Keeps n m T ls) (
         λ h. (at-start .0 (h .0), λ t b. in-step t b .0 (h .1 t b)),
         λ h. (
@@ -216,7 +227,7 @@ module _ (n m T : ℕ) (ls : List Law) (vs : List ℕ)
 
   supported-supplied : Supported Π X → (t : ℕ) → t < T → Supplied n (s (suc t)) (inStep n m vs t) ls
   supported-supplied supported t b f low =
-      round-cases Π X X (atTime N (suc t) c) (supported (atTime N (suc t) c) holds-there) (each-rule Causes n m T ls .1 (
+      support-cases Π X (atTime N (suc t) c) (supported (atTime N (suc t) c) holds-there) (each-rule Causes n m T ls .1 (
         each-map (λ l f. at-start (l .kind) l f) ls fit,
         λ t′ b′. each-map₂ (λ l f cause a h. in-step t′ b′ l f a h cause) ls fit (heads-cause (inStep n m vs t) c ls),
         λ f b. (λ a h. absurd (not-start (2 * f + 1) (omega arith) h), λ a h. absurd (not-start (2 * f) (omega arith) h)),
@@ -233,12 +244,12 @@ module _ (n m T : ℕ) (ls : List Law) (vs : List ℕ)
       holds-there : X (atTime N (suc t) c) ≡ true
       holds-there = fluent-in n m T vs size one (suc t) c b c-low ∙ literal-holds (s (suc t)) f
 
-      not-start : (d : ℕ) → d < 2 * n → eqb d (atTime N (suc t) c) ≡ true → ⊥
-      not-start d low e = omega (arith, eqb-true d (atTime N (suc t) c) e)
+      not-start : (d : ℕ) → d < 2 * n → lit d ≡ lit (atTime N (suc t) c) → ⊥
+      not-start d low e = omega (arith, same-code e)
 
-      not-action : (t′ k d : ℕ) → k < m → d / 2 ≡ actionAtom n m t′ k → eqb d (atTime N (suc t) c) ≡ true → ⊥
+      not-action : (t′ k d : ℕ) → k < m → d / 2 ≡ actionAtom n m t′ k → lit d ≡ lit (atTime N (suc t) c) → ⊥
       not-action t′ k d low half e =
-          let same : d ≡ atTime N (suc t) c = eqb-true d (atTime N (suc t) c) e in
+          let same : d ≡ atTime N (suc t) c = same-code e in
           let code = same-time N t′ (suc t) (2 * (n + k) + d % 2) c (omega arith) (omega (arith, c-low)) (omega arith) in
           omega (arith, code .1, c-low)
 
@@ -246,14 +257,14 @@ module _ (n m T : ℕ) (ls : List Law) (vs : List ℕ)
       Caused = someCause (inStep n m vs t) c ls ≡ true
 
       Causes : Rule → Type 0
-      Causes r = applies X X r ≡ true → ruleHeadIs (r .head) (atTime N (suc t) c) ≡ true → Caused
+      Causes r = bodyIn X r ≡ true → r .head ≡ lit (atTime N (suc t) c) → Caused
 
       at-start : (k : Kind) (l : Law) → Fits n m l → AtStart Causes N k l
       at-start Static l f = λ a h. let (time, code) = head-time n m 0 (suc t) c (l .head) (f .head) c-low h in absurd (omega arith)
       at-start Dynamic l f = tt
 
-      in-step : (t′ : ℕ) → t′ < T → (l : Law) → Fits n m l → applies X X (stepRule N t′ (l .kind) l) ≡ true
-          → ruleHeadIs ((stepRule N t′ (l .kind) l) .head) (atTime N (suc t) c) ≡ true
+      in-step : (t′ : ℕ) → t′ < T → (l : Law) → Fits n m l → bodyIn X (stepRule N t′ (l .kind) l) ≡ true
+          → (stepRule N t′ (l .kind) l) .head ≡ lit (atTime N (suc t) c)
           → (inStep n m vs t l ≡ true → headIs (l .head) c ≡ true → Caused) → Caused
       in-step t′ b′ l f a h cause =
           let (time, code) = head-time n m (suc t′) (suc t) c (l .head) (f .head) c-low (rw step-head at h) in
@@ -263,40 +274,38 @@ module _ (n m T : ℕ) (ls : List Law) (vs : List ℕ)
   supplied-supported : ((t : ℕ) → t < T → Supplied n (s (suc t)) (inStep n m vs t) ls) → Supported Π X
   supplied-supported supplied c x = at-place (place n m T c (rw size at (setOf-below vs c x)))
     where
-      R : Lits
-      R = round Π X X
+      Supports : Rule → Type 0
+      Supports r = bodyIn X r ≡ true → (d : ℕ) → r .head ≡ lit d → Support Π X d
 
-      Reached : Rule → Type 0
-      Reached r = applies X X r ≡ true → LiteralIn (r .head) R
+      supports : EachRule Supports n m T ls
+      supports = each-rule Supports n m T ls .0 (rules-support Π X)
 
-      reached : EachRule Reached n m T ls
-      reached = each-rule Reached n m T ls .0 (round-iff Π X X R .0 (λ d e. e))
-
-      open-reached : (B : ℕ) → B < length vs → c / 2 ≡ B → AtChoice Reached B → R c ≡ true
-      open-reached B b half h = ⊎-elim
-          (λ (e : c ≡ 2 * (c / 2)). let even : c ≡ 2 * B = omega arith in rw even (h .1 (choice-applies B b .1 ∙ (rw even at x))))
-          (λ (e : c ≡ 2 * (c / 2) + 1). let odd : c ≡ 2 * B + 1 = omega arith in rw odd (h .0 (choice-applies B b .0 ∙ (rw odd at x))))
+      open-supported : (B : ℕ) → B < length vs → c / 2 ≡ B → AtChoice Supports B → Support Π X c
+      open-supported B b half h = ⊎-elim
+          (λ (e : c ≡ 2 * (c / 2)). let even : c ≡ 2 * B = omega arith in h .1 (choice-applies B b .1 .1 (rw even at x)) c (ap lit (sym even)))
+          (λ (e : c ≡ 2 * (c / 2) + 1). let odd : c ≡ 2 * B + 1 = omega arith in h .0 (choice-applies B b .0 .1 (rw odd at x)) c (ap lit (sym odd)))
           (even-or-odd c)
 
-      later-reached : (t d : ℕ) → t < T → d < 2 * n → c ≡ atTime N (suc t) d → R c ≡ true
-      later-reached t d b low e =
+      later-supported : (t d : ℕ) → t < T → d < 2 * n → c ≡ atTime N (suc t) d → Support Π X c
+      later-supported t d b low e =
           let holds-there : satisfies (s (suc t)) d ≡ true = sym (fluent-in n m T vs size one (suc t) d b low) ∙ (rw e at x) in
           let same : d ≡ literalIn (s (suc t)) (d / 2) = satisfied-literal (s (suc t)) d holds-there in
-          rw (e, same) (cause-heads (inStep n m vs t) (literalIn (s (suc t)) (d / 2)) (λ h. LiteralIn (headAt N (suc t) h) R) ls
+          cause-heads (inStep n m vs t) (literalIn (s (suc t)) (d / 2)) (λ h. headAt N (suc t) h ≡ lit c → Support Π X c) ls
           (supplied t b (d / 2) (omega arith))
-          (each-map₂ (λ l f k a. rw step-head at (k (step-applies t b l f ∙ a))) ls fit (reached .1 t b)))
+          (each-map₂ (λ l f k a h. k (step-applies t b l f ∙ a) c (step-head N t (l .kind) l ∙ h)) ls fit (supports .1 t b))
+          (ap (λ i. lit (atTime N (suc t) i)) (sym same) ∙ ap lit (sym e))
 
-      at-place : Place n m T c → R c ≡ true
-      at-place (start low) = open-reached (c / 2) (fluent-open (c / 2) (omega arith)) refl (reached .2 (c / 2) (omega arith))
-      at-place (later t d b low e) = later-reached t d b low e
-      at-place (action t k b low e) = open-reached (actionAtom n m t k) (action-open t k b low) e (reached .3 t b k low)
+      at-place : Place n m T c → Support Π X c
+      at-place (start low) = open-supported (c / 2) (fluent-open (c / 2) (omega arith)) refl (supports .2 (c / 2) (omega arith))
+      at-place (later t d b low e) = later-supported t d b low e
+      at-place (action t k b low e) = open-supported (actionAtom n m t k) (action-open t k b low) e (supports .3 t b k low)
 
   consistent : Consistent X
   consistent a t f = not-both f (odd-in a (omega (arith, setOf-below vs (2 * a) t)) ∙ ap not t)
 
   pub answer-set-iff-path : AnswerSet (translation n m T ls) (setOf vs) ↔ Path n m T ls vs
   answer-set-iff-path =
-      Iff·trans (tight-answer-set-iff (λ c. c) Π (translation-tight n m T ls fit) X)
+      Iff·trans (proposition-4 (λ c. c) Π (translation-tight n m T ls fit) X)
       (Iff·trans (
         λ h. let laws = closed-iff .0 (h .1) in (laws .0, λ t b. (laws .1 t b, supported-supplied (h .2) t b)),
         λ h. (consistent, closed-iff .1 (h .0, λ t b. h .1 t b .0), supplied-supported (λ t b. h .1 t b .1)),

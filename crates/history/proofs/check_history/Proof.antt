@@ -6,7 +6,7 @@ use lib.ListN.{take, length-take}
 use Rattle.history.specs.Checks.{finding}
 use mathlib.Core.Path.{sym, ap, _∙_}
 use native.Mathlib.Omega.{arith}
-use Rattle.search.proofs.Loops.{at-place, no-place}
+use Rattle.search.proofs.Loops.{refused-at, not-refused}
 use Rattle.translation.specs.Translated.{outcomeOf}
 use Rattle.translation.proofs.Outcomes.{written-accepted, written-left}
 use Rattle.history.proofs.Judging.{words-front, says-refused, says-10, says-11, says-verdict, leaves-table}
@@ -44,7 +44,7 @@ returns-2 c =
     let c8 = c6 .before .before in
     let c11 = c8 .before .before .before in
     says-11 _ _ _ _ (c11 .args .table .now) (sym (c8 .measure .ensures) ∙ ap outcomeOf (c6 .measured2 .given .1)) (c4 .if1 .left)
-    (at-place (c3 .bad-value .ensures) (c .before .place .given .1))
+    (refused-at 11 (c3 .bad-value .ensures) (c .before .place .given .1))
 
 enum-told : tie.Need-enum-told
 enum-told c = search needs
@@ -97,7 +97,7 @@ returns-4 c =
     let vs = c16 .args .values .now in
     let e = (sym (c13 .measure .ensures) ∙ ap outcomeOf (c11 .measured2 .given .1)) in
     let size = c9 .if1 .left in
-    let small = no-place (c8 .bad-value .ensures) (c6 .enum-told .given .1) in
+    let small = not-refused 11 (c8 .bad-value .ensures) (c6 .enum-told .given .1) in
     let left = c4 .translate .ensures .1 ∙ sym (written-left _ _ _ table e) in
     let front = ap (take (c11 .measured2 .given .0 .1 .1 .0)) left ∙ words-front _ table _ (written-accepted _ _ _ _ e .words) in (
       says-verdict _ _ _ vs table e size small _

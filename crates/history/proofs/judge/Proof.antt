@@ -29,7 +29,7 @@ returns-2 : tie.Need-returns-2
 returns-2 c =
     let c2 = c .before .before in
     let c4 = c2 .before .before in
-    rw (no-place (c4 .first-missing .ensures) (c2 .enum-told .given .1)) (c .from-engine .ensures ∙ ap ofEngine (c .before .check-set .ensures))
+    rw (no-place (c4 .first-missing .ensures) (c2 .enum-told .given .1)) (c .from-engine .ensures ∙ ap ofEngine (c .before .check-set .ensures .0))
 
 pub judge-spec : {M : Type 1} → statement M
 judge-spec =
