@@ -13,7 +13,9 @@ ghost use Rattle.history.specs.Checks;
 ghost use Rattle.causal.specs.Readings;
 ghost use Rattle.description_reader.specs.Descriptions.{described};
 ghost use Rattle.description_reader.specs.Answers.{replyOf, replied, recordOf, lawsLeft};
-ghost use Rattle.lent_laws.specs.Promises.{PassesExactly, PathExactly};
+ghost use Rattle.correctness.specs.Promises.{TranslatesExactly, PassesExactly, PathExactly};
+ghost use Rattle.correctness.specs.CausalFaults.{NamesFault};
+ghost use Rattle.lent_laws.specs.Taking.{TakesAccepted};
 
 // What the description reader answers, and the run that it was lent.
 pub struct ReadRun {
@@ -26,6 +28,7 @@ pub fn read_run(text: &[u8], laws: [Law; 64]) -> ReadRun
     ensures { λ r. ⌜ replyOf (r .read .answer) ≡ replied (now (text .entry)) (described 64 (now (text .entry))) ⌝ }
     ensures { λ r. ⌜ r .read .description ≡ recordOf (described 64 (now (text .entry))) ⌝ }
     ensures { λ r. ⌜ r .laws ≡ lawsLeft (described 64 (now (text .entry))) laws ⌝ }
+    ensures { λ r. ⌜ TakesAccepted (replyOf (r .read .answer)) (r .read .description) (r .laws) ⌝ }
 {
     let mut laws = laws;
     let read = lent_laws::read_description(text, &mut laws);
@@ -36,6 +39,7 @@ pub fn read_run(text: &[u8], laws: [Law; 64]) -> ReadRun
 pub fn translate_run(d: Description, laws: [Law; 64], table: &mut [u16]) -> Translated
     ensures { λ r. ⌜ outcomeOf r ≡ outcome d laws 64 (length (now (table .entry))) ⌝ }
     ensures { λ _. ⌜ now (table .exit) ≡ tableAfter d laws 64 (now (table .entry)) ⌝ }
+    ensures { λ _. ⌜ TranslatesExactly d laws 64 (now (table .entry)) (now (table .exit)) ⌝ }
 {
     lent_laws::translate(d, &laws, table)
 }
@@ -52,8 +56,9 @@ pub fn judge(d: Description, laws: [Law; 64], values: &[u8], table: &mut [u16]) 
     ensures { λ r. ⌜ Checks.replyOf (r .checked) ≡ Checks.checked d laws 64 (now (values .entry)) (length (now (table .entry))) ⌝ }
     ensures { λ r. ⌜ Readings.replyOf (r .reading) ≡ Readings.reading d laws 64 (now (values .entry)) ⌝ }
     ensures { λ _. ⌜ now (table .exit) ≡ Checks.tableAfter d laws 64 (now (values .entry)) (now (table .entry)) ⌝ }
-    ensures { λ r. ⌜ PassesExactly d laws (now (values .entry)) (length (now (table .entry))) (r .checked) ⌝ }
-    ensures { λ r. ⌜ PathExactly d laws (now (values .entry)) (r .reading) ⌝ }
+    ensures { λ r. ⌜ PassesExactly d laws 64 (now (values .entry)) (length (now (table .entry))) (r .checked) ⌝ }
+    ensures { λ r. ⌜ PathExactly d laws 64 (now (values .entry)) (r .reading) ⌝ }
+    ensures { λ r. ⌜ NamesFault d laws 64 (now (values .entry)) (r .reading) ⌝ }
 {
     let run: &[Law] = &laws;
     let checked = lent_laws::check_history(d, run, values, table);

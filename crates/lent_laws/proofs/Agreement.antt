@@ -1,5 +1,5 @@
 -- The definitions read only the laws that a description counts, and none where the counts are refused: so on the gathered run
--- they say what they say on the run. And demand 3, of an answer that one of them gives.
+-- they say what they say on the run.
 -- Assumes nothing.
 use mathlib.Core.Path.{_≡_, refl}
 use mathlib.Core.Logic.{⊎-elim}
@@ -13,13 +13,9 @@ use Rattle.description.specs.declared.Description.{Description}
 use Rattle.description.specs.Acceptance.{countsFit, badRecord}
 use Rattle.description.proofs.Laws.{counts-limits}
 use Rattle.translation.specs.Translated as translated
-use Rattle.history.specs.declared.Checked.{Checked}
 use Rattle.history.specs.Checks as history
-use Rattle.causal.specs.declared.Reading.{Reading}
 use Rattle.causal.specs.Readings as causal
-use Rattle.correctness.proofs.Demand3.{demand-3}
 use Rattle.law_runs.specs.Internal.{gathered}
-use Rattle.lent_laws.specs.Promises.{PassesExactly, PathExactly}
 use Rattle.law_runs.proofs.Stored.{gathered-front}
 
 module _ (d : Description) (ls : List Law) where
@@ -48,11 +44,3 @@ module _ (d : Description) (ls : List Law) where
   pub same-reading : (vs : List ℕ) → causal.reading d (gathered ls) (length ls) vs ≡ causal.reading d ls (length ls) vs
   unfolding causal.reading badRecord
   same-reading vs = agreeing (λ e. rw e refl) (λ e. rw e refl)
-
-  pub passes-exactly : (vs : List ℕ) (room : ℕ) (r : Checked) → history.replyOf r ≡ history.checked d ls (length ls) vs room → PassesExactly d ls vs room r
-  unfolding PassesExactly
-  passes-exactly vs room r e c enough = rw e (demand-3 d ls (length ls) vs (c .records) (c .horizon) (c .size) (c .one-value) .history-passes room enough)
-
-  pub path-exactly : (vs : List ℕ) (r : Reading) → causal.replyOf r ≡ causal.reading d ls (length ls) vs → PathExactly d ls vs r
-  unfolding PathExactly
-  path-exactly vs r e c = rw e (demand-3 d ls (length ls) vs (c .records) (c .horizon) (c .size) (c .one-value) .causal-path)

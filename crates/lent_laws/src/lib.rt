@@ -13,7 +13,9 @@ ghost use Rattle.history.specs.Checks;
 ghost use Rattle.causal.specs.Readings;
 ghost use Rattle.description_reader.specs.Descriptions.{described};
 ghost use Rattle.description_reader.specs.Answers.{replyOf, replied, recordOf, lawsLeft};
-ghost use Rattle.lent_laws.specs.Promises.{PassesExactly, PathExactly};
+ghost use Rattle.correctness.specs.Promises.{TranslatesExactly, PassesExactly, PathExactly};
+ghost use Rattle.correctness.specs.CausalFaults.{NamesFault};
+ghost use Rattle.lent_laws.specs.Taking.{TakesAccepted};
 
 // What the description reader answers: a refusal or where the description ends, and the description's record, all 0 on a refusal.
 pub struct Read {
@@ -53,6 +55,7 @@ pub fn read_description(text: &[u8], laws: &mut [Law]) -> Read
     ensures { λ r. ⌜ replyOf (r .answer) ≡ replied (now (text .entry)) (described (length (now (laws .entry))) (now (text .entry))) ⌝ }
     ensures { λ r. ⌜ r .description ≡ recordOf (described (length (now (laws .entry))) (now (text .entry))) ⌝ }
     ensures { λ _. ⌜ now (laws .exit) ≡ lawsLeft (described (length (now (laws .entry))) (now (text .entry))) (now (laws .entry)) ⌝ }
+    ensures { λ r. ⌜ TakesAccepted (replyOf (r .answer)) (r .description) (now (laws .exit)) ⌝ }
 {
     let end = description_reader::read_description(text, law_runs::gather(laws), laws.len());
     law_runs::scatter(laws, run_of(end), count_of(end));
@@ -63,6 +66,7 @@ pub fn read_description(text: &[u8], laws: &mut [Law]) -> Read
 pub fn translate(d: Description, laws: &[Law], table: &mut [u16]) -> Translated
     ensures { λ r. ⌜ outcomeOf r ≡ outcome d (now (laws .entry)) (length (now (laws .entry))) (length (now (table .entry))) ⌝ }
     ensures { λ _. ⌜ now (table .exit) ≡ tableAfter d (now (laws .entry)) (length (now (laws .entry))) (now (table .entry)) ⌝ }
+    ensures { λ _. ⌜ TranslatesExactly d (now (laws .entry)) (length (now (laws .entry))) (now (table .entry)) (now (table .exit)) ⌝ }
 {
     translation::translate(d, law_runs::gather(laws), laws.len(), table)
 }
@@ -72,7 +76,7 @@ pub fn translate(d: Description, laws: &[Law], table: &mut [u16]) -> Translated
 pub fn check_history(d: Description, laws: &[Law], values: &[u8], table: &mut [u16]) -> Checked
     ensures { λ r. ⌜ Checks.replyOf r ≡ Checks.checked d (now (laws .entry)) (length (now (laws .entry))) (now (values .entry)) (length (now (table .entry))) ⌝ }
     ensures { λ _. ⌜ now (table .exit) ≡ Checks.tableAfter d (now (laws .entry)) (length (now (laws .entry))) (now (values .entry)) (now (table .entry)) ⌝ }
-    ensures { λ r. ⌜ PassesExactly d (now (laws .entry)) (now (values .entry)) (length (now (table .entry))) r ⌝ }
+    ensures { λ r. ⌜ PassesExactly d (now (laws .entry)) (length (now (laws .entry))) (now (values .entry)) (length (now (table .entry))) r ⌝ }
 {
     history::check_history(d, law_runs::gather(laws), laws.len(), values, table)
 }
@@ -80,7 +84,8 @@ pub fn check_history(d: Description, laws: &[Law], values: &[u8], table: &mut [u
 // Reads values as a history, state by state.
 pub fn causal_reading(d: Description, laws: &[Law], values: &[u8]) -> Reading
     ensures { λ r. ⌜ Readings.replyOf r ≡ Readings.reading d (now (laws .entry)) (length (now (laws .entry))) (now (values .entry)) ⌝ }
-    ensures { λ r. ⌜ PathExactly d (now (laws .entry)) (now (values .entry)) r ⌝ }
+    ensures { λ r. ⌜ PathExactly d (now (laws .entry)) (length (now (laws .entry))) (now (values .entry)) r ⌝ }
+    ensures { λ r. ⌜ NamesFault d (now (laws .entry)) (length (now (laws .entry))) (now (values .entry)) r ⌝ }
 {
     causal::causal_reading(d, law_runs::gather(laws), laws.len(), values)
 }

@@ -54,7 +54,8 @@ use Rattle.causal.specs.Readings as causal
 use Rattle.causal.proofs.Reading as RE
 use Rattle.causal.proofs.Reading.Laws as RE′
 use Rattle.held_laws.specs.declared.Judged.{Judged}
-use Rattle.lent_laws.specs.Promises.{PassesExactly, PathExactly}
+use Rattle.correctness.specs.Promises.{PassesExactly, PathExactly}
+use Rattle.correctness.specs.CausalFaults.{NamesFault}
 use Rattle.held_laws.proofs.Judged as S
 use Rattle.held_laws.proofs.Judged.Laws as S′
 use Rattle.law_runs.proofs.Walking.{walk-shows}
@@ -132,10 +133,10 @@ module _ {M : Type 1} (𝓤 : URA M) (H : Heap 𝓤) (A : Atoms 𝓤) (W : Given
 
   -- what the two ensure of n records lent, the table's last list being zs
   abbrev Checked-as : Checked → List ℕ → ℕ → Type 0
-  Checked-as r zs n = (history.replyOf r ≡ history.checked d ls n (values .now) (length (t .now))) × ((zs ≡ history.tableAfter d ls n (values .now) (t .now)) × PassesExactly d ls (values .now) (length (t .now)) r)
+  Checked-as r zs n = (history.replyOf r ≡ history.checked d ls n (values .now) (length (t .now))) × ((zs ≡ history.tableAfter d ls n (values .now) (t .now)) × PassesExactly d ls n (values .now) (length (t .now)) r)
 
   abbrev Read-as : Reading → ℕ → Type 0
-  Read-as r n = (causal.replyOf r ≡ causal.reading d ls n (values .now)) × PathExactly d ls (values .now) r
+  Read-as r n = (causal.replyOf r ≡ causal.reading d ls n (values .now)) × (PathExactly d ls n (values .now) r × NamesFault d ls n (values .now) r)
 
   -- the result
   abbrev all : Checked → Reading → Judged
@@ -174,7 +175,7 @@ module _ {M : Type 1} (𝓤 : URA M) (H : Heap 𝓤) (A : Atoms 𝓤) (W : Given
     exits r r′ w w′ ws is said said′ =
         qed W (left ws ∷ token ∷ other ∷ []) ∵ fsplit ! $ drop ! $ fsplit ! $ drop ! $ fsplit ! $ drop ! $ fsplit ! $ fsplit ! $ move ! (1 ∷ []) $ feqL ! (λ k.
         suffices ! _ (ends-saying 𝓤 H A self.ended stayed (self.clauses 𝓤 H A μ run) W bound (pair w w′) (all r r′) (tt, (tt, (tt, (ws .1 .1 .1 .0, tt)))) (tt, (tt, (tt, (k, tt))))
-        (says-both 𝓤 (factI 𝓤 _ _ (said .0)) (says-both 𝓤 (factI 𝓤 _ _ (said′ .0)) (says-both 𝓤 (factI 𝓤 _ _ (said .1 .0)) (says-both 𝓤 (factI 𝓤 _ _ (said .1 .1)) (factI 𝓤 _ _ (said′ .1))))))) $
+        (says-both 𝓤 (factI 𝓤 _ _ (said .0)) (says-both 𝓤 (factI 𝓤 _ _ (said′ .0)) (says-both 𝓤 (factI 𝓤 _ _ (said .1 .0)) (says-both 𝓤 (factI 𝓤 _ _ (said .1 .1)) (says-both 𝓤 (factI 𝓤 _ _ (said′ .1 .0)) (factI 𝓤 _ _ (said′ .1 .1)))))))) $
         -- [the table's last list; true; the tokens]
         move ! (2 ∷ 3 ∷ []) $ use2 W both (rejoined 𝓤 H A W 1 κ q (κ′, tt) (q′, tt)) $ frame ! $
         nothing ! $ move ! (1 ∷ 0 ∷ []) $ fjoin ! $ nothing ! $ fjoin ! $ nothing ! $ fjoin ! $ nothing ! $ fjoin ! $ frame ! $ drop ! $
@@ -209,7 +210,7 @@ module _ {M : Type 1} (𝓤 : URA M) (H : Heap 𝓤) (A : Atoms 𝓤) (W : Given
         -- [token; other; α; the table's last list; the run; what is kept of it; values; _11; …; ..; _6; …; _5's; _4; …; ..; _0; …]
         nothing ! $ move ! (7 ∷ 0 ∷ []) $ fjoin ! $ join ! $ move ! (4 ∷ 2 ∷ 0 ∷ []) $ use3 W (raw (Causal 𝓤 H A μ run .pre (at-causal l₅ (α ∷ []) γ))) (passes 𝓤 H A W l₅ (α ∷ []) ls γ d d-is (owns (ShrSlice (named 1) κ u8 ∷ []) (values, tt) (vv ∷ [], tt)) (toks 𝓤 A 1 (κ, tt) (q, tt))) $
         calls-at ! fm (Causal 𝓤 H A μ run) known-causal (at-causal l₅ (α ∷ []) γ) (and-then ! (load ! (from ! (stop !)) (look ! 23 refl)) (and-then ! (load ! (from ! (stop !)) (look ! 14 refl)) (and-then ! (load ! (from ! (stop !)) (look ! 19 refl)) (no-more !)))) (λ w′.
-        answers ! tt reads.ended (reads.clauses 𝓤 H A μ run) (at-causal l₅ (α ∷ []) γ) w′ (λ r ws. Read-as r (length ls)) (λ r ws. both-said 𝓤 _ _) (λ r′ ws′ r′-is said′.
+        answers ! tt reads.ended (reads.clauses 𝓤 H A μ run) (at-causal l₅ (α ∷ []) γ) w′ (λ r ws. Read-as r (length ls)) (λ r ws. and-said 𝓤 _ (both-said 𝓤 _ _)) (λ r′ ws′ r′-is said′.
         -- [the result; α and token; what is left; other; the table's last list; what is kept of the run; _11; …; ..; _6; …; _5's; _4; …; ..; _0; …]
         land ! (from ! (stop !)) (init ! 12 refl (EL.lawful RE.the-type RE′.the-laws 𝓤 H A W tt .typed r′ (w′ ∷ []) r′-is .0)) $ drop ! $
         -- the lifetime is over, and the run is whole again

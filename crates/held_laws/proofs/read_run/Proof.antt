@@ -43,6 +43,7 @@ use Rattle.description.specs.declared.Law.{Law}
 use Rattle.description.proofs.Law as T
 use Rattle.description_reader.specs.Descriptions.{described}
 use Rattle.description_reader.specs.Answers.{replyOf, replied, recordOf, lawsLeft}
+use Rattle.lent_laws.specs.Taking.{TakesAccepted}
 use Rattle.lent_laws.specs.declared.Read.{Read}
 use Rattle.held_laws.specs.declared.ReadRun.{ReadRun}
 use Rattle.lent_laws.proofs.Read as R
@@ -90,7 +91,7 @@ module _ {M : Type 1} (𝓤 : URA M) (H : Heap 𝓤) (A : Atoms 𝓤) (W : Given
 
   -- what the reader ensures of so many records lent, zs being those that it leaves
   abbrev Said : ℕ → Read → List Law → Type 0
-  Said n r zs = (replyOf (r .answer) ≡ replied (text .now) (described n (text .now))) × ((r .description ≡ recordOf (described n (text .now))) × (zs ≡ lawsLeft (described n (text .now)) ls))
+  Said n r zs = (replyOf (r .answer) ≡ replied (text .now) (described n (text .now))) × ((r .description ≡ recordOf (described n (text .now))) × ((zs ≡ lawsLeft (described n (text .now)) ls) × TakesAccepted (replyOf (r .answer)) (r .description) zs))
 
   -- the result
   abbrev both : Read → List Law → ReadRun
@@ -105,7 +106,7 @@ module _ {M : Type 1} (𝓤 : URA M) (H : Heap 𝓤) (A : Atoms 𝓤) (W : Given
   exits : (r : Read) (zs : List Law) (w : Val) → Is S.the-row (both r zs) (pair w zs ∷ []) → Said 64 r zs → ent 𝓤 (⋆ 𝓤 H A (token ∷ [])) (Post (pair w zs))
   exits r zs w is said =
       qed W (token ∷ []) ∵
-      suffices ! _ (ends-saying 𝓤 H A self.ended stayed (self.clauses 𝓤 H A μ run) W bound (pair w zs) (both r zs) (tt, (tt, tt)) (tt, (tt, tt)) (says-both 𝓤 (factI 𝓤 _ _ (said .0)) (says-both 𝓤 (factI 𝓤 _ _ (said .1 .0)) (factI 𝓤 _ _ (said .1 .1))))) $
+      suffices ! _ (ends-saying 𝓤 H A self.ended stayed (self.clauses 𝓤 H A μ run) W bound (pair w zs) (both r zs) (tt, (tt, tt)) (tt, (tt, tt)) (says-both 𝓤 (factI 𝓤 _ _ (said .0)) (says-both 𝓤 (factI 𝓤 _ _ (said .1 .0)) (says-both 𝓤 (factI 𝓤 _ _ (said .1 .1 .0)) (factI 𝓤 _ _ (said .1 .1 .1)))))) $
       frame ! $ owned ! S.the-row (Is S.the-row) (LL.makes S.the-type S′.the-plain 𝓤 H A) (both r zs) (pair w zs ∷ []) is $ nothing ! $ nothing ! $ fjoin ! $ nothing ! $ fjoin ! $ frame ! $ done !
 
   -- the run in the local at l, lent for κ′ under the name γ
@@ -145,7 +146,7 @@ module _ {M : Type 1} (𝓤 : URA M) (H : Heap 𝓤) (A : Atoms 𝓤) (W : Given
         -- [laws; what is kept; the new token; text; _7; …; _6; …; _5; …; _4; …; _3's; _2; …; _1; …; _0; …; token]
         move ! (3 ∷ 0 ∷ []) $ join ! $ move ! (18 ∷ 2 ∷ 0 ∷ []) $ use3 W (raw (Reader 𝓤 H A μ run .pre (to-reader l₃ (α ∷ []) γ))) (goes l₃ (α ∷ []) γ) $
         calls-at ! fm (Reader 𝓤 H A μ run) known (to-reader l₃ (α ∷ []) γ) (and-then ! (load ! (from ! (stop !)) (look ! 13 refl)) (and-then ! (load ! (from ! (stop !)) (look ! 4 refl)) (no-more !))) (λ w.
-        answers ! tt reader.ended (reader.clauses 𝓤 H A μ run) (to-reader l₃ (α ∷ []) γ) w (λ r ws. Said (length ls) r (ws .1 .0)) (λ r ws. and-said 𝓤 _ (both-said 𝓤 _ _)) (λ r ws r-is said.
+        answers ! tt reader.ended (reader.clauses 𝓤 H A μ run) (to-reader l₃ (α ∷ []) γ) w (λ r ws. Said (length ls) r (ws .1 .0)) (λ r ws. and-said 𝓤 _ (and-said 𝓤 _ (both-said 𝓤 _ _))) (λ r ws r-is said.
         -- [the result; both tokens; the last lists; what is kept; _7; …; _6; …; _5; …; _4; …; _3's; _2; …; _1; …; _0; …]
         land ! (from ! (stop !)) (init ! 10 refl (LL.lawful R.the-type R′.the-laws 𝓤 H A W .typed r (w ∷ []) r-is .0)) $ drop ! $
         use1 W (token ⊛ raw (toks 𝓤 A 1 (α ∷ [], tt) (fullShare, tt))) (parted 𝓤 H A W 1 κ q (α ∷ [], tt) (fullShare, tt)) $ split ! $

@@ -50,7 +50,8 @@ use Rattle.translation.specs.Translated.{outcomeOf, outcome, tableAfter}
 use Rattle.translation.proofs.Translated as S
 use Rattle.translation.proofs.Translated.Laws as S′
 use Rattle.law_runs.proofs.Walking.{walk-shows}
-use Rattle.law_runs.proofs.Answers.{answers, both-said, says-both, ends-saying}
+use Rattle.correctness.specs.Promises.{TranslatesExactly}
+use Rattle.law_runs.proofs.Answers.{answers, both-said, and-said, says-both, ends-saying}
 use Rattle.law_runs.proofs.Records.{Run, run-ty, run-val, run-tells, run-typed}
 use Rattle.held_laws.proofs.Locals.{run-length, Apart, lends-shr, shr-back, passes}
 use Rattle.lent_laws.proofs.translate as core
@@ -102,7 +103,7 @@ module _ {M : Type 1} (𝓤 : URA M) (H : Heap 𝓤) (A : Atoms 𝓤) (W : Given
 
   -- what `translate` ensures of so many records lent, the table's last list being zs
   abbrev Said : Translated → List ℕ → ℕ → Type 0
-  Said r zs n = (outcomeOf r ≡ outcome d ls n (length (t .now))) × (zs ≡ tableAfter d ls n (t .now))
+  Said r zs n = (outcomeOf r ≡ outcome d ls n (length (t .now))) × ((zs ≡ tableAfter d ls n (t .now)) × TranslatesExactly d ls n (t .now) zs)
 
   -- the run in the local at l, lent for α under the name γ
   module _ (l : ℕ) (α : Lft) (γ : GName) where
@@ -124,7 +125,7 @@ module _ {M : Type 1} (𝓤 : URA M) (H : Heap 𝓤) (A : Atoms 𝓤) (W : Given
     exits : (r : Translated) (w : Val) (ws : Last) → Said r (ws .1 .1 .0) 64 → ent 𝓤 (⋆ 𝓤 H A (left ws ∷ ‵ (S.the-row .own r (w ∷ [])) ∷ token ∷ [])) (Post w)
     exits r w ws e =
         qed W (left ws ∷ ‵ (S.the-row .own r (w ∷ [])) ∷ token ∷ []) ∵ fsplit ! $ drop ! $ fsplit ! $ drop ! $ fsplit ! $ fsplit ! $ move ! (1 ∷ []) $ feqL ! (λ k.
-        suffices ! _ (ends-saying 𝓤 H A self.ended stayed (self.clauses 𝓤 H A μ run) W bound w r (tt, (tt, (ws .1 .1 .0, tt))) (tt, (tt, (k, tt))) (says-both 𝓤 (factI 𝓤 _ _ (e .0)) (factI 𝓤 _ _ (e .1)))) $
+        suffices ! _ (ends-saying 𝓤 H A self.ended stayed (self.clauses 𝓤 H A μ run) W bound w r (tt, (tt, (ws .1 .1 .0, tt))) (tt, (tt, (k, tt))) (says-both 𝓤 (factI 𝓤 _ _ (e .0)) (says-both 𝓤 (factI 𝓤 _ _ (e .1 .0)) (factI 𝓤 _ _ (e .1 .1))))) $
         -- [the table's last list; true; the result; token]
         move ! (3 ∷ []) $ frame ! $ nothing ! $ move ! (1 ∷ 0 ∷ []) $ fjoin ! $ nothing ! $ fjoin ! $ nothing ! $ fjoin ! $ frame ! $ drop ! $ done !)
 
@@ -148,7 +149,7 @@ module _ {M : Type 1} (𝓤 : URA M) (H : Heap 𝓤) (A : Atoms 𝓤) (W : Given
         -- [the run; what is kept of it; α; rest; _8; …; _7; …; _6; …; _5; …; _4's; _3; …; _2; …; _1; …; _0; …; token]
         move ! (3 ∷ 21 ∷ []) $ join ! $ move ! (1 ∷ 3 ∷ 0 ∷ []) $ use3 W (raw (Core 𝓤 H A μ run .pre (to-core l₄ (α ∷ []) γ))) (passes 𝓤 H A W l₄ (α ∷ []) ls γ d d-is rest (toks 𝓤 A 1 (κ, tt) (q, tt))) $
         calls-at ! fm (Core 𝓤 H A μ run) known (to-core l₄ (α ∷ []) γ) (and-then ! (load ! (from ! (stop !)) (look ! 15 refl)) (and-then ! (load ! (from ! (stop !)) (look ! 6 refl)) (and-then ! (load ! (from ! (stop !)) (look ! 2 refl)) (no-more !)))) (λ w.
-        answers ! tt core.ended (core.clauses 𝓤 H A μ run) (to-core l₄ (α ∷ []) γ) w (λ r ws. Said r (ws .1 .1 .0) (length ls)) (λ r ws. both-said 𝓤 _ _) (λ r ws r-is said.
+        answers ! tt core.ended (core.clauses 𝓤 H A μ run) (to-core l₄ (α ∷ []) γ) w (λ r ws. Said r (ws .1 .1 .0) (length ls)) (λ r ws. and-said 𝓤 _ (both-said 𝓤 _ _)) (λ r ws r-is said.
         -- [the result; both tokens; the table's last list; what is kept of the run; _8; …; _7; …; _6; …; _5; …; _4's; _3; …; _2; …; _1; …; _0; …]
         land ! (from ! (stop !)) (init ! 19 refl (EL.lawful S.the-type S′.the-laws 𝓤 H A W tt .typed r (w ∷ []) r-is .0)) $
         -- the lifetime is over, and the run is whole again

@@ -48,8 +48,10 @@ use Rattle.causal.proofs.causal_reading as core
 use Rattle.causal.proofs.causal_reading.Symbol as core-def
 use Rattle.causal.proofs.causal_reading.Symbol.{name as #core}
 use Rattle.causal.proofs.causal_reading.Met as core-thm
+use Rattle.correctness.proofs.Demand3.{path-exactly}
+use Rattle.correctness.proofs.CausalFaults.{names-fault}
 use Rattle.law_runs.specs.Internal.{gathered}
-use Rattle.lent_laws.proofs.Agreement.{same-reading, path-exactly}
+use Rattle.lent_laws.proofs.Agreement.{same-reading}
 use Rattle.law_runs.proofs.Walking.{walk-shows}
 use Rattle.law_runs.proofs.Answers.{answers, says-both, ends-saying}
 use Rattle.lent_laws.proofs.Gathering.{parted, rejoined, Gather, goes-on, gathers}
@@ -111,7 +113,7 @@ module _ {M : Type 1} (𝓤 : URA M) (H : Heap 𝓤) (A : Atoms 𝓤) (W : Given
   exits : (r : Reading) (u : Val) → Said r → ent 𝓤 (⋆ 𝓤 H A (‵ (S.the-row .own r (u ∷ [])) ∷ token ∷ others ∷ [])) (Post u)
   exits r u e =
       qed W (‵ (S.the-row .own r (u ∷ [])) ∷ token ∷ others ∷ []) ∵
-      suffices ! _ (ends-saying 𝓤 H A self.ended stayed (self.clauses 𝓤 H A μ run) W bound u r (tt, (tt, (tt, tt))) (tt, (tt, (tt, tt))) (says-both 𝓤 (factI 𝓤 _ _ told) (factI 𝓤 _ _ (path-exactly d (s .now) (t .now) r told)))) $
+      suffices ! _ (ends-saying 𝓤 H A self.ended stayed (self.clauses 𝓤 H A μ run) W bound u r (tt, (tt, (tt, tt))) (tt, (tt, (tt, tt))) (says-both 𝓤 (factI 𝓤 _ _ told) (says-both 𝓤 (factI 𝓤 _ _ (path-exactly d (s .now) (length (s .now)) (t .now) r told)) (factI 𝓤 _ _ (names-fault d (s .now) (length (s .now)) (t .now) r told))))) $
       move ! (1 ∷ 2 ∷ []) $ use2 W (raw (toks 𝓤 A 2 (κ, (κ′, tt)) (q, (q′, tt)))) (rejoined 𝓤 H A W 1 κ q (κ′, tt) (q′, tt)) $ frame ! $
       nothing ! $ nothing ! $ fjoin ! $ nothing ! $ fjoin ! $ nothing ! $ fjoin ! $ frame ! $ done !
     where

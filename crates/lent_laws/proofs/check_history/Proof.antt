@@ -50,8 +50,9 @@ use Rattle.history.proofs.check_history as core
 use Rattle.history.proofs.check_history.Symbol as core-def
 use Rattle.history.proofs.check_history.Symbol.{name as #core}
 use Rattle.history.proofs.check_history.Met as core-thm
+use Rattle.correctness.proofs.Demand3.{passes-exactly}
 use Rattle.law_runs.specs.Internal.{gathered}
-use Rattle.lent_laws.proofs.Agreement.{same-checked, same-checked-table, passes-exactly}
+use Rattle.lent_laws.proofs.Agreement.{same-checked, same-checked-table}
 use Rattle.law_runs.proofs.Walking.{walk-shows}
 use Rattle.law_runs.proofs.Answers.{answers, both-said, says-both, ends-saying}
 use Rattle.lent_laws.proofs.Gathering.{parted, rejoined, Gather, goes-on, gathers}
@@ -128,7 +129,7 @@ module _ {M : Type 1} (𝓤 : URA M) (H : Heap 𝓤) (A : Atoms 𝓤) (W : Given
   exits r u w ws e =
       qed W (left u ws ∷ ‵ (S.the-row .own r (w ∷ [])) ∷ token ∷ others ∷ []) ∵ fsplit ! $ drop ! $ fsplit ! $ drop ! $ fsplit ! $ drop ! $ fsplit ! $ drop ! $ fsplit ! $ fsplit ! $ move ! (1 ∷ []) $ feqL ! (λ l.
       suffices ! _ (ends-saying 𝓤 H A self.ended stayed (self.clauses 𝓤 H A μ run) W bound w r (tt, (tt, (tt, (ws .1 .1 .1 .1 .0, tt)))) (tt, (tt, (tt, (l, tt))))
-      (says-both 𝓤 (factI 𝓤 _ _ told) (says-both 𝓤 (factI 𝓤 _ _ (e .1 ∙ same-checked-table d (s .now) (values .now) (t .now))) (factI 𝓤 _ _ (passes-exactly d (s .now) (values .now) (length (t .now)) r told))))) $
+      (says-both 𝓤 (factI 𝓤 _ _ told) (says-both 𝓤 (factI 𝓤 _ _ (e .1 ∙ same-checked-table d (s .now) (values .now) (t .now))) (factI 𝓤 _ _ (passes-exactly d (s .now) (length (s .now)) (values .now) (length (t .now)) r told))))) $
       -- [the table's last list; true; the result; token; others]
       move ! (3 ∷ 4 ∷ []) $ use2 W (raw (toks 𝓤 A 3 (κ, (κ′, (κ″, tt))) (q, (q′, (q″, tt))))) (rejoined 𝓤 H A W 2 κ q (κ′, (κ″, tt)) (q′, (q″, tt))) $ frame ! $
       nothing ! $ move ! (1 ∷ 0 ∷ []) $ fjoin ! $ nothing ! $ fjoin ! $ nothing ! $ fjoin ! $ nothing ! $ fjoin ! $ frame ! $ drop ! $ done !)

@@ -55,7 +55,7 @@ use Rattle.lent_laws.specs.declared.Read.{Read}
 use Rattle.law_runs.specs.Internal.{gathered, scattered}
 use Rattle.lent_laws.proofs.Read as S
 use Rattle.lent_laws.proofs.Read.Laws as S′
-use Rattle.lent_laws.proofs.Reading.{left-stored}
+use Rattle.lent_laws.proofs.Reading.{left-stored, takes-accepted}
 use Rattle.law_runs.proofs.Walking.{walk-shows}
 use Rattle.law_runs.proofs.Answers.{answers, both-said, and-said, says-both, ends-saying}
 use Rattle.law_runs.proofs.Records.{Run, run-typed, run-makes}
@@ -199,10 +199,19 @@ module _ {M : Type 1} (𝓤 : URA M) (H : Heap 𝓤) (A : Atoms 𝓤) (W : Given
       exits r a w ws said is-rs is-n stored told =
           qed W (left ws ∷ ‵ (S.the-row .own a (w ∷ [])) ∷ token ∷ other ∷ []) ∵ fsplit ! $ fsplit ! $ move ! (1 ∷ []) $ feqL ! (λ l. move ! (1 ∷ []) $ drop ! $
           suffices ! _ (ends-saying 𝓤 H A self.ended stayed (self.clauses 𝓤 H A μ run) W bound w a (tt, (ws .0, tt)) (tt, (l, tt))
-          (says-both 𝓤 (factI 𝓤 _ _ (ap replyOf (told .0) ∙ said .0)) (says-both 𝓤 (factI 𝓤 _ _ (told .1 ∙ said .1 .0)) (factI 𝓤 _ _ (stored ∙ left-stored ls (text .now) rs n (is-rs ∙ said .1 .1 .0) (is-n ∙ said .1 .1 .1)))))) $
+          (says-both 𝓤 (factI 𝓤 _ _ replying) (says-both 𝓤 (factI 𝓤 _ _ recorded) (says-both 𝓤 (factI 𝓤 _ _ left-so) (factI 𝓤 _ _ (takes-accepted ls (text .now) (replyOf (a .answer)) (a .description) (ws .0) replying recorded left-so)))))) $
           -- [the run's last list; the result; token; other]
           move ! (2 ∷ 3 ∷ []) $ use2 W (raw (toks 𝓤 A 2 (κ, (κ′, tt)) (q, (q′, tt)))) (rejoined 𝓤 H A W 1 κ q (κ′, tt) (q′, tt)) $ frame ! $
           nothing ! $ move ! (1 ∷ 0 ∷ []) $ fjoin ! $ nothing ! $ fjoin ! $ frame ! $ done !)
+        where
+          replying : replyOf (a .answer) ≡ replied (text .now) found
+          replying = ap replyOf (told .0) ∙ said .0
+
+          recorded : a .description ≡ recordOf found
+          recorded = told .1 ∙ said .1 .0
+
+          left-so : ws .0 ≡ lawsLeft found ls
+          left-so = stored ∙ left-stored ls (text .now) rs n (is-rs ∙ said .1 .1 .0) (is-n ∙ said .1 .1 .1)
 
     -- what the functions that take the core's result apart are passed
     module _ (r : Described) (w : Val) (r-is : Is D.the-row r (w ∷ [])) where

@@ -50,6 +50,7 @@ use Rattle.translation.proofs.translate as core
 use Rattle.translation.proofs.translate.Symbol as core-def
 use Rattle.translation.proofs.translate.Symbol.{name as #core}
 use Rattle.translation.proofs.translate.Met as core-thm
+use Rattle.correctness.proofs.Demand3.{translates-exactly}
 use Rattle.law_runs.specs.Internal.{gathered}
 use Rattle.lent_laws.proofs.Agreement.{same-outcome, same-table}
 use Rattle.law_runs.proofs.Walking.{walk-shows}
@@ -125,10 +126,13 @@ module _ {M : Type 1} (𝓤 : URA M) (H : Heap 𝓤) (A : Atoms 𝓤) (W : Given
   exits r u w ws e =
       qed W (left u ws ∷ ‵ (S.the-row .own r (w ∷ [])) ∷ token ∷ others ∷ []) ∵ fsplit ! $ drop ! $ fsplit ! $ drop ! $ fsplit ! $ drop ! $ fsplit ! $ fsplit ! $ move ! (1 ∷ []) $ feqL ! (λ l.
       suffices ! _ (ends-saying 𝓤 H A self.ended stayed (self.clauses 𝓤 H A μ run) W bound w r (tt, (tt, (ws .1 .1 .1 .0, tt))) (tt, (tt, (l, tt)))
-      (says-both 𝓤 (factI 𝓤 _ _ (e .0 ∙ same-outcome d (s .now) (length (t .now)))) (factI 𝓤 _ _ (e .1 ∙ same-table d (s .now) (t .now))))) $
+      (says-both 𝓤 (factI 𝓤 _ _ (e .0 ∙ same-outcome d (s .now) (length (t .now)))) (says-both 𝓤 (factI 𝓤 _ _ left-so) (factI 𝓤 _ _ (translates-exactly d (s .now) (length (s .now)) (t .now) (ws .1 .1 .1 .0) left-so))))) $
       -- [the table's last list; true; the result; token; others]
       move ! (3 ∷ 4 ∷ []) $ use2 W (raw (toks 𝓤 A 2 (κ, (κ′, tt)) (q, (q′, tt)))) (rejoined 𝓤 H A W 1 κ q (κ′, tt) (q′, tt)) $ frame ! $
       nothing ! $ move ! (1 ∷ 0 ∷ []) $ fjoin ! $ nothing ! $ fjoin ! $ nothing ! $ fjoin ! $ frame ! $ drop ! $ done !)
+    where
+      left-so : ws .1 .1 .1 .0 ≡ tableAfter d (s .now) (length (s .now)) (t .now)
+      left-so = e .1 ∙ same-table d (s .now) (t .now)
 
   module _ (C : Calls 𝓤 H) (Λ : Loops 𝓤 H) (fm : FmC 𝓤 H (W .laws) C) (known-gather : Triple 𝓤 (C #gather) (Gather 𝓤 H A μ run)) (known : Triple 𝓤 (C #core) (Core 𝓤 H A μ run)) where
     walk : ent 𝓤 (onEntry 𝓤 H A self.signature (κ, (κ′, tt)) (q, (q′, tt)) x at) (WpFn 𝓤 H C Λ code.function (vd ∷ vs ∷ vt ∷ []) Post)
