@@ -1,20 +1,18 @@
--- What the reader's ending answers: the reply, the record, the laws and the names shown.
+-- What the reader's ending answers: the reply, the record and the laws.
 -- Assumes nothing.
 use mathlib.Core.Path.{_≡_, sym}
-use mathlib.Core.List.{List, []}
-use Prim.Native.Nat.{ℕ, _+_, _-_, _≤_, _<_}
+use mathlib.Core.List.{List}
+use Prim.Native.Nat.{ℕ, _-_, _≤_, _<_}
 use native.Mathlib.Omega.{arith}
 use borrow.Author.Tests.{eq-eqb, ne-eqb}
 use lib.ListN.{length, take, drop, length-take, length-drop, take-append-drop}
 use Rattle.description.specs.declared.Law.{Law}
-use Rattle.description_reader.specs.declared.states.Reading.{Reading}
 use Rattle.description_reader.specs.declared.descriptions.Ending.{Ending}
 use Rattle.search.specs.Replies.{refused, answered}
 use Rattle.description_reader.specs.Descriptions.{read, descriptionOf}
 use Rattle.description_reader.specs.Answers.{behind, replied, lawsLeft}
-use Rattle.description_reader.specs.Shown.{actionName}
-use Rattle.description_reader.specs.Internal.{draftOf, takenOf, Ended, Limits}
-use Rattle.text.proofs.Spelling.{spelled-length, spelled-past}
+use Rattle.description_reader.specs.Internal.{draftOf, takenOf, Ended}
+use Rattle.text.proofs.Spelling.{spelled-length}
 use Rattle.description_reader.proofs.Stepping.{sound-64}
 
 module _ (text : List ℕ) (e : Ending) where
@@ -43,7 +41,3 @@ module _ (text : List ℕ) (e : Ending) (laws : List Law) (ended : Ended laws te
 
   pub read-laws : e .state .reading .run .laws ≡ lawsLeft (answered (read (draftOf text (e .state .reading)) (drop (e .at) text) (e .line))) laws
   read-laws = rw (taken, ← ended .follows) (sym (take-append-drop (e .state .reading .run .count) (e .state .reading .run .laws)))
-
--- no action has a number of 8 or more
-pub no-action : (text : List ℕ) (r : Reading) → Limits r → (k : ℕ) → 8 ≤ k → [] ≡ actionName (draftOf text r) k
-no-action text r limits k h = spelled-past text (r .names) (r .fluents + k) (omega (arith, limits .actions))

@@ -1,30 +1,36 @@
 // The name shown to an editor: the part of the description text where it was declared.
 use crate::descriptions;
-use text::bytes;
-use text::names;
+use text::lines;
 ghost use mathlib.Core.Path.{_≡_};
 ghost use mathlib.Core.Bool.{cond};
-ghost use Rattle.description_reader.specs.Shown.{shownFluent, shownAction};
+ghost use Rattle.text.specs.Places.{LiesAt};
+ghost use Rattle.description_reader.specs.Shown.{shownFluent, shownAction, shownFluentStart, shownActionStart};
 
-// The name of an action or a fluent by its number, or nothing. At most 8 actions stand behind the fluents.
+// The name of an action or a fluent by its number, or nothing: behind the horizon's line each line declares one name, the fluents
+// first. At most 8 actions stand behind the fluents.
 pub(crate) fn name(text: &[u8], action: bool, number: usize) -> &[u8]
     ensures { λ r. ⌜ now r ≡ cond action (shownAction (now (text .entry)) number) (shownFluent (now (text .entry)) number) ⌝ }
+    ensures { λ r. ⌜ LiesAt (cond action (shownActionStart (now (text .entry)) number) (shownFluentStart (now (text .entry)) number)) (text .entry) r ⌝ }
 {
     let end = descriptions::read_alone(text);
     let state = end.state;
     if 0 < state.refused {
-        return bytes::part(text, 0, 0);
+        return lines::no_part(text);
     }
     let reading = state.reading;
     let names = reading.names;
     if action {
         if 8 <= number {
-            return bytes::part(text, 0, 0);
+            return lines::no_part(text);
         }
-        return names::declared(text, names, reading.fluents + number);
+        let place = reading.fluents + number;
+        if names.count <= place {
+            return lines::no_part(text);
+        }
+        return lines::value_of_line(text, place + 1);
     }
     if reading.fluents <= number {
-        return bytes::part(text, 0, 0);
+        return lines::no_part(text);
     }
-    names::declared(text, names, number)
+    lines::value_of_line(text, number + 1)
 }

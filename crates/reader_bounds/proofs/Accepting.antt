@@ -1,8 +1,8 @@
 -- What the description reader takes is accepted: each line of a text keeps the limits that refusals 8 and 3 ask for, and each law
 -- is written tidily.
 -- Assumes nothing.
-use mathlib.Core.Path.{_≡_, refl, sym, ap, subst, _∙_}
-use mathlib.Core.Bool.{Bool, true, false, not, cond, _&&_, _||_, true≢false}
+use mathlib.Core.Path.{_≡_, refl, sym, ap, subst}
+use mathlib.Core.Bool.{Bool, true, false, not, _&&_, true≢false}
 use mathlib.Core.List.{List, [], _∷_, _++_}
 use mathlib.Core.Option.{Option, none, some}
 use Prim.Native.Nat.{ℕ, zero, suc, _+_, _-_, _*_, min, _≤_, _<_}
@@ -16,7 +16,6 @@ use Rattle.search.specs.Replies.{Reply, refused, answered}
 use Rattle.search.proofs.Tests.{and-iff, all-each, each-append, each-map, not-both}
 use Rattle.search.proofs.Lists.{none-iff}
 use Rattle.description.specs.declared.Head.{Head}
-use Rattle.description.specs.declared.Head.the-variants.{Lit, False}
 use Rattle.description.specs.declared.Kind.{Kind}
 use Rattle.description.specs.declared.Kind.the-variants.{Static, Dynamic}
 use Rattle.description.specs.declared.Law.{Law}
@@ -31,7 +30,7 @@ use Rattle.description_reader.specs.LineSteps as step
 use Rattle.description_reader.specs.LineSteps.{Due, horizonDue, firstFluentDue, fluentDue, actionDue, lawDue, ifDue, afterDue, Draft, allowed, Step, next, finish, inHorizon, horizonOf, horizonLine}
 use Rattle.description_reader.specs.LineSteps.{nameLine, litHead, headOf, begun, lawLine, withIf, ifLine, withAfter, afterLine, endLine, lawIn, lineStep}
 use Rattle.description_reader.specs.Descriptions.{Taken, read, afterStep, afterFirst, blank, linesFrom, described, descriptionOf}
-use Rattle.reader_bounds.specs.Accepts.{aftersOf, Tidy, Accepted, TakenAccepted}
+use Rattle.reader_bounds.specs.Accepts.{Tidy, Accepted, TakenAccepted}
 use Rattle.reader_bounds.proofs.Drafts.{chosen, Limited, BoundedReply, bounded}
 
 -- codes below a bound

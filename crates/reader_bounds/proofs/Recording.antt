@@ -1,23 +1,22 @@
 -- What the history reader takes: as many values as atoms, each 0 to 3.
 -- Assumes nothing.
-use mathlib.Core.Path.{_≡_, refl, sym, subst, _∙_}
+use mathlib.Core.Path.{_≡_, refl, subst, _∙_}
 use mathlib.Core.Bool.{Bool, true, false, cond}
 use mathlib.Core.List.{List, [], _∷_}
 use mathlib.Core.Option.{Option, none, some}
-use Prim.Native.Nat.{ℕ, zero, suc, _+_, _*_, _/_, _%_, _≤_}
+use Prim.Native.Nat.{ℕ, zero, suc, _+_, _/_, _%_, _≤_}
 use native.Mathlib.Omega.{arith}
 use borrow.Author.Tests.{eqb-true, ltb-true}
 use lib.Dec.{eqb, ltb}
 use lib.ListN.{length, getD, set, replicate, length-set, length-replicate}
 use Rattle.search.specs.Search.{Each}
-use Rattle.search.specs.Replies.{Reply, refused, answered, orRefuse}
-use Rattle.description.specs.Atoms.{wrongLength}
+use Rattle.search.specs.Replies.{Reply, refused, answered}
 use Rattle.text.specs.Lines.{Line, firstLine, endKey}
 use Rattle.text.specs.Lists as lists
 use Rattle.text.specs.Lists.{Listed, codes, listOf}
 use Rattle.description_reader.specs.LineSteps.{Draft}
 use Rattle.description_reader.specs.Descriptions.{Taken, read, described}
-use Rattle.history_reader.specs.Histories.{withTrue, withFalse, marked, atEnd, historyEnd, most, listed, listLine, statesFrom, atoms, recorded, byNames, readHistory}
+use Rattle.history_reader.specs.Histories.{withTrue, withFalse, marked, historyEnd, most, listed, listLine, statesFrom, atoms, recorded, byNames, readHistory}
 use Rattle.reader_bounds.specs.Records.{Valued, TakenValued}
 use Rattle.reader_bounds.proofs.Drafts.{chosen}
 

@@ -1,7 +1,7 @@
 -- Runs cut at their first byte of a kind, by places: lines and items.
 -- Assumes nothing.
 use mathlib.Core.Path.{_≡_, ap}
-use mathlib.Core.Bool.{Bool}
+use mathlib.Core.Bool.{Bool, true, false, cond}
 use mathlib.Core.List.{List, [], _∷_}
 use mathlib.Core.Option.{none, some}
 use Prim.Native.Nat.{ℕ, zero, suc, _+_, _-_, _<_}
@@ -13,6 +13,7 @@ use Rattle.search.specs.Search.{first}
 use Rattle.search.proofs.Tests.{first-some}
 use Rattle.text.specs.Bytes.{newline, comma, equalsSign, cut}
 use Rattle.text.specs.Lines.{keyNumber, firstLine}
+use Rattle.text.specs.Places.{valueFrom}
 use Rattle.text.specs.Internal.{keyIn, noLine, lineOf, LineFits, itemAt, nextAt}
 
 -- what is found stands inside
@@ -21,6 +22,17 @@ first-inside p xs j e = let (i, at, low) = first-some p 0 0 xs j e in omega (ari
 
 pub cut-size : (p : ℕ → Bool) (xs : List ℕ) (j : ℕ) → first p 0 xs ≡ some j → j ≡ length (take j xs)
 cut-size p xs j e = omega (arith, first-inside p xs j e, length-take j xs)
+
+-- what is found in the front of a run is found in the run
+pub first-front : (p : ℕ → Bool) (k n : ℕ) (xs : List ℕ) (j : ℕ) → first p k (take n xs) ≡ some j → first p k xs ≡ some j
+first-front p k zero xs j e = let z : _≡_ {A = ℕ} 0 1 = cc in absurd (omega arith)
+first-front p k (suc n) [] j e = e
+first-front p k (suc n) (x ∷ xs) j e = go (p x) e (λ h. first-front p (suc k) n xs j h)
+  where
+    go : (b : Bool) → cond b (some k) (first p (suc k) (take n xs)) ≡ some j
+        → (first p (suc k) (take n xs) ≡ some j → first p (suc k) xs ≡ some j) → cond b (some k) (first p (suc k) xs) ≡ some j
+    go true h next = h
+    go false h next = next h
 
 pub drop-take : (j n : ℕ) (xs : List ℕ) → drop j (take n xs) ≡ take (n - j) (drop j xs)
 drop-take zero n xs = let e : n - 0 ≡ n = omega arith in rw e
@@ -60,15 +72,20 @@ module _ (text : List ℕ) (at : ℕ) (rest : List ℕ) (is : rest ≡ drop at t
       unfolding lineOf firstLine cut
       line-whole k is-key = rw (value, behind, is-key, ← is, ends, splits)
 
+      -- the value begins behind the equals sign
+      line-from : at + sign + 1 ≡ at + valueFrom (drop at text)
+      unfolding valueFrom
+      line-from = rw (← is, first-front (eqb equalsSign) 0 size rest sign splits) (omega arith)
+
       pub line-fits : (k : ℕ) → LineFits text at (record { key = k; from = at + sign + 1; to = at + size; next = at + size + 1 })
       line-fits k =
           let inside = line-inside in
           let before = sign-inside in
-          record { ordered = omega arith; inside = omega arith; within = omega arith; later = λ b. omega arith }
+          record { ordered = omega arith; inside = omega arith; within = omega arith; later = λ b. omega arith; starts = λ b. line-from }
 
 -- where there is no line
 pub none-fits : (text : List ℕ) (at : ℕ) → LineFits text at (noLine (length text))
-none-fits text at = record { ordered = omega arith; inside = omega arith; within = omega arith; later = λ b. absurd (omega arith) }
+none-fits text at = record { ordered = omega arith; inside = omega arith; within = omega arith; later = λ b. absurd (omega arith); starts = λ b. absurd (omega arith) }
 
 -- the item at a place of a list, where `rest` is the list from there on
 module _ (list : List ℕ) (from : ℕ) (rest : List ℕ) (is : rest ≡ drop from list) where

@@ -1,11 +1,40 @@
--- Small worked examples of the definitions that no function of this crate computes by itself: a list of the one name a.
+-- Small worked examples of the definitions that no function of this crate computes by itself: the keys by their names, a text of
+-- two lines, and a list of the one name a.
 -- Assumes nothing.
 use mathlib.Core.Path.{_≡_, refl}
-use mathlib.Core.List.{List, [], _∷_}
+use mathlib.Core.List.{List, [], _∷_, map}
+use mathlib.Core.Option.{Option, some}
 use Prim.Native.Nat.{ℕ}
 use Rattle.text.specs.Bytes.{cut}
+use Rattle.text.specs.Lines.{keys, horizonKey, fluentKey, actionKey, staticKey, dynamicKey, ifKey, afterKey, stateKey, actKey, endKey, keyNumber, firstLine}
+use Rattle.text.specs.Places.{lineSize, startOfLine, valueFrom, startOfValue, lineNumber}
 use Rattle.text.specs.Names.{literal}
 use Rattle.text.specs.Lists.{refused, codes, items, listOf}
+
+-- horizon, fluent, action, static, dynamic, if, after, state, act, end
+pub keys-numbered : map keyNumber keys
+    ≡ map {B = Option ℕ} some (horizonKey ∷ fluentKey ∷ actionKey ∷ staticKey ∷ dynamicKey ∷ ifKey ∷ afterKey ∷ stateKey ∷ actKey ∷ endKey ∷ [])
+unfolding keyNumber
+keys-numbered = refl
+
+-- if=a=b
+-- act=
+abbrev two-lines : List ℕ
+two-lines = 105 ∷ 102 ∷ 61 ∷ 97 ∷ 61 ∷ 98 ∷ 10 ∷ 97 ∷ 99 ∷ 116 ∷ 61 ∷ 10 ∷ []
+
+-- split at the first equals sign, ended by byte 10
+pub line-read : firstLine two-lines ≡ some (record { key = ifKey; value = 97 ∷ 61 ∷ 98 ∷ []; rest = 97 ∷ 99 ∷ 116 ∷ 61 ∷ 10 ∷ [] })
+unfolding firstLine cut keyNumber
+line-read = refl
+
+-- line 1 begins at byte 7, its value at byte 11; behind the last line nothing follows
+pub line-placed : (startOfLine 1 two-lines ≡ 7) × (startOfValue 0 two-lines ≡ 3) × (startOfValue 1 two-lines ≡ 11) × (startOfLine 3 two-lines ≡ 12)
+unfolding lineSize valueFrom
+line-placed = (refl, refl, refl, refl)
+
+pub line-numbered : lineNumber 1 two-lines ≡ some (record { key = actKey; value = []; rest = [] })
+unfolding firstLine cut keyNumber lineSize
+line-numbered = refl
 
 -- a
 abbrev names : List (List ℕ)

@@ -2,6 +2,7 @@
 pub mod Runs
 pub mod KeyTable
 pub mod Cutting
+pub mod Placing
 pub mod Spelling
 pub mod Items
 pub mod Examples

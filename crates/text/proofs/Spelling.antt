@@ -151,19 +151,3 @@ literal-small names low high (x ∷ xs) h = go (eqb x 45) refl
     go : (b : Bool) → eqb x 45 ≡ b → CodeFits (cond b (inSort low high 1 (declaredAt names xs)) (inSort low high 0 (declaredAt names (x ∷ xs))))
     go true e = sort-small low high 1 (declaredAt names xs) (omega arith) h
     go false e = sort-small low high 0 (declaredAt names (x ∷ xs)) (omega arith) h
-
--- the name at a place
-
-map-range-at : {A : Type 0} (f : ℕ → A) (k n i : ℕ) (d : A) → i < n → getD (map f (range k n)) i d ≡ f (k + i)
-map-range-at f k zero i d h = absurd (omega arith)
-map-range-at f k (suc n) zero d h = let e : k + 0 ≡ k = omega arith in rw e
-map-range-at f k (suc n) (suc i) d h = let e : k + suc i ≡ suc k + i = omega arith in rw e (map-range-at f (suc k) n i d (omega arith))
-
-pub spelled-at : (text : List ℕ) (names : Names) (i : ℕ) → i < names .count → nameAt text names i ≡ getD (spelled text names) i []
-unfolding spelled
-spelled-at text names i h =
-    let e : 0 + i ≡ i = omega arith in
-    sym (rw e at (map-range-at (λ j. nameAt text names j) 0 (names .count) i [] h))
-
-pub spelled-past : (text : List ℕ) (names : Names) (i : ℕ) → names .count ≤ i → [] ≡ getD (spelled text names) i []
-spelled-past text names i h = sym (List·getD-eq-default (spelled text names) [] {n = i} (omega (arith, spelled-length text names)))

@@ -1,5 +1,6 @@
 -- Internal: what the crate's own functions promise each other. No public promise rests on it; a reader may pass it over.
 -- Assumes nothing.
+use mathlib.Core.Path.{_≡_}
 use mathlib.Core.Bool.{cond}
 use mathlib.Core.List.{List, [], map}
 use mathlib.Core.Option.{Option, none, some}
@@ -11,6 +12,7 @@ use Rattle.text.specs.declared.lines.LineAt.{LineAt}
 use Rattle.text.specs.declared.names.Names.{Names}
 use Rattle.text.specs.Bytes.{comma}
 use Rattle.text.specs.Lines.{Line, keyed}
+use Rattle.text.specs.Places.{valueFrom}
 use Rattle.text.specs.Lists.{itemsIn}
 
 -- a key's number, 10 for none
@@ -25,12 +27,13 @@ noLine at = record { key = 10; from = at; to = at; next = at }
 unfoldable pub lineOf : List ℕ → LineAt → Option Line
 lineOf text l = keyed (keyIn (l .key)) (take (l .to - l .from) (drop (l .from) text)) (drop (l .next) text)
 
--- the places are within the text, and a line with a key takes at least a byte
+-- the places are within the text, a line with a key takes at least a byte, and its value stands behind its equals sign
 pub record LineFits (text : List ℕ) (at : ℕ) (l : LineAt) : Type 0 where
   pub ordered : l .from ≤ l .to
   pub inside : l .to ≤ length text
   pub within : l .next ≤ length text
   pub later : l .key < 10 → at < l .next
+  pub starts : l .key < 10 → l .from ≡ at + valueFrom (drop at text)
 
 -- the names that stand at some places of a text
 abbrev pub nameAt : List ℕ → Names → ℕ → List ℕ

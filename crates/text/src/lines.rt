@@ -3,10 +3,12 @@ use crate::bytes;
 use search::Found;
 ghost use mathlib.Core.Path.{_≡_};
 ghost use mathlib.Core.List.{[]};
-ghost use Prim.Native.Nat.{_<_};
-ghost use lib.ListN.{getD, drop};
+ghost use mathlib.Core.Option.{some};
+ghost use Prim.Native.Nat.{_≤_, _<_};
+ghost use lib.ListN.{length, getD, drop};
 ghost use Rattle.text.specs.Bytes.{same};
-ghost use Rattle.text.specs.Lines.{keys, keyNumber, firstLine};
+ghost use Rattle.text.specs.Lines.{keys, keyNumber, Line, firstLine};
+ghost use Rattle.text.specs.Places.{lineSize, startOfLine, startOfValue, lineNumber, LiesAt};
 ghost use Rattle.text.specs.Internal.{keyIn, noLine, lineOf, LineFits};
 
 // The ten keys in the order of their numbers, 8 bytes each: the key's length, then its bytes.
@@ -181,4 +183,46 @@ pub fn line_at(text: &[u8], at: usize) -> LineAt
         to: at + size,
         next: at + size + 1,
     }
+}
+
+// How many bytes the first line takes, its ending byte among them.
+fn line_size(rest: &[u8]) -> usize
+    ensures { λ r. ⌜ (r ≡ lineSize (now (rest .entry))) × (r ≤ length (now (rest .entry))) ⌝ }
+{
+    let Found::At(end) = bytes::find(rest, 10) else {
+        return rest.len();
+    };
+    end + 1
+}
+
+// Where line n begins; the first is line 0.
+fn line_start(text: &[u8], n: usize) -> usize
+    ensures { λ r. ⌜ (r ≡ startOfLine n (now (text .entry))) × (r ≤ length (now (text .entry))) ⌝ }
+{
+    let mut at: usize = 0;
+    let mut i: usize = 0;
+    while i < n {
+        let rest = &text[at..];
+        at += line_size(rest);
+        i += 1;
+    }
+    at
+}
+
+// The value of line n: the part of the text behind its equals sign.
+pub fn value_of_line(text: &[u8], n: usize) -> &[u8]
+    ensures { λ r. ⌜ ((l : Line) → lineNumber n (now (text .entry)) ≡ some l → (now r ≡ l .value) × LiesAt (startOfValue n (now (text .entry))) (text .entry) r) ⌝ }
+{
+    let at = line_start(text, n);
+    let line = line_at(text, at);
+    let from = line.from;
+    let to = line.to;
+    &text[from..to]
+}
+
+// No part of a text: no bytes, at its start.
+pub fn no_part(text: &[u8]) -> &[u8]
+    ensures { λ r. ⌜ (now r ≡ []) × LiesAt 0 (text .entry) r ⌝ }
+{
+    &text[..0]
 }

@@ -2,9 +2,7 @@
 use crate::bytes;
 use search::Found;
 ghost use mathlib.Core.Path.{_≡_};
-ghost use mathlib.Core.List.{[]};
 ghost use Prim.Native.Nat.{_≤_};
-ghost use lib.ListN.{getD};
 ghost use Rattle.search.specs.Search.{all, placeOf};
 ghost use Rattle.text.specs.Bytes.{isNameByte, same};
 ghost use Rattle.text.specs.Names.{falseBytes, isName, isNew, declaredAt, inSort, literal};
@@ -127,14 +125,4 @@ pub fn literal(text: &[u8], names: Names, item: &[u8], low: usize, high: usize) 
         return in_sort(find_name(text, names, &item[1..]), low, high, 1);
     }
     in_sort(find_name(text, names, item), low, high, 0)
-}
-
-// The part of the text where the name at a place was declared, empty behind the last.
-pub fn declared(text: &[u8], names: Names, i: usize) -> &[u8]
-    ensures { λ r. ⌜ now r ≡ getD (spelled (now (text .entry)) names) i [] ⌝ }
-{
-    if names.count <= i {
-        return bytes::part(text, 0, 0);
-    }
-    name_at(text, names, i)
 }

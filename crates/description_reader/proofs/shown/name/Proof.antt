@@ -1,98 +1,151 @@
 -- `shown::name` meets its contract: a text that is refused, a number that nothing declares, or a name.
 -- Assumes nothing.
-use mathlib.Core.Path.{_≡_, refl, sym, _∙_, ap}
-use mathlib.Core.Bool.{Bool, true, false, cond}
+use mathlib.Core.Path.{_≡_, sym, _∙_}
 use mathlib.Core.List.{List, []}
-use Prim.Native.Nat.{ℕ}
+use Prim.Native.Nat.{ℕ, _+_, _<_}
 use native.Mathlib.Omega.{arith}
-use borrow.Author.Tests.{lt-ltb, le-ltb}
-use Rattle.search.specs.Replies.{Reply, refused}
-use Rattle.description_reader.specs.Descriptions.{Taken, described}
+use lib.ListN.{length, getD, drop}
+use Rattle.search.specs.Replies.{refused, answered}
+use Rattle.text.proofs.Spelling.{spelled-length}
+use Rattle.description_reader.specs.LineSteps.{Draft}
+use Rattle.description_reader.specs.Descriptions.{read, described}
 use Rattle.description_reader.specs.Internal.{draftOf}
-use Rattle.description_reader.specs.Shown.{fluentName, actionName, shownBy, shownFluent, shownAction}
-use Rattle.description_reader.proofs.Answering.{ends-refused, ends-read, no-action}
+use Rattle.description_reader.specs.declared.descriptions.Ending.{Ending}
+use Rattle.description_reader.proofs.Answering.{ends-refused, ends-read}
+use Rattle.description_reader.proofs.Showing.{part-refused, part-no-action, part-action, part-no-fluent, part-fluent, value-shown, shown-part}
 use borrow.Author.Needs.{needs}
 use Rattle.description_reader.proofs.shown.name.Statement.{statement}
 use Rattle.description_reader.proofs.shown.name.Tie as tie
 
-abbrev shows : Bool → ℕ → Reply Taken → List ℕ
-shows action i o = cond action (shownBy actionName o i) (shownBy fluentName o i)
+-- the text, where the reader ended, and the description that it read
+abbrev text-at : tie.After-names → List ℕ
+text-at n = n .before .before .before .before .before .before .before .args .text .now
 
-nothing : (action : Bool) (i k place : ℕ) → [] ≡ shows action i (refused k place)
-nothing true i k place = refl
-nothing false i k place = refl
+abbrev end-at : tie.After-names → Ending
+end-at n = n .before .before .before .before .before .read-alone .result
 
--- a text that is read shows what it declares
-declares : (c : tie.After-names) → let r = c .before .before .before .before .before in let a = r .before .before .args in
-    let d = draftOf (a .text .now) (r .read-alone .result .state .reading) in
-    cond (a .action) (actionName d (a .number)) (fluentName d (a .number)) ≡ shows (a .action) (a .number) (described 64 (a .text .now))
-declares c =
-    let r = c .before .before .before .before .before in
-    let a = r .before .before .args in
-    ap (λ o. shows (a .action) (a .number) o) (sym (sym (r .read-alone .ensures .0) ∙ ends-read (a .text .now) (r .read-alone .result) (c .before .before .if1 .left)))
+abbrev draft-at : tie.After-names → Draft
+draft-at n = draftOf (text-at n) (end-at n .state .reading)
+
+abbrev rest-at : tie.After-names → List ℕ
+rest-at n = drop (end-at n .at) (text-at n)
+
+is-read : (n : tie.After-names) → described 64 (text-at n) ≡ answered (read (draft-at n) (rest-at n) (end-at n .line))
+is-read n =
+    sym (n .before .before .before .before .before .read-alone .ensures .0) ∙ ends-read (text-at n) (end-at n) (n .before .before .if1 .left)
+
+-- how many names there are
+counted : (n : tie.After-names) → length (draft-at n .names) ≡ end-at n .state .reading .names .count
+counted n = spelled-length (text-at n) (end-at n .state .reading .names)
 
 read-alone-requires : tie.Need-read-alone-requires
-read-alone-requires c κs = search needs
+read-alone-requires c κs = tt
 
-part-requires : tie.Need-part-requires
-part-requires c κs = search needs
+no-part-requires : tie.Need-no-part-requires
+no-part-requires c κs = tt
 
 returns : tie.Need-returns
-unfolding shownAction shownFluent
 returns c =
     let r = c .before .before .before .before in
     let a = r .before .before .args in
-    c .part .ensures ∙ nothing (a .action) (a .number) (r .read-alone .result .state .refused) (r .read-alone .result .line)
-    ∙ ap (λ o. shows (a .action) (a .number) o) (sym (sym (r .read-alone .ensures .0) ∙ ends-refused (a .text .now) (r .read-alone .result) (c .before .if1 .taken)))
+    let e = r .read-alone .result in
+    shown-part (a .text) (c .no-part .result) (a .action) (a .number) (refused (e .state .refused) (e .line))
+    (sym (r .read-alone .ensures .0) ∙ ends-refused (a .text .now) e (c .before .if1 .taken)) [] 0
+    (part-refused (a .text .now) (a .action) (a .number) (e .state .refused) (e .line)) (c .no-part .ensures)
 
-part-requires-2 : tie.Need-part-requires-2
-part-requires-2 c κs = search needs
+no-part-requires-2 : tie.Need-no-part-requires-2
+no-part-requires-2 c κs = tt
 
 returns-2 : tie.Need-returns-2
-unfolding shownAction shownFluent
 returns-2 c =
     let n = c .before .before .before in
     let r = n .before .before .before .before .before in
     let a = r .before .before .args in
-    rw (← declares n, c .before .before .if2 .taken) (c .part2 .ensures ∙ no-action (a .text .now) (r .read-alone .result .state .reading) (r .read-alone .ensures .1) (a .number) (omega arith))
+    shown-part (a .text) (c .no-part2 .result) (a .action) (a .number) _ (is-read n) [] 0
+    (part-no-action (text-at n) (a .action) (draft-at n) (rest-at n) (end-at n .line) (a .number) (c .before .before .if2 .taken)
+    (omega (arith, counted n, r .read-alone .ensures .1 .actions, c .before .if3 .taken)))
+    (c .no-part2 .ensures)
 
-add-declared : tie.Need-add-declared
-add-declared c = search needs
+add-place : tie.Need-add-place
+add-place c = search needs
 
-declared-requires : tie.Need-declared-requires
-declared-requires c κs = search needs
+no-part-requires-3 : tie.Need-no-part-requires-3
+no-part-requires-3 c κs = tt
 
 returns-3 : tie.Need-returns-3
-unfolding shownAction shownFluent
-returns-3 c = rw (← declares (c .before .before .before .before), c .before .before .before .if2 .taken) (c .declared .ensures)
+returns-3 c =
+    let n = c .before .before .before .before .before .before in
+    let r = n .before .before .before .before .before in
+    let a = r .before .before .args in
+    shown-part (a .text) (c .no-part3 .result) (a .action) (a .number) _ (is-read n) [] 0
+    (part-no-action (text-at n) (a .action) (draft-at n) (rest-at n) (end-at n .line) (a .number) (c .before .before .before .before .before .if2 .taken)
+    (omega (arith, counted n, c .before .if4 .taken)))
+    (c .no-part3 .ensures)
 
-part-requires-3 : tie.Need-part-requires-3
-part-requires-3 c κs = search needs
+add-value-of-line : tie.Need-add-value-of-line
+add-value-of-line c = search needs
+
+value-of-line-requires : tie.Need-value-of-line-requires
+value-of-line-requires c κs = tt
 
 returns-4 : tie.Need-returns-4
-unfolding shownAction shownFluent
-returns-4 c = rw (← declares (c .before .before .before .before), c .before .before .before .if2 .left, le-ltb _ _ (c .before .if4 .taken)) (c .part3 .ensures)
+returns-4 c =
+    let n = c .before .before .before .before .before .before in
+    let r = n .before .before .before .before .before in
+    let a = r .before .before .args in
+    let i = end-at n .state .reading .fluents + a .number in
+    let below : i < length (draft-at n .names) = omega (arith, counted n, c .before .if4 .left) in
+    shown-part (a .text) (c .value-of-line .result) (a .action) (a .number) _ (is-read n) (getD (draft-at n .names) i []) _
+    (part-action (text-at n) (a .action) (draft-at n) (rest-at n) (end-at n .line) (a .number) (c .before .before .before .before .before .if2 .taken) below)
+    (value-shown (a .text) (c .value-of-line .result) (draft-at n) (rest-at n) (end-at n .line) (is-read n) i below (c .value-of-line .ensures))
 
-declared-requires-2 : tie.Need-declared-requires-2
-declared-requires-2 c κs = search needs
+no-part-requires-4 : tie.Need-no-part-requires-4
+no-part-requires-4 c κs = tt
 
 returns-5 : tie.Need-returns-5
-unfolding shownAction shownFluent
-returns-5 c = rw (← declares (c .before .before .before .before), c .before .before .before .if2 .left, lt-ltb _ _ (c .before .if4 .left)) (c .declared2 .ensures)
+returns-5 c =
+    let n = c .before .before .before .before in
+    let r = n .before .before .before .before .before in
+    let a = r .before .before .args in
+    shown-part (a .text) (c .no-part4 .result) (a .action) (a .number) _ (is-read n) [] 0
+    (part-no-fluent (text-at n) (a .action) (draft-at n) (rest-at n) (end-at n .line) (a .number) (c .before .before .before .if2 .left) (c .before .if5 .taken))
+    (c .no-part4 .ensures)
+
+add-value-of-line-2 : tie.Need-add-value-of-line-2
+add-value-of-line-2 c =
+    let n = c .before .before .before in
+    omega (arith, n .before .before .before .before .before .read-alone .ensures .1 .few, c .if5 .left)
+
+value-of-line-requires-2 : tie.Need-value-of-line-requires-2
+value-of-line-requires-2 c κs = tt
+
+returns-6 : tie.Need-returns-6
+returns-6 c =
+    let n = c .before .before .before .before in
+    let r = n .before .before .before .before .before in
+    let a = r .before .before .args in
+    let below : a .number < length (draft-at n .names) = omega (arith, counted n, r .read-alone .ensures .1 .declared, c .before .if5 .left) in
+    shown-part (a .text) (c .value-of-line2 .result) (a .action) (a .number) _ (is-read n) (getD (draft-at n .names) (a .number) []) _
+    (part-fluent (text-at n) (a .action) (draft-at n) (rest-at n) (end-at n .line) (a .number) (c .before .before .before .if2 .left) (c .before .if5 .left))
+    (value-shown (a .text) (c .value-of-line2 .result) (draft-at n) (rest-at n) (end-at n .line) (is-read n) (a .number) below (c .value-of-line2 .ensures))
 
 pub name-spec : {M : Type 1} → statement M
 name-spec =
     tie.close
     (tie.spec
     read-alone-requires
-    part-requires
+    no-part-requires
     returns
-    part-requires-2
+    no-part-requires-2
     returns-2
-    add-declared
-    declared-requires
+    add-place
+    no-part-requires-3
     returns-3
-    part-requires-3
+    add-value-of-line
+    value-of-line-requires
     returns-4
-    declared-requires-2
-    returns-5)
+    no-part-requires-4
+    returns-5
+    add-value-of-line-2
+    value-of-line-requires-2
+    returns-6)
