@@ -40,7 +40,7 @@ use Rattle.history.specs.Checks as history
 use Rattle.causal.specs.declared.Reading.{Reading}
 use Rattle.causal.specs.Verdicts.{path, causalVerdict}
 use Rattle.causal.specs.Readings as causal
-use Rattle.correctness.specs.Demand3.{OneValue, Complete, PathOf, PassExactly, Demand3}
+use Rattle.correctness.specs.Demand3.{OneValue, Complete, PathOf, FourReadings, Demand3}
 use Rattle.correctness.specs.Promises.{TranslatesExactly, PassesExactly, PathExactly}
 use Rattle.correctness.proofs.Reading.{causal-iff}
 use Rattle.correctness.proofs.Translated.{answer-set-iff-path}
@@ -125,9 +125,9 @@ module _ (d : Description) (ls : List Law) (lent : ℕ) (vs : List ℕ) (complet
   by-causal : causal.reading d ls lent vs ≡ answered path ↔ PathOf d ls vs
   by-causal = Iff·trans (λ e. let v = read-verdict in cc, λ e. let v = read-verdict in cc) (causal-iff (d .fluents) (d .actions) (d .horizon) (lawsOf d ls) vs)
 
-  passed-exactly : PassExactly d ls lent vs
+  four-readings : FourReadings d ls lent vs
   unfolding history.checked
-  passed-exactly = record {
+  four-readings = record {
     answer-set = by-answer-set;
     engine-passes = by-translated;
     history-passes = by-history;
@@ -136,7 +136,7 @@ module _ (d : Description) (ls : List Law) (lent : ℕ) (vs : List ℕ) (complet
   }
 
 pub demand-3 : Demand3
-demand-3 d ls lent vs complete = passed-exactly d ls lent vs complete
+demand-3 d ls lent vs complete = four-readings d ls lent vs complete
 
 -- What functions promise of their own answers
 

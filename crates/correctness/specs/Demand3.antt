@@ -42,7 +42,7 @@ abbrev pub PathOf : Description → List Law → List ℕ → Type 0
 PathOf d ls vs = Path (d .fluents) (d .actions) (d .horizon) (lawsOf d ls) vs
 
 -- each of the four readings passes the set exactly if it is a path
-pub record PassExactly (d : Description) (ls : List Law) (lent : ℕ) (vs : List ℕ) : Type 0 where
+pub record FourReadings (d : Description) (ls : List Law) (lent : ℕ) (vs : List ℕ) : Type 0 where
   -- 000, Proposition 1
   pub answer-set : AnswerSet (rulesFor d ls) (setOf vs) ↔ PathOf d ls vs
   -- the translated table: the words left at the front of a table that is long enough, whatever stood there before
@@ -55,4 +55,4 @@ pub record PassExactly (d : Description) (ls : List Law) (lent : ℕ) (vs : List
 
 -- for all descriptions, law runs, numbers lent and values
 abbrev pub Demand3 : Type 0
-Demand3 = (d : Description) (ls : List Law) (lent : ℕ) (vs : List ℕ) → Complete d ls lent vs → PassExactly d ls lent vs
+Demand3 = (d : Description) (ls : List Law) (lent : ℕ) (vs : List ℕ) → Complete d ls lent vs → FourReadings d ls lent vs
