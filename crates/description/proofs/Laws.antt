@@ -9,7 +9,10 @@ use native.Mathlib.Omega.{arith}
 use lib.Dec.{ltb, leb}
 use lib.ListN.{length, getD, length-take}
 use borrow.Author.Tests.{ltb-true, leb-true, le-leb}
-use Rattle.search.specs.Search.{Each}
+use Rattle.search.specs.declared.Found.{Found}
+use Rattle.search.specs.declared.Found.the-variants.{At, Nothing}
+use Rattle.search.specs.Search.{Each, placeOf}
+use Rattle.search.specs.Replies.{refusalOf, refusal}
 use Rattle.description.specs.declared.Head.{Head}
 use Rattle.description.specs.declared.Head.the-variants.{Lit, False}
 use Rattle.description.specs.declared.Kind.{Kind}
@@ -18,6 +21,11 @@ use Rattle.description.specs.declared.Law.{Law}
 use Rattle.description.specs.declared.Description.{Description}
 use Rattle.description.specs.Laws.{ifList, afterList, lawsOf}
 use Rattle.description.specs.Acceptance.{countsFit, codesBelow, headFits, afterFits, lawFits, badLaw, badRecord, badHorizon}
+
+-- the refusal of a search's answer is that of its place
+pub place-refusal : (number : ℕ) (r : Found) → refusalOf number r ≡ refusal number (placeOf r)
+place-refusal number (At k) = refl
+place-refusal number Nothing = refl
 
 -- Counts and horizon
 

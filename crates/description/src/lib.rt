@@ -6,6 +6,7 @@ ghost use Prim.Native.Nat.{ℕ, _+_, _*_, _≤_};
 ghost use lib.Dec.{leb};
 ghost use lib.ListN.{take};
 ghost use Rattle.search.specs.Search.{placeOf};
+ghost use Rattle.search.specs.Replies.{refusalOf, refusal};
 ghost use Rattle.description.specs.Acceptance.{codesBelow, headFits, afterFits, lawFits, badLaw};
 ghost use Rattle.description.specs.Acceptance.{countsFit, badRecord, badHorizon};
 
@@ -140,7 +141,7 @@ fn counts_fit(d: Description, lent: usize) -> bool
 
 // Refusal 8: place 64 for the counts, tested first, else the lowest law outside the limits.
 pub fn bad_record(d: Description, laws: [Law; 64], lent: usize) -> Found
-    ensures { λ r. ⌜ placeOf r ≡ badRecord d laws lent ⌝ }
+    ensures { λ r. ⌜ refusalOf 8 r ≡ refusal 8 (badRecord d laws lent) ⌝ }
 {
     if !counts_fit(d, lent) {
         return Found::At(64);
@@ -150,7 +151,7 @@ pub fn bad_record(d: Description, laws: [Law; 64], lent: usize) -> Found
 
 // Refusal 3, from a record: place 0.
 pub fn bad_horizon(horizon: usize) -> Found
-    ensures { λ r. ⌜ placeOf r ≡ badHorizon horizon ⌝ }
+    ensures { λ r. ⌜ refusalOf 3 r ≡ refusal 3 (badHorizon horizon) ⌝ }
 {
     if horizon < 1 {
         return Found::At(0);

@@ -1,12 +1,13 @@
 -- `causal_reading` meets its contract: the refusals in their order, then the verdict.
 -- Assumes nothing.
 use mathlib.Core.Path.{_≡_, sym, _∙_, ap}
-use mathlib.Core.Option.{none}
+use mathlib.Core.Option.{none, some}
 use Prim.Native.Nat.{_+_, _*_, _≤_}
 use native.Mathlib.Nat.{mul-le-mul}
 use native.Mathlib.Omega.{arith}
 use borrow.Author.Tests.{eq-eqb, ne-eqb}
 use Rattle.search.specs.Search.{first, placeOf}
+use Rattle.search.proofs.Loops.{refused-at, not-refused}
 use Rattle.description.specs.Acceptance.{badRecord, badHorizon}
 use Rattle.description.proofs.Laws.{accepted-counts, accepted-horizon}
 use Rattle.causal.specs.Readings.{notOneValue, reading}
@@ -16,11 +17,11 @@ use Rattle.causal.proofs.causal_reading.Tie as tie
 
 -- the record is not refused
 record-fits : (c : tie.After-enum-told) → let a = c .before .before .before .before .args in badRecord (a .d) (a .laws) (a .lent) ≡ none
-record-fits c = sym (c .before .before .bad-record .ensures) ∙ ap placeOf (c .enum-told .given .1)
+record-fits c = not-refused 8 (c .before .before .bad-record .ensures) (c .enum-told .given .1)
 
 -- nor is the horizon
 horizon-fits : (c : tie.After-enum-told2) → badHorizon (c .before .before .before .before .before .before .before .args .d .horizon) ≡ none
-horizon-fits c = sym (c .before .before .bad-horizon .ensures) ∙ ap placeOf (c .enum-told2 .given .1)
+horizon-fits c = not-refused 3 (c .before .before .bad-horizon .ensures) (c .enum-told2 .given .1)
 
 -- what acceptance gives
 limits : (c : tie.After-enum-told2) → let d = c .before .before .before .before .before .before .before .args .d in
@@ -40,7 +41,9 @@ enum-known-record-at c = search needs
 
 returns : tie.Need-returns
 unfolding reading
-returns c = rw (sym (c .before .before .before .bad-record .ensures) ∙ ap placeOf (c .before .record-at .given .1))
+returns c =
+    let e : badRecord _ _ _ ≡ some _ = refused-at 8 (c .before .before .before .bad-record .ensures) (c .before .record-at .given .1) in
+    rw e
 
 enum-told : tie.Need-enum-told
 enum-told c = search needs
@@ -53,7 +56,9 @@ enum-known-horizon-at c = search needs
 
 returns-2 : tie.Need-returns-2
 unfolding reading
-returns-2 c = rw (record-fits (c .before .before .before .before), sym (c .before .before .before .bad-horizon .ensures) ∙ ap placeOf (c .before .horizon-at .given .1))
+returns-2 c =
+    let e : badHorizon _ ≡ some _ = refused-at 3 (c .before .before .before .bad-horizon .ensures) (c .before .horizon-at .given .1) in
+    rw (record-fits (c .before .before .before .before), e)
 
 enum-told-2 : tie.Need-enum-told-2
 enum-told-2 c = search needs

@@ -1,11 +1,12 @@
 -- `bad_record` meets its contract: the counts are tested, then the laws.
 -- Assumes nothing.
 use borrow.Author.Tests.{not-true, not-false}
-use mathlib.Core.Path.{_≡_, sym, _∙_}
+use mathlib.Core.Path.{_≡_, sym, _∙_, ap}
 use mathlib.Core.Bool.{true}
 use native.Mathlib.Omega.{arith}
 use Rattle.description.specs.Acceptance.{countsFit, badRecord}
-use Rattle.description.proofs.Laws.{counts-limits}
+use Rattle.search.specs.Replies.{refusal}
+use Rattle.description.proofs.Laws.{counts-limits, place-refusal}
 use Rattle.description.proofs.bad_record.Statement.{statement}
 use Rattle.description.proofs.bad_record.Tie as tie
 
@@ -25,7 +26,7 @@ bad-law-requires c κs = let h = counts-limits (c .before .before .args .d) _ (f
 
 returns-2 : tie.Need-returns-2
 unfolding badRecord
-returns-2 c = rw (fit (c .before)) (c .bad-law .ensures)
+returns-2 c = rw (fit (c .before)) (place-refusal 8 (c .bad-law .result) ∙ ap (refusal 8) (c .bad-law .ensures))
 
 pub bad-record-spec : {M : Type 1} → statement M
 bad-record-spec = tie.close (tie.spec counts-fit-requires returns bad-law-requires returns-2)

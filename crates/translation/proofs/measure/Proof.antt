@@ -1,13 +1,13 @@
 -- `measure` meets its contract, refusal by refusal.
 -- Assumes nothing.
 use mathlib.Core.Option.{none, some}
-use mathlib.Core.Path.{_≡_, refl, sym, ap, _∙_}
+use mathlib.Core.Path.{_≡_, refl}
 use Prim.Native.Nat.{_+_, _*_, _≤_}
 use native.Mathlib.Omega.{arith}
 use borrow.Author.Needs.{needs}
 use borrow.Author.Tests.{lt-ltb, le-ltb}
 use Rattle.description.proofs.Laws.{accepted-counts, accepted-horizon}
-use Rattle.search.specs.Search.{placeOf}
+use Rattle.search.proofs.Loops.{refused-at, not-refused}
 use Rattle.description.specs.Acceptance.{badRecord, badHorizon}
 use Rattle.translation.specs.Translated.{outcome, tableAfter}
 use Rattle.translation.proofs.Writing.{product-bound}
@@ -16,10 +16,10 @@ use Rattle.translation.proofs.measure.Tie as tie
 
 -- where no refusal 8 was found, there is none
 record-taken : (c : tie.After-enum-told) → let a = c .before .before .before .args in badRecord (a .d) (a .laws) (a .lent) ≡ none
-record-taken c = sym (c .before .before .bad-record .ensures) ∙ ap placeOf (c .enum-told .given .1)
+record-taken c = not-refused 8 (c .before .before .bad-record .ensures) (c .enum-told .given .1)
 
 horizon-taken : (c : tie.After-enum-told2) → badHorizon (c .before .before .before .before .before .before .args .d .horizon) ≡ none
-horizon-taken c = sym (c .before .before .bad-horizon .ensures) ∙ ap placeOf (c .enum-told2 .given .1)
+horizon-taken c = not-refused 3 (c .before .before .bad-horizon .ensures) (c .enum-told2 .given .1)
 
 limits : (c : tie.After-enum-told2) → let d = c .before .before .before .before .before .before .args .d in (d .fluents ≤ 24) × (d .actions ≤ 8) × (d .laws ≤ 64) × (d .horizon ≤ 30)
 limits c =
@@ -41,7 +41,7 @@ enum-known-place c = search needs
 returns : tie.Need-returns
 unfolding outcome
 returns c =
-    let e : badRecord _ _ _ ≡ some _ = sym (c .before .before .before .bad-record .ensures) ∙ ap placeOf (c .before .place .given .1) in
+    let e : badRecord _ _ _ ≡ some _ = refused-at 8 (c .before .before .before .bad-record .ensures) (c .before .place .given .1) in
     rw e refl
 
 enum-told : tie.Need-enum-told
@@ -56,7 +56,7 @@ enum-known-place-2 c = search needs
 returns-2 : tie.Need-returns-2
 unfolding outcome
 returns-2 c =
-    let e : badHorizon _ ≡ some _ = sym (c .before .before .before .bad-horizon .ensures) ∙ ap placeOf (c .before .place2 .given .1) in
+    let e : badHorizon _ ≡ some _ = refused-at 3 (c .before .before .before .bad-horizon .ensures) (c .before .place2 .given .1) in
     rw (record-taken (c .before .before .before .before), e) refl
 
 enum-told-2 : tie.Need-enum-told-2
