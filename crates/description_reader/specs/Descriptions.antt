@@ -1,4 +1,4 @@
--- Reading a description, line by line (01, "Text" and "Where a call can be refused down").
+-- Reading a description, line by line (01, "Text" and "Where a call can be turned down").
 -- Assumes nothing.
 use mathlib.Core.Bool.{cond}
 use mathlib.Core.List.{List, []}

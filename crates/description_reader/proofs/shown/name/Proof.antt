@@ -71,14 +71,22 @@ part-requires-3 c κs = search needs
 
 returns-4 : tie.Need-returns-4
 unfolding shownAction shownFluent
-returns-4 c = rw (← declares (c .before .before .before .before), c .before .before .before .if2 .left, le-ltb _ _ (c .before .if4 .taken)) (c .part3 .ensures)
+returns-4 c =
+    let n = c .before .before .before .before in
+    let r = n .before .before .before .before .before in
+    let few = le-ltb (r .before .before .args .number) (r .read-alone .result .state .reading .fluents) (omega arith) in
+    rw (← declares n, c .before .before .before .if2 .left, few) (c .part3 .ensures)
 
 declared-requires-2 : tie.Need-declared-requires-2
 declared-requires-2 c κs = search needs
 
 returns-5 : tie.Need-returns-5
 unfolding shownAction shownFluent
-returns-5 c = rw (← declares (c .before .before .before .before), c .before .before .before .if2 .left, lt-ltb _ _ (c .before .if4 .left)) (c .declared2 .ensures)
+returns-5 c =
+    let n = c .before .before .before .before in
+    let r = n .before .before .before .before .before in
+    let more = lt-ltb (r .before .before .args .number) (r .read-alone .result .state .reading .fluents) (omega arith) in
+    rw (← declares n, c .before .before .before .if2 .left, more) (c .declared2 .ensures)
 
 pub name-spec : {M : Type 1} → statement M
 name-spec =
