@@ -1,5 +1,6 @@
 -- `states::two_digits` meets its contract.
 -- Assumes nothing.
+use native.Mathlib.Omega.{arith}
 use borrow.Author.Tests.{not-true, not-false, eq-eqb, ne-eqb}
 use borrow.Author.Needs.{needs}
 use Rattle.description_reader.proofs.states.two_digits.Statement.{statement}
@@ -23,7 +24,7 @@ returns-3 : tie.Need-returns-3
 returns-3 c =
     let a = c .before .before .before .before in
     let b = c .before .before in
-    rw (← a .is-digit .ensures, not-false (a .is-digit .result) (b .before .if1 .left), ← b .is-digit2 .ensures, not-false (b .is-digit2 .result) (c .before .if2 .left), eq-eqb _ _ (c .if3 .taken))
+    rw (← a .is-digit .ensures, not-false (a .is-digit .result) (b .before .if1 .left), ← b .is-digit2 .ensures, not-false (b .is-digit2 .result) (c .before .if2 .left), eq-eqb (a .before .args .a) 48 (omega arith))
 
 digit-requires : tie.Need-digit-requires
 digit-requires c κs = search needs
@@ -44,7 +45,7 @@ returns-4 : tie.Need-returns-4
 returns-4 c =
     let b = c .before .before .before .before .before in
     let a = b .before .before in
-    rw (← a .is-digit .ensures, not-false (a .is-digit .result) (b .before .if1 .left), ← b .is-digit2 .ensures, not-false (b .is-digit2 .result) (c .before .before .before .before .if2 .left), ne-eqb _ _ (c .before .before .before .if3 .left), ← c .before .digit2 .ensures .0, ← c .before .before .digit .ensures .0) (c .in-horizon .ensures)
+    rw (← a .is-digit .ensures, not-false (a .is-digit .result) (b .before .if1 .left), ← b .is-digit2 .ensures, not-false (b .is-digit2 .result) (c .before .before .before .before .if2 .left), ne-eqb (a .before .args .a) 48 (λ e. c .before .before .before .if3 .left e), ← c .before .digit2 .ensures .0, ← c .before .before .digit .ensures .0) (c .in-horizon .ensures)
 
 pub two-digits-spec : {M : Type 1} → statement M
 two-digits-spec =
