@@ -9,7 +9,7 @@ use Prim.Native.Nat.{ℕ, zero, suc, _+_, _-_, _*_, min, _≤_, _<_}
 use native.Mathlib.Omega.{arith}
 use borrow.Author.Tests.{ltb-true, lt-ltb, leb-true, le-leb, eqb-true}
 use lib.Dec.{eqb, ltb, leb}
-use lib.ListN.{length, take, replicate, length-append}
+use lib.ListN.{length, take, drop, replicate, length-append}
 use lib.Seq.{take-at}
 use Rattle.search.specs.Search.{Each}
 use Rattle.search.specs.Replies.{Reply, refused, answered}
@@ -30,7 +30,7 @@ use Rattle.description_reader.specs.LineSteps as step
 use Rattle.description_reader.specs.LineSteps.{Due, horizonDue, firstFluentDue, fluentDue, actionDue, lawDue, ifDue, afterDue, Draft, allowed, Step, next, finish, inHorizon, horizonOf, horizonLine}
 use Rattle.description_reader.specs.LineSteps.{nameLine, litHead, headOf, begun, lawLine, withIf, ifLine, withAfter, afterLine, endLine, lawIn, lineStep}
 use Rattle.description_reader.specs.Descriptions.{Taken, read, afterStep, afterFirst, blank, linesFrom, described, descriptionOf}
-use Rattle.reader_bounds.specs.Accepts.{Tidy, Accepted, TakenAccepted}
+use Rattle.reader_bounds.specs.Accepts.{Tidy, Accepted, TakenAccepted, LeftAccepted}
 use Rattle.reader_bounds.proofs.Drafts.{chosen, Limited, BoundedReply, bounded}
 
 -- codes below a bound
@@ -378,3 +378,9 @@ taken-accepted lent text d rest lines e =
     let within : BoundedReply text (min 64 lent) 65537 (answered (read d rest lines)) = subst (BoundedReply text (min 64 lent) 65537) e (bounded lent text) in
     let kept : KeptReply (answered (read d rest lines)) = subst KeptReply e (text-kept lent text) in
     accepted lent d (within .limited) kept
+
+pub left-accepted : LeftAccepted
+left-accepted lent text d rest lines e old =
+    let a = taken-accepted lent text d rest lines e in
+    let behind = drop (length (d .laws)) old in
+    rw e (record { lent-fits = a .fits behind lent (omega (arith, a .few)); run-fits = a .fits behind 64 (omega (arith, a .few)); time = a .time })

@@ -7,14 +7,15 @@ use mathlib.Core.Option.{none}
 use Prim.Native.Nat.{ℕ, min, _≤_}
 use lib.ListN.{length}
 use Rattle.search.specs.Search.{Each}
-use Rattle.search.specs.Replies.{answered}
+use Rattle.search.specs.Replies.{Reply, answered}
 use Rattle.description.specs.declared.Kind.{Kind}
 use Rattle.description.specs.declared.Kind.the-variants.{Static, Dynamic}
 use Rattle.description.specs.declared.Law.{Law}
 use Rattle.description.specs.Laws.{ifList, afterList, lawOf}
 use Rattle.description.specs.Acceptance.{badRecord, badHorizon}
 use Rattle.description_reader.specs.LineSteps.{Draft}
-use Rattle.description_reader.specs.Descriptions.{read, described, descriptionOf}
+use Rattle.description_reader.specs.Descriptions.{Taken, read, described, descriptionOf}
+use Rattle.description_reader.specs.Answers.{recordOf, lawsLeft}
 
 -- a static law's after-list is empty
 abbrev pub aftersOf : Kind → Law → List ℕ
@@ -38,3 +39,13 @@ pub record Accepted (lent : ℕ) (d : Draft) : Type 0 where
 abbrev pub TakenAccepted : Type 0
 TakenAccepted =
     (lent : ℕ) (text : List ℕ) (d : Draft) (rest : List ℕ) (lines : ℕ) → described lent text ≡ answered (read d rest lines) → Accepted lent d
+
+-- the same of what the reader leaves: the record, and the run that begins with the laws read, by the number lent and by 64
+pub record LeftFits (lent : ℕ) (old : List Law) (reply : Reply Taken) : Type 0 where
+  pub lent-fits : badRecord (recordOf reply) (lawsLeft reply old) lent ≡ none
+  pub run-fits : badRecord (recordOf reply) (lawsLeft reply old) 64 ≡ none
+  pub time : badHorizon (recordOf reply .horizon) ≡ none
+
+abbrev pub LeftAccepted : Type 0
+LeftAccepted =
+    (lent : ℕ) (text : List ℕ) (d : Draft) (rest : List ℕ) (lines : ℕ) → described lent text ≡ answered (read d rest lines) → (old : List Law) → LeftFits lent old (described lent text)
