@@ -35,7 +35,7 @@ fluent-name-requires c κs = search needs
 put-line-requires-2 : tie.Need-put-line-requires-2
 put-line-requires-2 c κs =
     let a = c .before .before .before .before .before .before .before in
-    (a .pre, omega (arith, ap length (c .fluent-name .ensures), shown-short (a .args .input .now) (c .before .before .before .value3 .given .0 .0)))
+    (a .pre, omega (arith, ap length (c .fluent-name .ensures .0), shown-short (a .args .input .now) (c .before .before .before .value3 .given .0 .0)))
 
 same-length : tie.Need-same-length
 same-length c = search needs
@@ -66,7 +66,7 @@ returns-3 c =
     let n = l .before in
     let e = n .before .before .before in
     let a = e .before .before .before .before in
-    let name = n .fluent-name .ensures in
+    let name = n .fluent-name .ensures .0 in
     rw (e .value3 .given .1) (rw name at (l .put-line2 .ensures .0), omega (arith, l .put-line2 .ensures .1, ap length name, shown-short (a .args .input .now) (e .value3 .given .0 .0)))
 
 pub put-value-spec : {M : Type 1} → statement M
