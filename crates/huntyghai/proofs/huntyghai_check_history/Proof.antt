@@ -52,7 +52,7 @@ returns-2 c =
     let old = rd .before .no-laws .result in
     let e = sym (rd .read-run .ensures .0) ∙ ap replyOf (told .answer2 .given .1) in
     let dis = rd .read-run .ensures .1 .0 in
-    let lis = rd .read-run .ensures .1 .1 in (
+    let lis = rd .read-run .ensures .1 .1 .0 in (
       c .of-checked .ensures ∙ ap (replyCode findingCode) (t .check-history .ensures .0) ∙ check-read text old e dis lis (a .values .now) (length (a .table .now)),
       t .check-history .ensures .1 ∙ check-table-read text old e dis lis (a .values .now) (a .table .now),
     )

@@ -52,7 +52,7 @@ returns-2 c =
     let old = rd .before .no-laws .result in
     let e = sym (rd .read-run .ensures .0) ∙ ap replyOf (told .answer2 .given .1) in
     let dis = rd .read-run .ensures .1 .0 in
-    let lis = rd .read-run .ensures .1 .1 in (
+    let lis = rd .read-run .ensures .1 .1 .0 in (
       c .of-translated .ensures ∙ ap (replyCode writtenCode) (t .translate .ensures .0) ∙ translate-read text old e dis lis (length (a .table .now)),
       t .translate .ensures .1 ∙ table-read text old e dis lis (a .table .now),
     )
