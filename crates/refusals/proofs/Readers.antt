@@ -11,7 +11,7 @@ use lib.Dec.{eqb, ltb}
 use lib.ListN.{length, replicate}
 use Rattle.search.specs.Search.{all}
 use Rattle.search.specs.Replies.{Reply, refused, answered}
-use Rattle.search.proofs.Tests.{and-iff, or-iff}
+use Rattle.search.proofs.Tests.{not-both, and-iff, or-iff}
 use Rattle.description.specs.declared.Head.{Head}
 use Rattle.description.specs.declared.Kind.{Kind}
 use Rattle.description.specs.declared.Kind.the-variants.{Static, Dynamic}
@@ -32,6 +32,7 @@ use Rattle.refusals.specs.Refusals.{among, RefusedBy}
 
 -- a number among some is among others that hold them all
 pub among-more : (few many : List ℕ) (k : ℕ) → all (λ c. among c many) few ≡ true → among k few ≡ true → among k many ≡ true
+among-more [] many k e h = absurd (not-both h refl)
 among-more (c ∷ few) many k e h =
     let both = and-iff (among c many) (all (λ x. among x many) few) .0 e in
     ⊎-elim (λ (is : eqb k c ≡ true). rw (eqb-true k c is) (both .0)) (λ (later : among k few ≡ true). among-more few many k (both .1) later)
