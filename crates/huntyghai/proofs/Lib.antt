@@ -1,1 +1,3 @@
 pub mod Texts
+pub mod SetCodes
+pub mod CodeLists

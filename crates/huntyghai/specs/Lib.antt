@@ -1,2 +1,4 @@
--- The library for C: what the functions on texts answer and leave.
+-- The library for C: what the functions on texts answer and leave, demand 2 on the engine's numbers, and which codes can come.
 pub mod Texts
+pub mod SetCodes
+pub mod CodeLists

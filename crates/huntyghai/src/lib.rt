@@ -3,20 +3,25 @@
 use description_reader::Answer;
 use history_reader::HistoryAnswer;
 ghost use mathlib.Core.Path.{_≡_};
+ghost use mathlib.Core.List.{[], _∷_};
 ghost use Prim.Native.Nat.{_≤_};
 ghost use lib.ListN.{length};
 ghost use lib.Seq.{sets};
 ghost use Rattle.answer_sets.specs.Answers.{answer};
 ghost use Rattle.history_reader.specs.Histories.{readHistory, historyReplied, valuesLeft};
 ghost use Rattle.report.specs.Output.{output};
+ghost use Rattle.report.specs.Program.{Program};
 ghost use Rattle.answer_codes.specs.Codes.{replyCode, verdictCode, readCode};
 ghost use Rattle.huntyghai.specs.Texts.{translatedText, tableOfText, checkedText, tableOfCheck, readingOfInput};
+ghost use Rattle.huntyghai.specs.SetCodes.{SetNumbered};
+ghost use Rattle.huntyghai.specs.CodeLists.{CodeAmong};
 
 // What the program check prints for an input, as far as the buffer goes; the result is the whole output's length, at most 400.
 #[no_mangle]
 pub extern "C" fn huntyghai_report(input: &[u8], out: &mut [u8]) -> usize
     ensures { λ r. ⌜ (r ≡ length (output (now (input .entry)))) × (now (out .exit) ≡ sets (now (out .entry)) 0 (output (now (input .entry)))) ⌝ }
     ensures { λ r. ⌜ r ≤ 400 ⌝ }
+    ensures { λ _. ⌜ Program (now (input .entry)) (output (now (input .entry))) ⌝ }
 {
     report::report(input, out)
 }
@@ -25,6 +30,8 @@ pub extern "C" fn huntyghai_report(input: &[u8], out: &mut [u8]) -> usize
 #[no_mangle]
 pub extern "C" fn huntyghai_check_set(values: &[u8], table: &[u16]) -> u64
     ensures { λ r. ⌜ r ≡ replyCode verdictCode (answer (now (values .entry)) (now (table .entry))) ⌝ }
+    ensures { λ r. ⌜ SetNumbered (now (values .entry)) (now (table .entry)) r ⌝ }
+    ensures { λ r. ⌜ CodeAmong (10 ∷ 11 ∷ 12 ∷ 64 ∷ 65 ∷ 66 ∷ 67 ∷ []) r ⌝ }
 {
     answer_codes::of_answer(answer_sets::check_set(values, table))
 }
@@ -34,6 +41,7 @@ pub extern "C" fn huntyghai_check_set(values: &[u8], table: &[u16]) -> u64
 pub extern "C" fn huntyghai_translate(text: &[u8], table: &mut [u16]) -> u64
     ensures { λ r. ⌜ r ≡ translatedText (now (text .entry)) (length (now (table .entry))) ⌝ }
     ensures { λ _. ⌜ now (table .exit) ≡ tableOfText (now (text .entry)) (now (table .entry)) ⌝ }
+    ensures { λ r. ⌜ CodeAmong (1 ∷ 2 ∷ 3 ∷ 4 ∷ 5 ∷ 6 ∷ 9 ∷ 96 ∷ []) r ⌝ }
 {
     let run = held_laws::read_run(text, law_runs::no_laws());
     let read = run.read;
@@ -53,6 +61,7 @@ pub extern "C" fn huntyghai_translate(text: &[u8], table: &mut [u16]) -> u64
 pub extern "C" fn huntyghai_read_history(description: &[u8], text: &[u8], values: &mut [u8]) -> u64
     ensures { λ r. ⌜ r ≡ replyCode readCode (historyReplied (readHistory (now (description .entry)) (now (text .entry)) (length (now (values .entry))))) ⌝ }
     ensures { λ _. ⌜ now (values .exit) ≡ valuesLeft (readHistory (now (description .entry)) (now (text .entry)) (length (now (values .entry)))) (now (values .entry)) ⌝ }
+    ensures { λ r. ⌜ CodeAmong (1 ∷ 2 ∷ 3 ∷ 4 ∷ 5 ∷ 6 ∷ 7 ∷ 10 ∷ 112 ∷ []) r ⌝ }
 {
     answer_codes::of_history(history_reader::read_history(description, text, values))
 }
@@ -62,6 +71,7 @@ pub extern "C" fn huntyghai_read_history(description: &[u8], text: &[u8], values
 pub extern "C" fn huntyghai_check_history(text: &[u8], values: &[u8], table: &mut [u16]) -> u64
     ensures { λ r. ⌜ r ≡ checkedText (now (text .entry)) (now (values .entry)) (length (now (table .entry))) ⌝ }
     ensures { λ _. ⌜ now (table .exit) ≡ tableOfCheck (now (text .entry)) (now (values .entry)) (now (table .entry)) ⌝ }
+    ensures { λ r. ⌜ CodeAmong (1 ∷ 2 ∷ 3 ∷ 4 ∷ 5 ∷ 6 ∷ 9 ∷ 10 ∷ 11 ∷ 64 ∷ 65 ∷ 66 ∷ 67 ∷ 68 ∷ []) r ⌝ }
 {
     let run = held_laws::read_run(text, law_runs::no_laws());
     let read = run.read;
@@ -80,6 +90,7 @@ pub extern "C" fn huntyghai_check_history(text: &[u8], values: &[u8], table: &mu
 #[no_mangle]
 pub extern "C" fn huntyghai_causal_reading(input: &[u8]) -> u64
     ensures { λ r. ⌜ r ≡ readingOfInput (now (input .entry)) ⌝ }
+    ensures { λ r. ⌜ CodeAmong (1 ∷ 2 ∷ 3 ∷ 4 ∷ 5 ∷ 6 ∷ 7 ∷ 11 ∷ 80 ∷ 81 ∷ 82 ∷ []) r ⌝ }
 {
     let whole = inputs::read_input(input);
     let answer = whole.answer;

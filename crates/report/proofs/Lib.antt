@@ -1,2 +1,3 @@
 pub mod Composing
 pub mod Reported
+pub mod Program

@@ -10,6 +10,7 @@ ghost use lib.ListN.{length, take};
 ghost use lib.Seq.{sets};
 ghost use Rattle.translation.specs.Translated.{outcome};
 ghost use Rattle.report.specs.Output.{room, afterOutcome, output};
+ghost use Rattle.report.specs.Program.{Program};
 
 // Room for the largest table.
 fn no_table() -> [u16; 30912]
@@ -54,6 +55,7 @@ fn put_outcome(
 pub fn report(input: &[u8], out: &mut [u8]) -> usize
     ensures { λ r. ⌜ (r ≡ length (output (now (input .entry)))) × (now (out .exit) ≡ sets (now (out .entry)) 0 (output (now (input .entry)))) ⌝ }
     ensures { λ r. ⌜ r ≤ 400 ⌝ }
+    ensures { λ _. ⌜ Program (now (input .entry)) (output (now (input .entry))) ⌝ }
 {
     let whole = inputs::read_input(input);
     let answer = whole.answer;

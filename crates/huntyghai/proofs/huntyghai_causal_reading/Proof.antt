@@ -6,6 +6,7 @@ use lib.ListN.{length-take, replicate}
 use Rattle.history_reader.specs.Histories.{historyReplyOf}
 use Rattle.answer_codes.specs.Codes.{replyCode, causalCode}
 use Rattle.huntyghai.proofs.Texts.{reading-refused, reading-read}
+use Rattle.huntyghai.proofs.CodeLists.{as-listed, causalCodes, causal-codes}
 use borrow.Author.Needs.{needs}
 use Rattle.huntyghai.proofs.huntyghai_causal_reading.Statement.{statement}
 use Rattle.huntyghai.proofs.huntyghai_causal_reading.Tie as tie
@@ -41,7 +42,8 @@ returns c =
     let told = c .before .before in
     let i = told .before .before in
     let input = i .before .before .args .input .now in
-    c .number .ensures ∙ reading-refused input (sym (ap historyReplyOf (told .answer .given .1)) ∙ i .read-input .ensures .0)
+    let is = c .number .ensures ∙ reading-refused input (sym (ap historyReplyOf (told .answer .given .1)) ∙ i .read-input .ensures .0) in
+    (is, as-listed causalCodes is (causal-codes input))
 
 returns-2 : tie.Need-returns-2
 returns-2 c =
@@ -50,9 +52,10 @@ returns-2 c =
     let i = told .before .before in
     let input = i .before .before .args .input .now in
     let e = i .read-input .ensures in
-    c .of-reading .ensures
+    let is = c .of-reading .ensures
     ∙ ap (replyCode causalCode) (cr .causal-reading .ensures)
-    ∙ reading-read input (replicate (i .read-input .result .atoms) 0) (e .1 .0) (e .1 .1 .0) (e .1 .1 .1 .1 .0) (sym (ap historyReplyOf (told .enum-told .given .1)) ∙ e .0)
+    ∙ reading-read input (replicate (i .read-input .result .atoms) 0) (e .1 .0) (e .1 .1 .0) (e .1 .1 .1 .1 .0) (sym (ap historyReplyOf (told .enum-told .given .1)) ∙ e .0) in
+    (is, as-listed causalCodes is (causal-codes input))
 
 pub huntyghai-causal-reading-spec : {M : Type 1} → statement M
 huntyghai-causal-reading-spec =

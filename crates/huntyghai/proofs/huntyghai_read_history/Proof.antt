@@ -1,7 +1,9 @@
 -- `huntyghai_read_history` meets its contract.
 -- Assumes nothing.
 use mathlib.Core.Path.{_∙_, ap}
+use lib.ListN.{length}
 use Rattle.answer_codes.specs.Codes.{replyCode, readCode}
+use Rattle.huntyghai.proofs.CodeLists.{as-listed, historyCodes, history-codes}
 use borrow.Author.Needs.{needs}
 use Rattle.huntyghai.proofs.huntyghai_read_history.Statement.{statement}
 use Rattle.huntyghai.proofs.huntyghai_read_history.Tie as tie
@@ -18,7 +20,9 @@ same-length c = search needs
 returns : tie.Need-returns
 returns c =
     let rh = c .before .before .before .read-history in
-    (c .of-history .ensures ∙ ap (replyCode readCode) (rh .ensures .0), rh .ensures .1)
+    let a = c .before .before .before .before .before .before .before .before .args in
+    let is = c .of-history .ensures ∙ ap (replyCode readCode) (rh .ensures .0) in
+    (is, (rh .ensures .1, as-listed historyCodes is (history-codes (a .description .now) (a .text .now) (length (a .values .now)))))
 
 pub huntyghai-read-history-spec : {M : Type 1} → statement M
 huntyghai-read-history-spec =

@@ -5,6 +5,7 @@ use lib.ListN.{length}
 use Rattle.description_reader.specs.Answers.{replyOf}
 use Rattle.answer_codes.specs.Codes.{replyCode, writtenCode}
 use Rattle.huntyghai.proofs.Texts.{translate-refused, table-refused, translate-read, table-read}
+use Rattle.huntyghai.proofs.CodeLists.{as-listed, translateCodes, translate-codes}
 use borrow.Author.Needs.{needs}
 use Rattle.huntyghai.proofs.huntyghai_translate.Statement.{statement}
 use Rattle.huntyghai.proofs.huntyghai_translate.Tie as tie
@@ -37,7 +38,8 @@ returns c =
     let a = rd .before .before .before .before .args in
     let text = a .text .now in
     let e = sym (rd .read-run .ensures .0) ∙ ap replyOf (told .answer .given .1) in
-    (c .number .ensures ∙ translate-refused text e (length (a .table .now)), table-refused text e (a .table .now))
+    let is = c .number .ensures ∙ translate-refused text e (length (a .table .now)) in
+    (is, (table-refused text e (a .table .now), as-listed translateCodes is (translate-codes text (length (a .table .now)))))
 
 same-length : tie.Need-same-length
 same-length c = search needs
@@ -52,10 +54,9 @@ returns-2 c =
     let old = rd .before .no-laws .result in
     let e = sym (rd .read-run .ensures .0) ∙ ap replyOf (told .answer2 .given .1) in
     let dis = rd .read-run .ensures .1 .0 in
-    let lis = rd .read-run .ensures .1 .1 in (
-      c .of-translated .ensures ∙ ap (replyCode writtenCode) (t .translate .ensures .0) ∙ translate-read text old e dis lis (length (a .table .now)),
-      t .translate .ensures .1 ∙ table-read text old e dis lis (a .table .now),
-    )
+    let lis = rd .read-run .ensures .1 .1 .0 in
+    let is = c .of-translated .ensures ∙ ap (replyCode writtenCode) (t .translate .ensures .0) ∙ translate-read text old e dis lis (length (a .table .now)) in
+    (is, (t .translate .ensures .1 ∙ table-read text old e dis lis (a .table .now), as-listed translateCodes is (translate-codes text (length (a .table .now)))))
 
 pub huntyghai-translate-spec : {M : Type 1} → statement M
 huntyghai-translate-spec =

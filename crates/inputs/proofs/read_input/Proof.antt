@@ -109,7 +109,7 @@ returns c =
       (
         rd .read-run .ensures .1 .0,
         (
-          rd .read-run .ensures .1 .1 ∙ ap (lawsLeft (described 64 input)) (rd .before .no-laws .ensures),
+          rd .read-run .ensures .1 .1 .0 ∙ ap (lawsLeft (described 64 input)) (rd .before .no-laws .ensures),
           (
             rw is refl,
             (
@@ -150,7 +150,7 @@ returns-2 c =
       (
         rd .read-run .ensures .1 .0,
         (
-          rd .read-run .ensures .1 .1 ∙ ap (lawsLeft (described 64 input)) (rd .before .no-laws .ensures),
+          rd .read-run .ensures .1 .1 .0 ∙ ap (lawsLeft (described 64 input)) (rd .before .no-laws .ensures),
           (
             count .atom-count .ensures .0 ∙ ap (λ (x : Description). atomCount (x .fluents) (x .actions) (x .horizon)) (rd .read-run .ensures .1 .0),
             (vs .0, (vs .1, (few, filled))),
@@ -183,7 +183,7 @@ returns-3 c =
       (
         rd .read-run .ensures .1 .0,
         (
-          rd .read-run .ensures .1 .1 ∙ ap (lawsLeft (described 64 input)) (rd .before .no-laws .ensures),
+          rd .read-run .ensures .1 .1 .0 ∙ ap (lawsLeft (described 64 input)) (rd .before .no-laws .ensures),
           (
             count .atom-count .ensures .0 ∙ ap (λ (x : Description). atomCount (x .fluents) (x .actions) (x .horizon)) (rd .read-run .ensures .1 .0),
             (vs .0, (vs .1, (few, filled))),

@@ -6,6 +6,7 @@ use lib.ListN.{length, take, replicate, length-take}
 use Rattle.history_reader.specs.Histories.{historyReplyOf}
 use Rattle.report.specs.Output.{output}
 use Rattle.report.proofs.Reported.{from-first, says-refused, says-values}
+use Rattle.report.proofs.Program.{program}
 use borrow.Author.Needs.{needs}
 use Rattle.report.proofs.report.Statement.{statement}
 use Rattle.report.proofs.report.Tie as tie
@@ -45,7 +46,7 @@ returns c =
     let i = told .before .before in
     let a = i .before .before .before .args in
     let input = a .input .now in
-    (from-first (a .out .now) (output input) (rw (says-refused input (sym (ap historyReplyOf (told .answer .given .1)) ∙ i .read-input .ensures .0)) (w .put-refusal .ensures .0)), w .put-refusal .ensures .1)
+    (from-first (a .out .now) (output input) (rw (says-refused input (sym (ap historyReplyOf (told .answer .given .1)) ∙ i .read-input .ensures .0)) (w .put-refusal .ensures .0)), (w .put-refusal .ensures .1, program input))
 
 same-length-2 : tie.Need-same-length-2
 same-length-2 c = search needs
@@ -60,7 +61,7 @@ returns-2 c =
     let e = i .read-input .ensures in
     let is = says-values input (replicate (i .read-input .result .atoms) 0) (e .1 .0) (e .1 .1 .0) (e .1 .1 .1 .1 .0)
     (sym (ap historyReplyOf (told .enum-told .given .1)) ∙ e .0) in
-    (from-first (a .out .now) (output input) (rw is (w .put-outcome .ensures .0)), w .put-outcome .ensures .1)
+    (from-first (a .out .now) (output input) (rw is (w .put-outcome .ensures .0)), (w .put-outcome .ensures .1, program input))
 
 pub report-spec : {M : Type 1} → statement M
 report-spec =

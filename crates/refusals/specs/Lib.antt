@@ -1,0 +1,2 @@
+-- Which refusals can come.
+pub mod Refusals

@@ -1,0 +1,1 @@
+// Theorems alone: which refusals can come.

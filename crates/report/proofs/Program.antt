@@ -1,0 +1,225 @@
+-- The output for every input is what `Program` says.
+-- Assumes nothing.
+use mathlib.Core.Path.{_≡_, refl, sym, ap, _∙_}
+use mathlib.Core.Logic.{_↔_, _⊎_, inl, inr, ⊎-elim}
+use mathlib.Core.Bool.{Bool, true, false, _||_}
+use mathlib.Core.List.{List, [], _∷_, _++_}
+use mathlib.Core.Option.{Option, none, some}
+use Prim.Native.Nat.{ℕ, zero, suc, _*_, _+_, _/_, _%_, _≤_, _<_}
+use native.Mathlib.Omega.{arith}
+use borrow.Author.Tests.{eq-eqb, eqb-true, le-ltb}
+use lib.Dec.{eqb, ltb}
+use lib.ListN.{length, getD}
+use Rattle.search.specs.Search.{Each, first, range}
+use Rattle.search.specs.Replies.{Reply, refused, answered, orElse}
+use Rattle.search.proofs.Tests.{not-both, or-iff, each-map, first-none, length-range, getD-range}
+use Rattle.search.proofs.Lists.{none-iff}
+use Rattle.answer_sets.specs.Literals.{holdsTrue, holdsFalse, setOf}
+use Rattle.answer_sets.specs.Verdicts.{Verdict, clash, broken, unfounded, passes, bothValues, verdict}
+use Rattle.answer_sets.specs.Words.{rulesOf}
+use Rattle.answer_sets.specs.Answers as engine
+use Rattle.description.specs.declared.Law.{Law}
+use Rattle.description.specs.declared.Description.{Description}
+use Rattle.translation.specs.Translated.{written, rulesFor, tableFor, outcome}
+use Rattle.translation_bounds.proofs.Tables.{engine-judges}
+use Rattle.history.specs.Checks.{Finding, missing, judged, checked}
+use Rattle.causal.specs.Verdicts.{Causal, path}
+use Rattle.causal.specs.Readings.{reading}
+use Rattle.correctness.specs.Demand3.{OneValue, Complete, PathOf}
+use Rattle.correctness.proofs.Demand3.{demand-3}
+use Rattle.description_reader.specs.LineSteps.{Draft}
+use Rattle.description_reader.specs.Descriptions.{Taken, read, described, descriptionOf}
+use Rattle.history_reader.specs.Histories.{atoms}
+use Rattle.inputs.specs.Inputs.{recordedIn}
+use Rattle.inputs.proofs.Known.{recorded-refused}
+use Rattle.refusals.specs.Refusals.{among, RefusedBy}
+use Rattle.refusals.proofs.Readers.{input-by}
+use Rattle.refusals.proofs.Checks.{fits, in-time, small-table, is-written, values-count, values-small}
+use Rattle.output_lines.specs.Printed.{refusal, causalAfter}
+use Rattle.report.specs.Output.{room, afterOutcome, afterInput, output}
+use Rattle.report.specs.Program.{Refused, causalShown, missingOrClash, Judged, Program}
+
+-- what is shown of a reading behind an answer
+abbrev shownOf : Reply Causal → Option Causal
+shownOf (refused number place) = none
+shownOf (answered v) = some v
+
+abbrev shownAfter : Finding → Reply Causal → Option Causal
+shownAfter (missing a) reply = none
+shownAfter (judged (clash a)) reply = none
+shownAfter (judged (broken r)) reply = shownOf reply
+shownAfter (judged (unfounded c)) reply = shownOf reply
+shownAfter (judged passes) reply = shownOf reply
+
+after-shown : (input : List ℕ) (f : Finding) (reply : Reply Causal) → causalAfter input f reply ≡ causalShown input (shownAfter f reply)
+after-shown input (missing a) reply = refl
+after-shown input (judged (clash a)) reply = refl
+after-shown input (judged (broken r)) (refused number place) = refl
+after-shown input (judged (broken r)) (answered v) = refl
+after-shown input (judged (unfounded c)) (refused number place) = refl
+after-shown input (judged (unfounded c)) (answered v) = refl
+after-shown input (judged passes) (refused number place) = refl
+after-shown input (judged passes) (answered v) = refl
+
+none-shown : (f : Finding) (reply : Reply Causal) → missingOrClash f ≡ true → shownAfter f reply ≡ none
+none-shown (missing a) reply e = refl
+none-shown (judged (clash a)) reply e = refl
+none-shown (judged (broken r)) reply e = absurd (not-both e refl)
+none-shown (judged (unfounded c)) reply e = absurd (not-both e refl)
+none-shown (judged passes) reply e = absurd (not-both e refl)
+
+of-shown : (reply : Reply Causal) → shownOf reply ≡ some path → reply ≡ answered path
+of-shown (refused number place) e = let z : _≡_ {A = ℕ} 0 1 = cc in absurd (omega arith)
+of-shown (answered v) e = let same : v ≡ path = cc in ap {B = Reply Causal} answered same
+
+path-shown : (f : Finding) (reply : Reply Causal) → shownAfter f reply ≡ some path → reply ≡ answered path
+path-shown (missing a) reply e = let z : _≡_ {A = ℕ} 0 1 = cc in absurd (omega arith)
+path-shown (judged (clash a)) reply e = let z : _≡_ {A = ℕ} 0 1 = cc in absurd (omega arith)
+path-shown (judged (broken r)) reply e = of-shown reply e
+path-shown (judged (unfounded c)) reply e = of-shown reply e
+path-shown (judged passes) reply e = of-shown reply e
+
+-- an atom of value 0 is missing, one of value 3 is a clash unless some atom is missing
+both-of-three : (vs : List ℕ) (a : ℕ) → getD vs a 0 ≡ 3 → bothValues (setOf vs) a ≡ true
+unfolding setOf holdsTrue holdsFalse
+both-of-three vs a e =
+    let even : (2 * a) % 2 ≡ 0 = omega arith in
+    let odd : (2 * a + 1) % 2 ≡ 1 = omega arith in
+    let low : (2 * a) / 2 ≡ a = omega arith in
+    let high : (2 * a + 1) / 2 ≡ a = omega arith in
+    rw (even, odd, low, high, e) refl
+
+verdict-clashes : (n : ℕ) (vs : List ℕ) (a : ℕ) → a < n → getD vs a 0 ≡ 3 → (o : Option ℕ) → first (bothValues (setOf vs)) 0 (range 0 n) ≡ o
+    → (next : Verdict) → missingOrClash (judged (orElse o clash next)) ≡ true
+verdict-clashes n vs a below e (some k) q next = refl
+verdict-clashes n vs a below e none q next =
+    let at = first-none (bothValues (setOf vs)) 0 0 (range 0 n) q a (omega (arith, length-range 0 n)) in
+    let same : getD (range 0 n) a 0 ≡ a = getD-range 0 n a 0 below ∙ omega arith in
+    absurd (not-both (both-of-three vs a e) (rw same at at))
+
+-- what is found where the engine judges
+abbrev foundOf : List ℕ → Verdict → Finding
+foundOf vs v = orElse (first (eqb 0) 0 vs) missing (judged v)
+
+module _ (vs : List ℕ) (v : Verdict) (a : ℕ) (below : a < length vs) where
+  missing-found : getD vs a 0 ≡ 0 → missingOrClash (foundOf vs v) ≡ true
+  missing-found e = go (first (eqb 0) 0 vs) refl
+    where
+      go : (o : Option ℕ) → first (eqb 0) 0 vs ≡ o → missingOrClash (orElse o missing (judged v)) ≡ true
+      go (some k) q = refl
+      go none q = absurd (not-both (rw e refl) (first-none (eqb 0) 0 0 vs q a below))
+
+  found-clash : missingOrClash (judged v) ≡ true → missingOrClash (foundOf vs v) ≡ true
+  found-clash h = go (first (eqb 0) 0 vs)
+    where
+      go : (o : Option ℕ) → missingOrClash (orElse o missing (judged v)) ≡ true
+      go (some k) = refl
+      go none = h
+
+-- an input that the readers take
+module _ (input : List ℕ) (d : Draft) (rest : List ℕ) (lines : ℕ) (vs : List ℕ) (is : described 64 input ≡ answered (read d rest lines)) (e : recordedIn input ≡ answered vs) where
+  abbrev D : Description
+  D = descriptionOf d
+
+  abbrev ls : List Law
+  ls = d .laws
+
+  size : length vs ≡ atoms d
+  size = values-count input d rest lines vs is e
+
+  bytes : engine.badValue vs ≡ none
+  bytes = none-iff (ltb 3) 0 vs .1 (each-map (λ v h. le-ltb 3 v h) vs (values-small input d rest lines vs is e))
+
+  abbrev said : Verdict
+  said = verdict (length vs) (rulesOf (tableFor D ls)) (setOf vs)
+
+  out-written : outcome D ls 64 room ≡ answered (written (atoms d) (length (rulesFor D ls)) (length (tableFor D ls)))
+  out-written = is-written input d rest lines is room (omega arith)
+
+  abbrev found : Finding
+  found = foundOf vs said
+
+  is-checked : checked D ls 64 vs room ≡ answered found
+  unfolding checked
+  is-checked = rw (out-written, eq-eqb (length vs) (atoms d) size, bytes, engine-judges D ls 64 room out-written vs size bytes) (go (first (eqb 0) 0 vs))
+    where
+      go : (o : Option ℕ) → orElse o (λ atom. answered (missing atom)) (answered (judged said)) ≡ answered (orElse o missing (judged said))
+      go (some k) = refl
+      go none = refl
+
+  abbrev reply : Reply Causal
+  reply = reading D ls 64 vs
+
+  complete : Each OneValue vs → Complete D ls 64 vs
+  complete one = record { records = fits input d rest lines is; horizon = in-time input d rest lines is; size = size; one-value = one }
+
+  passing : Each OneValue vs → found ≡ judged passes ↔ PathOf D ls vs
+  passing one =
+      let iff = demand-3 D ls 64 vs (complete one) .history-passes room (small-table input d rest lines is) in (
+        λ h. iff .0 (is-checked ∙ ap {B = Reply Finding} answered h),
+        λ p. answered-same (sym is-checked ∙ iff .1 p),
+      )
+    where
+      answered-same : {f g : Finding} → answered f ≡ answered g → f ≡ g
+      answered-same h = cc
+
+  causal-path : Each OneValue vs → shownAfter found reply ≡ some path ↔ PathOf D ls vs
+  causal-path one =
+      let iff = demand-3 D ls 64 vs (complete one) .causal-path in (
+        λ h. iff .0 (path-shown found reply h),
+        λ p. ap (λ (f : Finding). shownAfter f reply) (passing one .1 p) ∙ ap shownOf (iff .1 p),
+      )
+
+  lacking : (a : ℕ) → a < length vs → (getD vs a 0 ≡ 0) ⊎ (getD vs a 0 ≡ 3) → missingOrClash found ≡ true
+  unfolding verdict
+  lacking a below h =
+      ⊎-elim (λ (z : getD vs a 0 ≡ 0). missing-found vs said a below z)
+      (λ (b : getD vs a 0 ≡ 3). found-clash vs said a below (verdict-clashes (length vs) vs a below b (first (bothValues (setOf vs)) 0 (range 0 (length vs))) refl _)) h
+
+  is-printed : output input ≡ afterOutcome input D ls vs (outcome D ls 64 room)
+  unfolding output
+  is-printed = rw (is, e) refl
+
+  judges : Judged input (output input)
+  judges = record {
+    draft = d;
+    rest = rest;
+    lines = lines;
+    described-so = is;
+    values = vs;
+    recorded-so = e;
+    size = size;
+    each = values-small input d rest lines vs is e;
+    found = found;
+    causal = shownAfter found reply;
+    printed = is-printed ∙ rw (out-written, is-checked, after-shown input found reply) refl;
+    incomplete = λ a below h. let f = lacking a below h in (f, none-shown found reply f);
+    passes-exactly = passing;
+    path-exactly = causal-path;
+  }
+
+-- one of 1 to 7
+in-seven : (k : ℕ) → among k (1 ∷ 2 ∷ 3 ∷ 4 ∷ 5 ∷ 6 ∷ 7 ∷ []) ≡ true → (1 ≤ k) × (k ≤ 7)
+in-seven k h = go (1 ∷ 2 ∷ 3 ∷ 4 ∷ 5 ∷ 6 ∷ 7 ∷ []) ((omega arith, omega arith), ((omega arith, omega arith), ((omega arith, omega arith), ((omega arith, omega arith), ((omega arith, omega arith), ((omega arith, omega arith), ((omega arith, omega arith), tt))))))) h
+  where
+    go : (xs : List ℕ) → Each (λ x. (1 ≤ x) × (x ≤ 7)) xs → among k xs ≡ true → (1 ≤ k) × (k ≤ 7)
+    go [] w q = absurd (not-both q refl)
+    go (x ∷ xs) w q = ⊎-elim (λ (s : eqb k x ≡ true). rw (eqb-true k x s) (w .0)) (λ (later : among k xs ≡ true). go xs (w .1) later) (or-iff (eqb k x) (among k xs) .0 q)
+
+module _ (input : List ℕ) where
+  says-refusal : (number place : ℕ) → recordedIn input ≡ refused number place → Refused (output input)
+  unfolding output
+  says-refusal number place e =
+      let within = rw e at (input-by input) in
+      record { number = number; place = place; low = in-seven number within .0; high = in-seven number within .1; printed = rw e refl }
+
+  by-values : (o : Reply Taken) → described 64 input ≡ o → (r : Reply (List ℕ)) → recordedIn input ≡ r → Program input (output input)
+  unfolding Program
+  by-values o is (refused number place) e = inl (says-refusal number place e)
+  by-values (answered (read d rest lines)) is (answered vs) e = inr (judges input d rest lines vs is e)
+  by-values (refused number place) is (answered vs) e =
+      let both = sym e ∙ recorded-refused input is in
+      let z : _≡_ {A = ℕ} 0 1 = cc in absurd (omega arith)
+
+  pub program : Program input (output input)
+  program = by-values (described 64 input) refl (recordedIn input) refl

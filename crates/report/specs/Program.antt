@@ -1,0 +1,73 @@
+-- The program as a whole: what the output for every input says, by the meaning of C.
+-- Assumes nothing.
+use mathlib.Core.Path.{_≡_}
+use mathlib.Core.Logic.{_↔_, _⊎_}
+use mathlib.Core.Bool.{Bool, true, false}
+use mathlib.Core.List.{List, _++_}
+use mathlib.Core.Option.{Option, none, some}
+use Prim.Native.Nat.{ℕ, _≤_, _<_}
+use lib.ListN.{length, getD}
+use Rattle.search.specs.Search.{Each}
+use Rattle.search.specs.Replies.{answered}
+use Rattle.answer_sets.specs.Verdicts.{clash, broken, unfounded, passes}
+use Rattle.translation.specs.Translated.{rulesFor, tableFor}
+use Rattle.history.specs.Checks.{Finding, missing, judged}
+use Rattle.causal.specs.Verdicts.{Causal, path}
+use Rattle.correctness.specs.Demand3.{OneValue, PathOf}
+use Rattle.description_reader.specs.LineSteps.{Draft}
+use Rattle.description_reader.specs.Descriptions.{read, described, descriptionOf}
+use Rattle.history_reader.specs.Histories.{atoms}
+use Rattle.inputs.specs.Inputs.{recordedIn}
+use Rattle.output_lines.specs.Printed.{refusal, countLines, findingLines, causalLines, noCausal}
+
+-- a refusal by one of 1 to 7
+pub record Refused (out : List ℕ) : Type 0 where
+  pub number : ℕ
+  pub place : ℕ
+  pub low : 1 ≤ number
+  pub high : number ≤ 7
+  pub printed : out ≡ refusal number place
+
+-- the causal lines: none, or a verdict
+abbrev pub causalShown : List ℕ → Option Causal → List ℕ
+causalShown input none = noCausal
+causalShown input (some v) = causalLines input v
+
+-- the nine lines for a description, an answer and a causal verdict or none
+abbrev pub nineLines : List ℕ → Draft → Finding → Option Causal → List ℕ
+nineLines input d found causal =
+    countLines (d .horizon) (atoms d) (length (rulesFor (descriptionOf d) (d .laws))) (length (tableFor (descriptionOf d) (d .laws)))
+    ++ (findingLines found ++ causalShown input causal)
+
+-- the answer is missing or clash
+abbrev pub missingOrClash : Finding → Bool
+missingOrClash (missing a) = true
+missingOrClash (judged (clash a)) = true
+missingOrClash (judged (broken r)) = false
+missingOrClash (judged (unfounded c)) = false
+missingOrClash (judged passes) = false
+
+pub record Judged (input out : List ℕ) : Type 0 where
+  -- the description read
+  pub draft : Draft
+  pub rest : List ℕ
+  pub lines : ℕ
+  pub described-so : described 64 input ≡ answered (read draft rest lines)
+  -- the values read: one for each atom, 0 none, 1 true, 2 false, 3 both
+  pub values : List ℕ
+  pub recorded-so : recordedIn input ≡ answered values
+  pub size : length values ≡ atoms draft
+  pub each : Each (λ v. v ≤ 3) values
+  -- what is printed of them
+  pub found : Finding
+  pub causal : Option Causal
+  pub printed : out ≡ nineLines input draft found causal
+  -- where an atom has no value or both
+  pub incomplete : (a : ℕ) → a < length values → (getD values a 0 ≡ 0) ⊎ (getD values a 0 ≡ 3) → (missingOrClash found ≡ true) × (causal ≡ none)
+  -- where every atom has one value
+  pub passes-exactly : Each OneValue values → found ≡ judged passes ↔ PathOf (descriptionOf draft) (draft .laws) values
+  pub path-exactly : Each OneValue values → causal ≡ some path ↔ PathOf (descriptionOf draft) (draft .laws) values
+
+-- of an input and its output
+unfoldable pub Program : List ℕ → List ℕ → Type 0
+Program input out = Refused out ⊎ Judged input out
