@@ -9,7 +9,6 @@ use description::Description;
 use description::Head;
 use description::Law;
 ghost use mathlib.Core.Path.{_≡_};
-ghost use mathlib.Core.Bool.{cond};
 ghost use mathlib.Core.List.{[], _∷_, map};
 ghost use Prim.Native.Nat.{_+_, _*_, _<_, _≤_};
 ghost use lib.ListN.{length, take, getD};
@@ -40,21 +39,27 @@ fn head_word(law: Law, n: usize, t: usize) -> u16
     }
 }
 
-// The word of the literal at place i of a list, moved on by `base`: its code itself, or its complement's.
-fn part_word(codes: [u8; 6], i: usize, base: usize, flip: bool) -> u16
+// The word of the negated part at place i of a law's rule: the complement of the if-list's literal there, moved on by `base`.
+fn negated_word(law: Law, i: usize, base: usize) -> u16
     requires { ⌜ (i < 6) × (base ≤ 1984) ⌝ }
-    ensures { λ r. ⌜ r ≡ cond flip (complement (base + getD codes i 0)) (base + getD codes i 0) ⌝ }
+    ensures { λ r. ⌜ r ≡ complement (base + getD (law .«if_codes») i 0) ⌝ }
 {
+    let codes = law.if_codes;
     let code = base + wide(codes[i]);
-    if flip {
-        if code % 2 == 0 {
-            (code + 1) as u16
-        } else {
-            (code - 1) as u16
-        }
+    if code % 2 == 0 {
+        (code + 1) as u16
     } else {
-        code as u16
+        (code - 1) as u16
     }
+}
+
+// The word of the plain part at place i: the after-list's literal there, moved on by `base`.
+fn plain_word(law: Law, i: usize, base: usize) -> u16
+    requires { ⌜ (i < 6) × (base ≤ 1984) ⌝ }
+    ensures { λ r. ⌜ r ≡ base + getD (law .«after_codes») i 0 ⌝ }
+{
+    let codes = law.after_codes;
+    (base + wide(codes[i])) as u16
 }
 
 // Word i of a law's rule for time t: its head, the counts of its negated and plain parts, the complements of its if-list, its
@@ -63,8 +68,6 @@ fn rule_word(law: Law, n: usize, t: usize, i: usize) -> u16
     requires { ⌜ (n ≤ 32) × (t ≤ 30) × (i < length (ruleWords (ruleFor n (law .kind) law t))) ⌝ }
     ensures { λ r. ⌜ r ≡ getD (ruleWords (ruleFor n (law .kind) law t)) i 0 ⌝ }
 {
-    let if_codes = law.if_codes;
-    let after_codes = law.after_codes;
     let new = by_kind(law, t, t + 1);
     let negated = negated_count(law);
     let plain = plain_count(law);
@@ -79,9 +82,9 @@ fn rule_word(law: Law, n: usize, t: usize, i: usize) -> u16
     }
     let part = i - 3;
     if part < negated {
-        return part_word(if_codes, part, shift(n, new), true);
+        return negated_word(law, part, shift(n, new));
     }
-    part_word(after_codes, part - negated, shift(n, t), false)
+    plain_word(law, part - negated, shift(n, t))
 }
 
 // A law's rule for time t.

@@ -1,10 +1,10 @@
--- `part_word` meets its contract. The complement of an even code is the next one, and of an odd code the one before.
+-- `negated_word` meets its contract. The complement of an even code is the next one, and of an odd code the one before.
 -- Assumes nothing.
 use borrow.Author.Needs.{needs}
 use borrow.Author.Tests.{eq-eqb, ne-eqb}
 use Rattle.translation.specs.Rules.{complement}
-use Rattle.translation.proofs.writers.part_word.Statement.{statement}
-use Rattle.translation.proofs.writers.part_word.Tie as tie
+use Rattle.translation.proofs.writers.negated_word.Statement.{statement}
+use Rattle.translation.proofs.writers.negated_word.Tie as tie
 
 array-read-wide : tie.Need-array-read-wide
 array-read-wide c = search needs
@@ -27,22 +27,16 @@ sub-result c = search needs
 cast-result-2 : tie.Need-cast-result-2
 cast-result-2 c = search needs
 
-cast-result-3 : tie.Need-cast-result-3
-cast-result-3 c = search needs
-
 returns : tie.Need-returns
 unfolding complement
-returns c = rw (c .before .if1 .taken, ← c .before .before .wide .ensures .0, eq-eqb _ 0 (c .if2 .taken))
+returns c = rw (← c .before .wide .ensures .0, eq-eqb _ 0 (c .if1 .taken))
 
 returns-2 : tie.Need-returns-2
 unfolding complement
-returns-2 c = rw (c .before .if1 .taken, ← c .before .before .wide .ensures .0, ne-eqb _ 0 (c .if2 .left))
+returns-2 c = rw (← c .before .wide .ensures .0, ne-eqb _ 0 (c .if1 .left))
 
-returns-3 : tie.Need-returns-3
-returns-3 c = rw (c .if1 .left, c .before .wide .ensures .0)
-
-pub part-word-spec : {M : Type 1} → statement M
-part-word-spec =
+pub negated-word-spec : {M : Type 1} → statement M
+negated-word-spec =
     tie.close
     (tie.spec
     array-read-wide
@@ -52,7 +46,5 @@ part-word-spec =
     cast-result
     sub-result
     cast-result-2
-    cast-result-3
     returns
-    returns-2
-    returns-3)
+    returns-2)
