@@ -3,6 +3,4 @@ pub mod Gathering
 pub mod Deciding
 pub mod Stepping
 pub mod Walking
-pub mod Declaring
-pub mod Showing
 pub mod Answering

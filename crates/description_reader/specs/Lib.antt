@@ -2,5 +2,4 @@
 pub mod LineSteps
 pub mod Descriptions
 pub mod Answers
-pub mod Shown
 pub mod Internal

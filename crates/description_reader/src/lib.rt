@@ -1,7 +1,6 @@
-// Reading a description from text, and showing the names that it declares.
+// Reading a description from text.
 mod codes;
 pub mod descriptions;
-mod shown;
 pub mod states;
 mod steps;
 
@@ -9,8 +8,6 @@ use description::Description;
 use description::Law;
 ghost use mathlib.Core.Path.{_≡_};
 ghost use Rattle.description_reader.specs.Descriptions.{described};
-ghost use Rattle.text.specs.Places.{LiesAt};
-ghost use Rattle.description_reader.specs.Shown.{shownFluent, shownAction, shownFluentStart, shownActionStart};
 ghost use Rattle.description_reader.specs.Answers.{replyOf, replied, recordOf, lawsLeft};
 
 // The refusal's number and place, or where the description ends: behind how many bytes and lines.
@@ -66,20 +63,4 @@ pub fn read_description(text: &[u8], laws: [Law; 64], lent: usize) -> Described
         },
         run,
     }
-}
-
-// The part of the description text where a fluent was declared; empty for a number that nothing declares, and in a text that is refused.
-pub fn fluent_name(text: &[u8], fluent: usize) -> &[u8]
-    ensures { λ r. ⌜ now r ≡ shownFluent (now (text .entry)) fluent ⌝ }
-    ensures { λ r. ⌜ LiesAt (shownFluentStart (now (text .entry)) fluent) (text .entry) r ⌝ }
-{
-    shown::name(text, false, fluent)
-}
-
-// The same for an action.
-pub fn action_name(text: &[u8], action: usize) -> &[u8]
-    ensures { λ r. ⌜ now r ≡ shownAction (now (text .entry)) action ⌝ }
-    ensures { λ r. ⌜ LiesAt (shownActionStart (now (text .entry)) action) (text .entry) r ⌝ }
-{
-    shown::name(text, true, action)
 }

@@ -9,7 +9,7 @@ use lib.ListN.{length}
 use Rattle.search.specs.Replies.{Reply, refused, answered}
 use Rattle.search.proofs.Tests.{each-at}
 use Rattle.description_reader.specs.Descriptions.{Taken, read, described}
-use Rattle.description_reader.specs.Shown.{fluentName, shownBy, shownFluent}
+use Rattle.shown_names.specs.Shown.{fluentName, shownBy, shownFluent}
 use Rattle.reader_bounds.proofs.Drafts.{Short, chosen, BoundedReply, bounded}
 
 name-short : (o : Reply Taken) (text : List ℕ) (f : ℕ) → BoundedReply text 64 65537 o → length (shownBy fluentName o f) ≤ 16

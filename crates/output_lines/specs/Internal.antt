@@ -7,7 +7,7 @@ use Rattle.search.specs.Replies.{Reply, refused, answered}
 use Rattle.answer_sets.specs.Verdicts.{clash, broken, unfounded, passes}
 use Rattle.history.specs.Checks.{Finding, missing, judged}
 use Rattle.causal.specs.Verdicts as verdicts
-use Rattle.description_reader.specs.Shown.{shownFluent}
+use Rattle.shown_names.specs.Shown.{shownFluent}
 use Rattle.output_lines.specs.declared.shown.Value.{Value}
 use Rattle.output_lines.specs.declared.shown.Value.the-variants.{Word, Number, Fluent}
 use Rattle.output_lines.specs.declared.shown.Verdict.{Verdict}

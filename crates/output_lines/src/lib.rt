@@ -82,7 +82,7 @@ fn put_value(out: &mut [u8], at: usize, key: usize, input: &[u8], value: Value) 
                 at,
                 key,
                 NOTHING,
-                description_reader::fluent_name(input, fluent),
+                shown_names::fluent_name(input, fluent),
             )
         }
     }

@@ -10,13 +10,13 @@ use native.Mathlib.Numerals.{add-one}
 use native.Mathlib.Omega.{arith}
 use lib.ListN.{length, getD, take, drop, set, length-map, List·getD-eq-default}
 use lib.Seq.{getD-set-same, getD-set-other}
-use Rattle.search.specs.Search.{all, first, range}
-use Rattle.search.proofs.Tests.{and-iff, length-range}
+use Rattle.search.specs.Search.{all, Each, first, range}
+use Rattle.search.proofs.Tests.{and-iff, all-each, length-range}
 use Rattle.text.specs.declared.names.Names.{Names}
-use borrow.Author.Tests.{eq-eqb, ne-eqb, ltb-true, ltb-false}
+use borrow.Author.Tests.{eq-eqb, ne-eqb, ltb-true, ltb-false, leb-true, not-true}
 use lib.Dec.{eqb, ltb, leb}
 use Rattle.text.specs.Bytes.{isLetter, isNameByte, same}
-use Rattle.text.specs.Names.{falseBytes, isName, declaredAt, inSort, literal}
+use Rattle.text.specs.Names.{falseBytes, startsWithLetter, isName, declaredAt, inSort, literal}
 use Rattle.text.specs.Internal.{nameAt, spelled, PlaceFits, CodeFits}
 
 pub first-mapped : {A B : Type 0} (p : B → Bool) (f : A → B) (k : ℕ) (xs : List A) → first p k (map f xs) ≡ first (λ x. p (f x)) k xs
@@ -105,6 +105,26 @@ pub name-tests : (xs : List ℕ) → (length xs ≡ 0 → ⊥)
 unfolding isName
 name-tests [] h = absurd (h refl)
 name-tests (x ∷ xs) h = refl
+
+-- what a name keeps to
+pub record Named (bs : List ℕ) : Type 0 where
+  pub starts : startsWithLetter bs ≡ true
+  pub short : length bs ≤ 16
+  pub bytes : Each (λ b. isNameByte b ≡ true) bs
+  pub not-false : same bs falseBytes ≡ false
+
+pub named : (bs : List ℕ) → isName bs ≡ true → Named bs
+unfolding isName
+named bs e =
+    let (front, other) = and-iff (startsWithLetter bs && leb (length bs) 16 && all isNameByte bs) (not (same bs falseBytes)) .0 e in
+    let (counted, bytes) = and-iff (startsWithLetter bs && leb (length bs) 16) (all isNameByte bs) .0 front in
+    let (starts, short) = and-iff (startsWithLetter bs) (leb (length bs) 16) .0 counted in
+    record {
+      starts = starts;
+      short = leb-true (length bs) 16 short;
+      bytes = all-each isNameByte bs .0 bytes;
+      not-false = not-true (same bs falseBytes) other;
+    }
 
 -- one more name
 

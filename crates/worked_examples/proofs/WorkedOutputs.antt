@@ -19,7 +19,7 @@ use Rattle.text.specs.Lists.{items, listOf}
 use Rattle.description_reader.specs.LineSteps.{horizonOf, headOf, lineStep}
 use Rattle.description_reader.specs.Descriptions.{described}
 use Rattle.history_reader.specs.Histories.{readHistory}
-use Rattle.description_reader.specs.Shown.{shownFluent}
+use Rattle.shown_names.specs.Shown.{shownFluent}
 use Rattle.inputs.specs.Inputs.{recordedIn}
 use Rattle.output_lines.specs.Writing.{decimal}
 use Rattle.report.specs.Output.{output}

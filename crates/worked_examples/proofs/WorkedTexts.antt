@@ -9,7 +9,7 @@ use Rattle.text.specs.Names.{isName, literal}
 use Rattle.text.specs.Lists.{items, listOf}
 use Rattle.description_reader.specs.LineSteps.{horizonOf, headOf, lineStep}
 use Rattle.description_reader.specs.Descriptions.{described}
-use Rattle.description_reader.specs.Shown.{shownFluent, shownAction}
+use Rattle.shown_names.specs.Shown.{shownFluent, shownAction}
 use Rattle.history_reader.specs.Histories.{readHistory}
 use Rattle.written_form.specs.Writing.{descriptionText}
 use Rattle.written_form.specs.HistoryWriting.{valuesText}

@@ -18,7 +18,7 @@ use Rattle.history.specs.Checks.{Finding}
 use Rattle.causal.specs.Verdicts.{Causal, contradicted, uncaused, path, causalVerdict}
 use Rattle.causal.specs.Readings as causal
 use Rattle.description_reader.specs.Descriptions.{Taken, described}
-use Rattle.description_reader.specs.Shown.{shownFluent, shownAction}
+use Rattle.shown_names.specs.Shown.{shownFluent, shownAction}
 use Rattle.history_reader.specs.Histories.{readHistory}
 use Rattle.written_form.specs.Writing.{descriptionText}
 use Rattle.written_form.specs.HistoryWriting.{valuesText}

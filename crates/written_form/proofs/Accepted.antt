@@ -16,7 +16,7 @@ use Rattle.written_form.specs.Writable.{Writable, linesWritten, draftWri
 use Rattle.text.specs.Names.{isName}
 use Rattle.description_reader.specs.Descriptions.{read, described}
 use Rattle.description_reader.specs.Answers.{behind, replied, recordOf, lawsLeft}
-use Rattle.description_reader.specs.Shown.{fluentName, actionName, shownBy, shownFluent, shownAction}
+use Rattle.shown_names.specs.Shown.{fluentName, actionName, shownBy, shownFluent, shownAction}
 use Rattle.written_form.specs.Writing.{descriptionText}
 use Rattle.written_form.proofs.RoundTrip.{read-written}
 

@@ -1,48 +1,30 @@
 -- Names and written literals: a name has none of the bytes that part the text, and each literal is read back to its code.
 -- Assumes nothing.
 use mathlib.Core.Path.{_≡_, refl, sym, ap, subst, _∙_}
-use mathlib.Core.Bool.{Bool, true, false, not, cond, _&&_}
+use mathlib.Core.Bool.{Bool, true, false, cond}
 use mathlib.Core.List.{List, [], _∷_, _++_}
 use mathlib.Core.Option.{Option, none, some}
 use Prim.Native.Nat.{ℕ, zero, suc, _+_, _*_, _/_, _%_, _≤_, _<_}
 use native.Mathlib.Nat.{add-zero, zero-add}
 use native.Mathlib.Omega.{arith}
-use borrow.Author.Tests.{leb-true, le-leb, lt-ltb, eq-eqb, ne-eqb, eqb-true, eqb-false, not-true}
-use lib.Dec.{eqb, leb}
+use borrow.Author.Tests.{le-leb, lt-ltb, eq-eqb, ne-eqb, eqb-true, eqb-false}
+use lib.Dec.{eqb}
 use lib.ListN.{length, getD}
-use Rattle.search.specs.Search.{all, Each, first}
-use Rattle.search.proofs.Tests.{not-both, and-iff, all-each, each-map, each-at, each-append}
+use Rattle.search.specs.Search.{Each, first}
+use Rattle.search.proofs.Tests.{not-both, each-map, each-at, each-append}
 use Rattle.search.proofs.Lists.{none-iff}
 use Rattle.description.specs.declared.Head.{Head}
 use Rattle.description.specs.declared.Head.the-variants.{Lit, False}
 use Rattle.description.proofs.Fits.{HeadBelow}
 use Rattle.text.specs.Bytes.{hyphen, isNameByte, same}
 use Rattle.written_form.specs.Writable.{AreNames, Distinct}
-use Rattle.text.specs.Names.{falseBytes, startsWithLetter, isName, declaredAt, inSort, literal}
+use Rattle.text.specs.Names.{falseBytes, isName, declaredAt, inSort, literal}
 use Rattle.description_reader.specs.LineSteps.{litHead, headOf}
 use Rattle.written_form.specs.Writing.{literalText, headText}
+use Rattle.text.proofs.Spelling.{named}
 use Rattle.written_form.proofs.WrittenLines.{Lacks}
 
 -- one name
-
-pub record Named (bs : List ℕ) : Type 0 where
-  pub starts : startsWithLetter bs ≡ true
-  pub short : length bs ≤ 16
-  pub bytes : Each (λ b. isNameByte b ≡ true) bs
-  pub not-false : same bs falseBytes ≡ false
-
-pub named : (bs : List ℕ) → isName bs ≡ true → Named bs
-unfolding isName
-named bs e =
-    let (front, other) = and-iff (startsWithLetter bs && leb (length bs) 16 && all isNameByte bs) (not (same bs falseBytes)) .0 e in
-    let (counted, bytes) = and-iff (startsWithLetter bs && leb (length bs) 16) (all isNameByte bs) .0 front in
-    let (starts, short) = and-iff (startsWithLetter bs) (leb (length bs) 16) .0 counted in
-    record {
-      starts = starts;
-      short = leb-true (length bs) 16 short;
-      bytes = all-each isNameByte bs .0 bytes;
-      not-false = not-true (same bs falseBytes) other;
-    }
 
 pub name-long : (bs : List ℕ) → isName bs ≡ true → 1 ≤ length bs
 name-long [] e = absurd (not-both (named [] e .starts) refl)

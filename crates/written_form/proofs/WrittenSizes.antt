@@ -22,7 +22,8 @@ use Rattle.text.specs.Bytes.{newline, equalsSign}
 use Rattle.text.specs.Lines.{keys, horizonKey, fluentKey, actionKey, staticKey, dynamicKey, ifKey, afterKey, endKey}
 use Rattle.text.specs.Names.{isName}
 use Rattle.written_form.specs.Writing.{lineText, horizonText, listText, headText, lawText, lawsText, namesText, descriptionText}
-use Rattle.written_form.proofs.WrittenNames.{named, literal-size}
+use Rattle.written_form.proofs.WrittenNames.{literal-size}
+use Rattle.text.proofs.Spelling.{named}
 use Rattle.written_form.proofs.WrittenLists.{list-size}
 use Rattle.written_form.proofs.Written.{Bounded, written-laws}
 

@@ -1,10 +1,10 @@
 // The name shown to an editor: the part of the description text where it was declared.
-use crate::descriptions;
+use description_reader::descriptions;
 use text::lines;
 ghost use mathlib.Core.Path.{_≡_};
 ghost use mathlib.Core.Bool.{cond};
 ghost use Rattle.text.specs.Places.{LiesAt};
-ghost use Rattle.description_reader.specs.Shown.{shownFluent, shownAction, shownFluentStart, shownActionStart};
+ghost use Rattle.shown_names.specs.Shown.{shownFluent, shownAction, shownFluentStart, shownActionStart};
 
 // The name of an action or a fluent by its number, or nothing: behind the horizon's line each line declares one name, the fluents
 // first. At most 8 actions stand behind the fluents.

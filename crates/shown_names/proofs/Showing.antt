@@ -12,10 +12,10 @@ use lib.ListN.{length, getD, List·getD-eq-default}
 use Rattle.search.specs.Replies.{Reply, refused, answered}
 use Rattle.text.specs.Lines.{Line}
 use Rattle.text.specs.Places.{lineNumber, startOfValue, LiesAt}
 use Rattle.description_reader.specs.LineSteps.{Draft}
 use Rattle.description_reader.specs.Descriptions.{Taken, read, described}
-use Rattle.description_reader.specs.Shown.{fluentName, actionName, shownBy, shownFluent, shownAction, fluentStart, actionStart, startBy, shownFluentStart, shownActionStart}
-use Rattle.description_reader.proofs.Declaring.{declared-at}
+use Rattle.shown_names.specs.Shown.{fluentName, actionName, shownBy, shownFluent, shownAction, fluentStart, actionStart, startBy, shownFluentStart, shownActionStart}
+use Rattle.shown_names.proofs.Declaring.{declared-at}
 
 abbrev shows : Bool → ℕ → Reply Taken → List ℕ
 shows action i o = cond action (shownBy actionName o i) (shownBy fluentName o i)

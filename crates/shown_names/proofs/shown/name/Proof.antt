@@ -7,15 +7,15 @@ use native.Mathlib.Omega.{arith}
 use lib.ListN.{length, getD, drop}
 use Rattle.search.specs.Replies.{refused, answered}
 use Rattle.text.proofs.Spelling.{spelled-length}
 use Rattle.description_reader.specs.LineSteps.{Draft}
 use Rattle.description_reader.specs.Descriptions.{read, described}
 use Rattle.description_reader.specs.Internal.{draftOf}
 use Rattle.description_reader.specs.declared.descriptions.Ending.{Ending}
 use Rattle.description_reader.proofs.Answering.{ends-refused, ends-read}
-use Rattle.description_reader.proofs.Showing.{part-refused, part-no-action, part-action, part-no-fluent, part-fluent, value-shown, shown-part}
+use Rattle.shown_names.proofs.Showing.{part-refused, part-no-action, part-action, part-no-fluent, part-fluent, value-shown, shown-part}
 use borrow.Author.Needs.{needs}
-use Rattle.description_reader.proofs.shown.name.Statement.{statement}
-use Rattle.description_reader.proofs.shown.name.Tie as tie
+use Rattle.shown_names.proofs.shown.name.Statement.{statement}
+use Rattle.shown_names.proofs.shown.name.Tie as tie
 
 -- the text, where the reader ended, and the description that it read
 abbrev text-at : tie.After-names → List ℕ

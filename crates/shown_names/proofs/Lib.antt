@@ -1,0 +1,3 @@
+-- Where a name is declared, and that it is shown there.
+pub mod Declaring
+pub mod Showing

@@ -1,0 +1,2 @@
+-- The names shown to an editor.
+pub mod Shown
