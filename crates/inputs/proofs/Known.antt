@@ -17,7 +17,8 @@ use Rattle.description_reader.specs.Descriptions.{Taken, read, described, descr
 use Rattle.description_reader.specs.Answers.{Behind, behind, replied, recordOf}
 use Rattle.history_reader.specs.Histories.{atoms, statesFrom, readHistory, historyReplied, valuesLeft}
 use Rattle.reader_bounds.proofs.Drafts.{Limited, chosen, BoundedReply, bounded}
-use Rattle.inputs.specs.Inputs.{movedUp, movedBy, afterDescription, recordedIn}
+use Rattle.inputs.specs.Inputs.{movedBy, recordedIn}
+use Rattle.inputs.specs.Internal.{CanMove}
 use Rattle.inputs.proofs.Places.{PlaceUpTo, place-within, states-place}
 
 pub few-atoms : (T n m : ℕ) → n ≤ 24 → m ≤ 8 → T ≤ 30 → T * (n + m) ≤ 960
@@ -62,6 +63,14 @@ pub record Known (input : List ℕ) (bytes lines : ℕ) : Type 0 where
 moved-left : (lines : ℕ) (r : Reply (List ℕ)) (old : List ℕ) → valuesLeft (movedBy lines r) old ≡ valuesLeft r old
 moved-left lines (refused k p) old = refl
 moved-left lines (answered vs) old = refl
+
+moved-reply : (lines : ℕ) (r : Reply (List ℕ)) → movedBy lines (historyReplied r) ≡ historyReplied (movedBy lines r)
+moved-reply lines (refused k p) = refl
+moved-reply lines (answered vs) = refl
+
+low-place : (lines : ℕ) (r : Reply (List ℕ)) → lines ≤ 65537 → PlaceUpTo 1024 r → CanMove lines (historyReplied r)
+low-place lines (refused k p) few h = omega arith
+low-place lines (answered vs) few h = tt
 
 module _ (input : List ℕ) where
   turned-from : (o : Reply Taken) {number place : ℕ} → replied input o ≡ refused number place → o ≡ refused number place
@@ -123,15 +132,12 @@ module _ (input : List ℕ) where
       unfolding recordedIn
       whole = rw (k .is, same-history)
 
-      pub low-place : {number place : ℕ} → refused number place ≡ historyReplied (readHistory input text lent) → place ≤ 1024
-      low-place e = subst (PlaceUpTo 1024) (sym same-history ∙ history-refused (readHistory input text lent) e) recorded-place
+      -- the answer to the whole input is the history reader's, moved up
+      pub says : (answer : Reply Unit) → answer ≡ historyReplied (readHistory input text lent) → movedBy lines answer ≡ historyReplied (recordedIn input)
+      says answer e = rw (e, whole) (moved-reply lines (readHistory input text lent))
 
-      pub says-refused : {number place : ℕ} → refused number place ≡ historyReplied (readHistory input text lent)
-          → refused number (movedUp lines number place) ≡ historyReplied (recordedIn input)
-      says-refused e = rw (whole, history-refused (readHistory input text lent) e)
-
-      pub says-read : answered tt ≡ historyReplied (readHistory input text lent) → answered tt ≡ historyReplied (recordedIn input)
-      says-read e = rw (whole, history-read (readHistory input text lent) [] e)
+      pub can-move : (answer : Reply Unit) → answer ≡ historyReplied (readHistory input text lent) → CanMove lines answer
+      can-move answer e = rw (e, same-history) (low-place lines (readHistory input (k .rest) (atoms (k .draft))) (k .counted) recorded-place)
 
       leaves : (old : List ℕ) → valuesLeft (readHistory input text lent) old ≡ valuesLeft (recordedIn input) old
       leaves old = rw whole (sym (moved-left lines (readHistory input text lent) old))

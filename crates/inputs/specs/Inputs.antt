@@ -12,9 +12,9 @@ use Rattle.history_reader.specs.Histories.{atoms, readHistory}
 abbrev pub movedUp : ℕ → ℕ → ℕ → ℕ
 movedUp lines number place = cond (eqb number 1 || eqb number 10) place (lines + place)
 
-abbrev pub movedBy : ℕ → Reply (List ℕ) → Reply (List ℕ)
+abbrev pub movedBy : {A : Type 0} → ℕ → Reply A → Reply A
 movedBy lines (refused number place) = refused number (movedUp lines number place)
-movedBy lines (answered vs) = answered vs
+movedBy lines (answered a) = answered a
 
 -- the history is what stands behind the description's end line; there is a value for each atom
 abbrev pub afterDescription : List ℕ → Reply Taken → Reply (List ℕ)

@@ -4,14 +4,15 @@ use description::Law;
 use description_reader::Answer;
 use history_reader::HistoryAnswer;
 ghost use mathlib.Core.Path.{_≡_};
-ghost use Prim.Native.Nat.{_+_, _-_, _≤_, _<_, _^_};
+ghost use Prim.Native.Nat.{_-_, _≤_};
 ghost use lib.ListN.{length, take, drop, replicate};
 ghost use Rattle.description.specs.Atoms.{atomCount};
 ghost use Rattle.description_reader.specs.Descriptions.{described};
 ghost use Rattle.description_reader.specs.Answers.{recordOf, lawsLeft};
 ghost use Rattle.history_reader.specs.Histories.{historyReplyOf, historyReplied, valuesLeft};
 ghost use Rattle.law_runs.specs.Runs.{noLaws};
-ghost use Rattle.inputs.specs.Inputs.{movedUp, recordedIn};
+ghost use Rattle.inputs.specs.Inputs.{movedBy, recordedIn};
+ghost use Rattle.inputs.specs.Internal.{CanMove};
 
 // Room for the values of the most atoms.
 fn no_values() -> [u8; 1024]
@@ -28,18 +29,23 @@ fn atom_count(d: Description) -> usize
     d.horizon * (d.fluents + d.actions) + d.fluents
 }
 
-// The place of a history's refusal in the whole input: a line is moved up by the description's lines.
-fn moved_up(lines: usize, number: u8, place: usize) -> usize
-    requires { ⌜ lines + place < 2 ^ 64 ⌝ }
-    ensures { λ r. ⌜ r ≡ movedUp lines number place ⌝ }
+// A history's answer in the whole input: the line of a refusal is moved up by the description's lines.
+fn moved_up(lines: usize, said: HistoryAnswer) -> HistoryAnswer
+    requires { ⌜ CanMove lines (historyReplyOf said) ⌝ }
+    ensures { λ r. ⌜ historyReplyOf r ≡ movedBy lines (historyReplyOf said) ⌝ }
 {
-    if number == 1 {
-        return place;
+    match said {
+        HistoryAnswer::Refused(number, place) => {
+            if number == 1 {
+                return HistoryAnswer::Refused(number, place);
+            }
+            if number == 10 {
+                return HistoryAnswer::Refused(number, place);
+            }
+            HistoryAnswer::Refused(number, lines + place)
+        }
+        HistoryAnswer::Complete => HistoryAnswer::Complete,
     }
-    if number == 10 {
-        return place;
-    }
-    lines + place
 }
 
 // What the readers give: a refusal or that all was read, the description with its laws, and the values of the history, one
@@ -79,12 +85,7 @@ pub fn read_input(input: &[u8]) -> Input
         Answer::Read(bytes, lines) => {
             let atoms = atom_count(description);
             let said = history_reader::read_history(input, &input[bytes..], &mut values[..atoms]);
-            let answer = match said {
-                HistoryAnswer::Refused(number, place) => {
-                    HistoryAnswer::Refused(number, moved_up(lines, number, place))
-                }
-                HistoryAnswer::Complete => HistoryAnswer::Complete,
-            };
+            let answer = moved_up(lines, said);
             Input {
                 answer,
                 description,

@@ -50,4 +50,4 @@ pub fewest-decimal : (n k : ℕ) → n < 2 ^ 64 → Fewest 10 1 n k → digits 1
 unfolding decimal
 fewest-decimal n zero h f = absurd (omega (arith, f .0))
 fewest-decimal n (suc j) h f =
-    rw (places-fewest 19 j n (omega (arith, few-digits n (suc j) h f)) (f .1) (λ more. rw (sub-one (suc j)) at (f .2 (omega arith))))
+    rw (places-fewest 19 j n (omega (arith, few-digits n (suc j) h f)) (f .1) (λ more. rw (sub-one (suc j)) at (f .2 (omega arith)))) refl

@@ -1,5 +1,7 @@
 -- `of_reading` meets its contract, arm by arm.
 -- Assumes nothing.
+use mathlib.Core.Path.{ap, _∙_}
+use Rattle.answer_codes.specs.Codes.{coded}
 use borrow.Author.Needs.{needs}
 use Rattle.answer_codes.proofs.of_reading.Statement.{statement}
 use Rattle.answer_codes.proofs.of_reading.Tie as tie
@@ -40,12 +42,12 @@ returns c = rw (c .before .before .reading .given .1) (c .number .ensures)
 returns-2 : tie.Need-returns-2
 returns-2 c =
     let b = c .before in
-    rw (b .before .before .reading2 .given .1, ← b .both .ensures .0) (c .number2 .ensures)
+    rw (b .before .before .reading2 .given .1) (c .number2 .ensures ∙ ap (coded 81) (b .both .ensures .0))
 
 returns-3 : tie.Need-returns-3
 returns-3 c =
     let b = c .before in
-    rw (b .before .before .reading3 .given .1, ← b .both2 .ensures .0) (c .number3 .ensures)
+    rw (b .before .before .reading3 .given .1) (c .number3 .ensures ∙ ap (coded 82) (b .both2 .ensures .0))
 
 returns-4 : tie.Need-returns-4
 returns-4 c = rw (c .before .enum-told .given .1) (c .number4 .ensures)

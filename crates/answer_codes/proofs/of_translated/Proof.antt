@@ -1,5 +1,8 @@
 -- `of_translated` meets its contract, arm by arm.
 -- Assumes nothing.
+use mathlib.Core.Path.{ap, _∙_}
+use Prim.Native.Nat.{_+_, _*_, _%_}
+use Rattle.answer_codes.specs.Codes.{coded}
 use borrow.Author.Needs.{needs}
 use Rattle.answer_codes.proofs.of_translated.Statement.{statement}
 use Rattle.answer_codes.proofs.of_translated.Tie as tie
@@ -31,7 +34,8 @@ returns c = rw (c .before .before .translated .given .1) (c .number .ensures)
 returns-2 : tie.Need-returns-2
 returns-2 c =
     let b = c .before in
-    rw (b .before .before .translated2 .given .1, ← b .both .ensures .0) (c .number2 .ensures)
+    let e = b .before .before .translated2 .given in
+    rw (e .1) (c .number2 .ensures ∙ ap (λ n. coded 96 (e .0 .1 .1 .0 % 65536 * 4294967296 + n)) (b .both .ensures .0))
 
 pub of-translated-spec : {M : Type 1} → statement M
 of-translated-spec =

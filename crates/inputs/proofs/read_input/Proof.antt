@@ -2,18 +2,27 @@
 -- holds.
 -- Assumes nothing.
 use mathlib.Core.Path.{_≡_, refl, sym, ap, _∙_}
-use mathlib.Core.List.{_++_}
+use mathlib.Core.List.{List, _++_}
+use Prim.Native.Nat.{ℕ, _≤_}
 use native.Mathlib.Omega.{arith}
-use lib.ListN.{length, take, drop, length-take, length-drop, length-append}
+use lib.ListN.{length, take, drop, replicate, length-take, length-drop, length-append}
 use Rattle.description.specs.declared.Description.{Description}
 use Rattle.description.specs.Atoms.{atomCount}
 use Rattle.description_reader.specs.Descriptions.{described}
 use Rattle.description_reader.specs.Answers.{replyOf, recordOf, lawsLeft}
 use Rattle.history_reader.specs.Histories.{historyReplyOf, historyReplied}
-use Rattle.inputs.proofs.Known.{known, limits, low-place, description-refused, recorded-refused, says-refused, says-read, values-read}
+use Rattle.inputs.proofs.Known.{known, limits, description-refused, recorded-refused, says, can-move, values-read}
 use borrow.Author.Needs.{needs}
 use Rattle.inputs.proofs.read_input.Statement.{statement}
 use Rattle.inputs.proofs.read_input.Tie as tie
+
+-- as many of the 1,024 zeros are lent as there are atoms
+size : {m : ℕ} {zs : List ℕ} → zs ≡ replicate 1024 0 → m ≤ 1024 → length (take m zs) ≡ m
+size {m} {zs} clear few = omega (arith, length-take m zs, ap length clear)
+
+lent : {m : ℕ} {zs : List ℕ} {d e : Description} → zs ≡ replicate 1024 0 → m ≤ 1024 → m ≡ atomCount (d .fluents) (d .actions) (d .horizon) → d ≡ e
+    → length (take m zs) ≡ atomCount (e .fluents) (e .actions) (e .horizon)
+lent clear few is same = size clear few ∙ is ∙ ap (λ (x : Description). atomCount (x .fluents) (x .actions) (x .horizon)) same
 
 no-laws-requires : tie.Need-no-laws-requires
 no-laws-requires c κs = search needs
@@ -73,30 +82,18 @@ slice-aggregate-read-history c =
 read-history-requires : tie.Need-read-history-requires
 read-history-requires c κs = search needs
 
-enum-known-said : tie.Need-enum-known-said
-enum-known-said c = search needs
-
+-- what the history reader says of the part behind the description
 moved-up-requires : tie.Need-moved-up-requires
 moved-up-requires c κs =
-    let said = c .before in
-    let rh = said .before .before .before in
+    let rh = c .before in
     let count = rh .before .before .before in
     let n = count .before .before in
     let rd = n .before .before .before .before .before .before in
-    let a = rd .before .before .before .args in
-    let input = a .input .now in
+    let input = rd .before .before .before .args .input .now in
     let k = known input (sym (rd .read-run .ensures .0) ∙ ap replyOf (n .answer2 .given .1)) in
-    let v = n .before .before in
-    let m = count .atom-count .result in
-    let zs = v .no-values .result in
     let dis = rd .read-run .ensures .1 .0 ∙ ap recordOf (k .is) in
-    let few = count .atom-count .ensures .1 in
-    let size : length (take m zs) ≡ m = omega (arith, length-take m zs, few, ap length (v .no-values .ensures)) in
-    let enough = size ∙ count .atom-count .ensures .0 ∙ ap (λ (x : Description). atomCount (x .fluents) (x .actions) (x .horizon)) dis in
-    omega (arith, k .counted, low-place input k (k .part) enough (sym (ap historyReplyOf (said .said .given .1)) ∙ rh .read-history .ensures .0))
-
-enum-told : tie.Need-enum-told
-enum-told c = search needs
+    can-move input k (k .part) (lent (n .before .before .no-values .ensures) (count .atom-count .ensures .1) (count .atom-count .ensures .0) dis)
+    (historyReplyOf (rh .read-history .result)) (rh .read-history .ensures .0)
 
 returns : tie.Need-returns
 returns c =
@@ -126,60 +123,22 @@ returns c =
 
 returns-2 : tie.Need-returns-2
 returns-2 c =
-    let said = c .before .before in
-    let rh = said .before .before .before in
+    let rh = c .before .before in
     let count = rh .before .before .before in
     let n = count .before .before in
     let rd = n .before .before .before .before .before .before in
-    let a = rd .before .before .before .args in
-    let input = a .input .now in
+    let input = rd .before .before .before .args .input .now in
     let k = known input (sym (rd .read-run .ensures .0) ∙ ap replyOf (n .answer2 .given .1)) in
     let v = n .before .before in
     let m = count .atom-count .result in
     let zs = v .no-values .result in
-    let dis = rd .read-run .ensures .1 .0 ∙ ap recordOf (k .is) in
     let few = count .atom-count .ensures .1 in
-    let size : length (take m zs) ≡ m = omega (arith, length-take m zs, few, ap length (v .no-values .ensures)) in
-    let enough = size ∙ count .atom-count .ensures .0 ∙ ap (λ (x : Description). atomCount (x .fluents) (x .actions) (x .horizon)) dis in
+    let enough = lent (v .no-values .ensures) few (count .atom-count .ensures .0) (rd .read-run .ensures .1 .0 ∙ ap recordOf (k .is)) in
     let last = rh .read-history .last .1 .1 .0 in
-    let whole : length last ≡ m = omega (arith, rh .read-history .kept .1 .1 .0, size) in
-    let filled : length (last ++ drop m zs) ≡ 1024 = omega (arith, length-append last (drop m zs), length-drop m zs, whole, few, ap length (v .no-values .ensures)) in
-    let vs = values-read input k (k .part) enough m zs last few (v .no-values .ensures) whole (rh .read-history .ensures .1) in
-    let is = says-refused input k (k .part) enough (sym (ap historyReplyOf (said .said .given .1)) ∙ rh .read-history .ensures .0) in (
-      rw (c .moved-up .ensures) is,
-      (
-        rd .read-run .ensures .1 .0,
-        (
-          rd .read-run .ensures .1 .1 .0 ∙ ap (lawsLeft (described 64 input)) (rd .before .no-laws .ensures),
-          (
-            count .atom-count .ensures .0 ∙ ap (λ (x : Description). atomCount (x .fluents) (x .actions) (x .horizon)) (rd .read-run .ensures .1 .0),
-            (vs .0, (vs .1, (few, filled))),
-          ),
-        ),
-      ),
-    )
-
-returns-3 : tie.Need-returns-3
-returns-3 c =
-    let rh = c .before .before .before in
-    let count = rh .before .before .before in
-    let n = count .before .before in
-    let rd = n .before .before .before .before .before .before in
-    let a = rd .before .before .before .args in
-    let input = a .input .now in
-    let k = known input (sym (rd .read-run .ensures .0) ∙ ap replyOf (n .answer2 .given .1)) in
-    let v = n .before .before in
-    let m = count .atom-count .result in
-    let zs = v .no-values .result in
-    let dis = rd .read-run .ensures .1 .0 ∙ ap recordOf (k .is) in
-    let few = count .atom-count .ensures .1 in
-    let size : length (take m zs) ≡ m = omega (arith, length-take m zs, few, ap length (v .no-values .ensures)) in
-    let enough = size ∙ count .atom-count .ensures .0 ∙ ap (λ (x : Description). atomCount (x .fluents) (x .actions) (x .horizon)) dis in
-    let last = rh .read-history .last .1 .1 .0 in
-    let whole : length last ≡ m = omega (arith, rh .read-history .kept .1 .1 .0, size) in
+    let whole : length last ≡ m = omega (arith, rh .read-history .kept .1 .1 .0, size (v .no-values .ensures) few) in
     let filled : length (last ++ drop m zs) ≡ 1024 = omega (arith, length-append last (drop m zs), length-drop m zs, whole, few, ap length (v .no-values .ensures)) in
     let vs = values-read input k (k .part) enough m zs last few (v .no-values .ensures) whole (rh .read-history .ensures .1) in (
-      says-read input k (k .part) enough (sym (ap historyReplyOf (c .enum-told .given .1)) ∙ rh .read-history .ensures .0),
+      c .moved-up .ensures ∙ says input k (k .part) enough (historyReplyOf (rh .read-history .result)) (rh .read-history .ensures .0),
       (
         rd .read-run .ensures .1 .0,
         (
@@ -208,9 +167,6 @@ read-input-spec =
     array-borrow-prefix-values
     slice-aggregate-read-history
     read-history-requires
-    enum-known-said
     moved-up-requires
-    enum-told
     returns
-    returns-2
-    returns-3)
+    returns-2)
