@@ -11,8 +11,8 @@ use lib.Dec.{eqb, ltb, leb}
 use lib.ListN.{length, getD, take, drop, length-append, length-drop}
 use lib.Seq.{drop-drop, take-append-seam, drop-append-seam, take-at, take-add}
 use Rattle.search.specs.Search.{Each}
-use Rattle.answer_sets.specs.Rules.{Head, lit, falsum, Rule}
-use Rattle.answer_sets.specs.Words.{headWord, ruleWords, words, headOf, ruleSize, ruleAt, rulesIn, rulesOf, headFits, partsFit, ruleFits, badRuleIn, badRule}
+use Rattle.logic_programs.specs.Rules.{Head, lit, falsum, Rule}
+use Rattle.logic_programs.specs.Words.{headWord, ruleWords, words, headOf, ruleSize, ruleAt, rulesIn, rulesOf, headFits, partsFit, ruleFits, badRuleIn, badRule}
 use Rattle.search.proofs.Tests.{true-of-not, and-iff, and₃-iff, or-iff, each-map, all-each, each-append}
 use Rattle.answer_sets.proofs.Least.{HeadBelow, HeadsBelow}
 use borrow.Author.Tests.{ltb-true, lt-ltb, leb-true, le-leb, ne-eqb}

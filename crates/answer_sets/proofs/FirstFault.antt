@@ -9,9 +9,9 @@ use Prim.Native.Nat.{ℕ, _+_, _*_}
 use lib.ListN.{length, getD}
 use Rattle.search.specs.Search.{first, range, Lowest, Nowhere}
 use Rattle.search.specs.Replies.{orElse}
-use Rattle.answer_sets.specs.Literals.{Lits}
-use Rattle.answer_sets.specs.Rules.{Head, lit, falsum, Rule}
-use Rattle.answer_sets.specs.AnswerSets.{reduct, HeadIn, literalHeaded, IsLeastClosed}
+use Rattle.logic_programs.specs.Literals.{Lits}
+use Rattle.logic_programs.specs.Rules.{Head, lit, falsum, Rule}
+use Rattle.logic_programs.specs.AnswerSets.{reduct, HeadIn, literalHeaded, IsLeastClosed}
 use Rattle.answer_sets.specs.Verdicts.{Verdict, clash, broken, unfounded, passes, applies, headIn, rounds, bothValues, isBroken, isUnfounded, verdict}
 use Rattle.answer_sets.specs.Demand2.{Clashing, BrokenRule, BrokenAt, Unfounded, noRule}
 use Rattle.search.proofs.Tests.{not-both, false-of-not, and-iff, not-iff, iff-and₃, first-lowest, first-nowhere, range-lowest, range-nowhere}

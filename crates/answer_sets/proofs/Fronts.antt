@@ -14,10 +14,10 @@ use lib.ListN.{length, getD, take, drop, set, length-drop, length-set}
 use Rattle.search.specs.Search.{all, first}
 use Rattle.search.proofs.Tests.{and-iff, or-iff}
 use Rattle.search.proofs.Loops.{to-the-end}
-use Rattle.answer_sets.specs.Literals.{Lits}
-use Rattle.answer_sets.specs.Rules.{Rule, lit, falsum}
+use Rattle.logic_programs.specs.Literals.{Lits}
+use Rattle.logic_programs.specs.Rules.{Rule, lit, falsum}
 use Rattle.answer_sets.specs.Verdicts.{applies, round, headIs}
-use Rattle.answer_sets.specs.Words.{ruleSize, ruleAt, ruleFits, headFits, partsFit, headOf, rulesOf, badRuleIn, badRule}
+use Rattle.logic_programs.specs.Words.{ruleSize, ruleAt, ruleFits, headFits, partsFit, headOf, rulesOf, badRuleIn, badRule}
 use Rattle.answer_sets.specs.Internal.{Sound, marked, derives}
 use Rattle.answer_sets.proofs.Stores.{getD-set}
 use Rattle.answer_sets.proofs.Decoding.{rulesOf-nil, rulesOf-cons, badRuleFrom, badRuleFrom-cons, badRuleFrom-nil, badRule-from, ruleFits-iff}

@@ -11,10 +11,10 @@ use borrow.Author.Tests.{lt-ltb, le-ltb}
 use lib.ListN.{length}
 use Rattle.search.specs.Search.{first, range}
 use Rattle.search.specs.Replies.{refused, answered}
-use Rattle.answer_sets.specs.Literals.{Lits, setOf}
-use Rattle.answer_sets.specs.Rules.{Rule}
+use Rattle.logic_programs.specs.Literals.{Lits, setOf}
+use Rattle.logic_programs.specs.Rules.{Rule}
 use Rattle.answer_sets.specs.Verdicts.{Verdict, clash, broken, unfounded, passes, round, rounds, bothValues, isBroken, isUnfounded, verdict}
-use Rattle.answer_sets.specs.Words.{rulesOf, badRule}
+use Rattle.logic_programs.specs.Words.{rulesOf, badRule}
 use Rattle.answer_sets.specs.Answers.{badValue, answer}
 use Rattle.answer_sets.proofs.Least.{HeadsBelow, rounds-stay, rounds-settle}
 

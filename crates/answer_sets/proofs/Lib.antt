@@ -9,4 +9,3 @@ pub mod Stores
 pub mod Fronts
 pub mod Judging
 pub mod Examples
-pub mod BasicExamples

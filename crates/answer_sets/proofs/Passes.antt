@@ -8,9 +8,9 @@ use Prim.Native.Nat.{ℕ, _*_, _<_}
 use native.Mathlib.Omega.{arith}
 use lib.ListN.{length, getD}
 use Rattle.search.specs.Search.{Each, Nowhere}
-use Rattle.answer_sets.specs.Literals.{Lits}
-use Rattle.answer_sets.specs.Rules.{Head, lit, falsum, Rule}
-use Rattle.answer_sets.specs.AnswerSets.{reduct, HeadIn, Closed, Subset, AnswerSet, literalHeaded, IsLeastClosed}
+use Rattle.logic_programs.specs.Literals.{Lits}
+use Rattle.logic_programs.specs.Rules.{Head, lit, falsum, Rule}
+use Rattle.logic_programs.specs.AnswerSets.{reduct, HeadIn, Closed, Subset, AnswerSet, literalHeaded, IsLeastClosed}
 use Rattle.answer_sets.specs.Verdicts.{passes, applies, rounds, verdict}
 use Rattle.answer_sets.specs.Demand2.{Clashing, BrokenRule, BrokenAt, Unfounded, noRule}
 use Rattle.search.proofs.Tests.{not-both, false-of-not, true-of-not, each-map₂, each-at}

@@ -7,8 +7,8 @@ use mathlib.Core.List.{List, [], _∷_}
 use Prim.Native.Nat.{ℕ}
 use Rattle.search.specs.Search.{all}
 use Rattle.search.proofs.Tests.{all-each}
-use Rattle.answer_sets.specs.Literals.{Lits}
-use Rattle.answer_sets.specs.AnswerSets.{meets, Within, Subset}
+use Rattle.logic_programs.specs.Literals.{Lits}
+use Rattle.logic_programs.specs.AnswerSets.{meets, Within, Subset}
 
 pub all-within : (X : Lits) (cs : List ℕ) → all X cs ≡ true ↔ Within cs X
 all-within X cs = all-each X cs

@@ -10,7 +10,7 @@ use borrow.Author.Tests.{ltb-true, ltb-false, lt-ltb, le-ltb, eqb-true, eqb-fals
 use lib.Dec.{eqb, ltb}
 use lib.ListN.{length, getD, set, replicate, List·getD-eq-default}
 use lib.Seq.{getD-set-same, getD-set-other}
-use Rattle.answer_sets.specs.Literals.{Lits, setOf, holdsTrue, holdsFalse}
+use Rattle.logic_programs.specs.Literals.{Lits, setOf, holdsTrue, holdsFalse}
 use Rattle.answer_sets.specs.Internal.{marked, is}
 use Rattle.search.proofs.Tests.{true-or-false}
 

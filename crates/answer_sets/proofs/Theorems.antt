@@ -12,10 +12,10 @@ use lib.ListN.{length, getD, List·getD-eq-default}
 use borrow.Author.Tests.{ltb-true, ltb-false}
 use Rattle.search.specs.Search.{Lowest, Nowhere}
 use Rattle.search.specs.Replies.{Reply, answered}
-use Rattle.answer_sets.specs.Literals.{setOf, holdsTrue, holdsFalse}
-use Rattle.answer_sets.specs.AnswerSets.{reduct, AnswerSet, literalHeaded, IsLeastClosed}
+use Rattle.logic_programs.specs.Literals.{setOf, holdsTrue, holdsFalse}
+use Rattle.logic_programs.specs.AnswerSets.{reduct, AnswerSet, literalHeaded, IsLeastClosed}
 use Rattle.answer_sets.specs.Verdicts.{Verdict, clash, broken, unfounded, passes, rounds, verdict}
-use Rattle.answer_sets.specs.Words.{rulesOf}
+use Rattle.logic_programs.specs.Words.{rulesOf}
 use Rattle.answer_sets.specs.Answers.{answer}
 use Rattle.answer_sets.specs.Demand2.{Accepted, Clashing, BrokenAt, Unfounded, Judged, Demand2}
 use Rattle.search.proofs.Tests.{true-or-false, not-both}

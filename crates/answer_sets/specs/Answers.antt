@@ -8,9 +8,9 @@ use lib.Dec.{ltb}
 use lib.ListN.{length}
 use Rattle.search.specs.Search.{first}
 use Rattle.search.specs.Replies.{Reply, refused, answered, orRefuse}
-use Rattle.answer_sets.specs.Literals.{setOf}
+use Rattle.logic_programs.specs.Literals.{setOf}
 use Rattle.answer_sets.specs.Verdicts.{Verdict, clash, broken, unfounded, passes, verdict}
-use Rattle.answer_sets.specs.Words.{rulesOf, badRule}
+use Rattle.logic_programs.specs.Words.{rulesOf, badRule}
 use Rattle.answer_sets.specs.declared.Answer.{Answer}
 use Rattle.answer_sets.specs.declared.Answer.the-variants.{Refused, Clash, Broken, Unfounded, Passes}
 

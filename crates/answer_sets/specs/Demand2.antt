@@ -9,11 +9,11 @@ use Prim.Native.Nat.{ℕ, _+_, _*_}
 use lib.ListN.{length, getD}
 use Rattle.search.specs.Search.{Lowest, Nowhere}
 use Rattle.search.specs.Replies.{Reply, answered}
-use Rattle.answer_sets.specs.Literals.{Lits, setOf}
-use Rattle.answer_sets.specs.Rules.{falsum, Rule}
-use Rattle.answer_sets.specs.AnswerSets.{meets, reduct, Within, HeadIn, AnswerSet, literalHeaded, IsLeastClosed}
+use Rattle.logic_programs.specs.Literals.{Lits, setOf}
+use Rattle.logic_programs.specs.Rules.{falsum, Rule}
+use Rattle.logic_programs.specs.AnswerSets.{meets, reduct, Within, HeadIn, AnswerSet, literalHeaded, IsLeastClosed}
 use Rattle.answer_sets.specs.Verdicts.{Verdict, clash, broken, unfounded, passes}
-use Rattle.answer_sets.specs.Words.{rulesOf, badRule}
+use Rattle.logic_programs.specs.Words.{rulesOf, badRule}
 use Rattle.answer_sets.specs.Answers.{tooManyValues, badValue}
 
 -- neither 10 nor 11 nor 12 refuses

@@ -7,9 +7,9 @@ use mathlib.Core.Option.{none}
 use Prim.Native.Nat.{ℕ, _≤_}
 use lib.Dec.{eqb}
 use lib.ListN.{length, getD}
-use Rattle.answer_sets.specs.Literals.{Lits}
+use Rattle.logic_programs.specs.Literals.{Lits}
 use Rattle.answer_sets.specs.Verdicts.{applies}
-use Rattle.answer_sets.specs.Words.{badRuleIn, ruleAt}
+use Rattle.logic_programs.specs.Words.{badRuleIn, ruleAt}
 
 -- the set that a list of marks stands for, one mark a literal code
 abbrev pub marked : List Bool → Lits

@@ -6,7 +6,7 @@ ghost use mathlib.Core.Option.{none};
 ghost use Prim.Native.Nat.{_*_, _≤_};
 ghost use Rattle.answer_sets.specs.Verdicts.{rounds};
 ghost use Rattle.answer_sets.specs.Verdicts.{round as roundOf};
-ghost use Rattle.answer_sets.specs.Words.{rulesOf, badRule};
+ghost use Rattle.logic_programs.specs.Words.{rulesOf, badRule};
 ghost use Rattle.answer_sets.specs.Internal.{marked, Sound};
 
 // The literal heads whose bodies hold: negated parts are looked up in x, plain parts in the old marks.

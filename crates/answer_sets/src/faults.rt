@@ -11,9 +11,9 @@ ghost use Prim.Native.Nat.{_*_, _≤_};
 ghost use lib.ListN.{length};
 ghost use Rattle.search.specs.Search.{first, placeOf, range};
 ghost use Rattle.search.specs.Replies.{answered};
-ghost use Rattle.answer_sets.specs.Literals.{setOf};
+ghost use Rattle.logic_programs.specs.Literals.{setOf};
 ghost use Rattle.answer_sets.specs.Verdicts.{verdict, bothValues, isBroken, isUnfounded};
-ghost use Rattle.answer_sets.specs.Words.{rulesOf, badRule, ruleAt, ruleSize};
+ghost use Rattle.logic_programs.specs.Words.{rulesOf, badRule, ruleAt, ruleSize};
 ghost use Rattle.answer_sets.specs.Answers.{replyOf};
 ghost use Rattle.answer_sets.specs.Internal.{marked, Sound};
 

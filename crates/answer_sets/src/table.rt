@@ -6,7 +6,7 @@ ghost use Prim.Native.Nat.{_≤_, _<_};
 ghost use lib.ListN.{length, getD};
 ghost use Rattle.search.specs.Search.{placeOf};
 ghost use Rattle.answer_sets.specs.Verdicts.{applies, headIn};
-ghost use Rattle.answer_sets.specs.Words.{ruleSize, ruleAt, ruleFits, headFits, headOf, partsFit, badRule};
+ghost use Rattle.logic_programs.specs.Words.{ruleSize, ruleAt, ruleFits, headFits, headOf, partsFit, badRule};
 ghost use Rattle.answer_sets.specs.Internal.{marked, derives};
 
 // A word, or 0 past the end.

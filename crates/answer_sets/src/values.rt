@@ -6,7 +6,7 @@ ghost use Prim.Native.Nat.{_≤_};
 ghost use lib.ListN.{length};
 ghost use Rattle.search.specs.Replies.{refusalOf, refusal};
 ghost use Rattle.answer_sets.specs.Answers.{badValue};
-ghost use Rattle.answer_sets.specs.Literals.{setOf, holdsTrue, holdsFalse};
+ghost use Rattle.logic_programs.specs.Literals.{setOf, holdsTrue, holdsFalse};
 ghost use Rattle.answer_sets.specs.Internal.{marked};
 
 // Refusal 11: the lowest index of a byte over 3.

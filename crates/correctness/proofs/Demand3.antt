@@ -17,10 +17,10 @@ use Rattle.search.specs.Search.{Each, first}
 use Rattle.search.specs.Replies.{Reply, refused, answered}
 use Rattle.search.proofs.Tests.{each-map}
 use Rattle.search.proofs.Lists.{none-iff}
-use Rattle.answer_sets.specs.Literals.{setOf}
-use Rattle.answer_sets.specs.AnswerSets.{AnswerSet}
+use Rattle.logic_programs.specs.Literals.{setOf}
+use Rattle.logic_programs.specs.AnswerSets.{AnswerSet}
 use Rattle.answer_sets.specs.Verdicts.{Verdict, passes}
-use Rattle.answer_sets.specs.Words.{rulesOf}
+use Rattle.logic_programs.specs.Words.{rulesOf}
 use Rattle.answer_sets.specs.Answers as engine
 use Rattle.answer_sets.specs.Demand2.{Accepted, Demand2}
 use Rattle.answer_sets.proofs.Decoding.{rules-words, codes-coded}

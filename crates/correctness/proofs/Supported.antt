@@ -12,9 +12,9 @@ use borrow.Author.Tests.{eqb-true, eq-eqb}
 use Rattle.search.specs.Search.{Each, all}
 use Rattle.search.proofs.Tests.{true-or-false, not-both, false-of-not, and-iff, not-iff, each-map, each-map₂}
 use Rattle.search.proofs.Lists.{each-iff, each-member, member-each}
-use Rattle.answer_sets.specs.Literals.{Lits}
-use Rattle.answer_sets.specs.Rules.{Head, lit, falsum, Rule}
-use Rattle.answer_sets.specs.AnswerSets.{PositiveRule, meets, reduct, Within, HeadIn, Closed, Subset, AnswerSet}
+use Rattle.logic_programs.specs.Literals.{Lits}
+use Rattle.logic_programs.specs.Rules.{Head, lit, falsum, Rule}
+use Rattle.logic_programs.specs.AnswerSets.{PositiveRule, meets, reduct, Within, HeadIn, Closed, Subset, AnswerSet}
 use Rattle.answer_sets.proofs.Sets.{all-within, within-subset}
 use Rattle.correctness.specs.TightPrograms.{Support, Supported, LowerParts, Tight, Proposition4}
 

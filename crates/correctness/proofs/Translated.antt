@@ -14,9 +14,9 @@ use borrow.Author.Tests.{ltb-true, ltb-false, eq-eqb}
 use Rattle.search.specs.Search.{Each}
 use Rattle.search.proofs.Tests.{true-or-false, not-both, each-map, each-map₂}
 use Rattle.search.proofs.Lists.{each-iff-given, each-mapped}
-use Rattle.answer_sets.specs.Literals.{Lits, setOf}
-use Rattle.answer_sets.specs.Rules.{Head, lit, falsum, Rule}
-use Rattle.answer_sets.specs.AnswerSets.{reduct, HeadIn, Closed, Consistent, AnswerSet}
+use Rattle.logic_programs.specs.Literals.{Lits, setOf}
+use Rattle.logic_programs.specs.Rules.{Head, lit, falsum, Rule}
+use Rattle.logic_programs.specs.AnswerSets.{reduct, HeadIn, Closed, Consistent, AnswerSet}
 use Rattle.translation_bounds.proofs.Complements.{complement-even}
 use Rattle.correctness.specs.TightPrograms.{Support, Supported, LowerParts, Tight}
 use Rattle.correctness.proofs.Supported.{bodyIn, closed-rules, rules-support, support-cases, proposition-4}

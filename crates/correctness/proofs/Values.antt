@@ -14,8 +14,8 @@ use borrow.Author.Tests.{ltb-false}
 use Rattle.search.specs.Search.{Each, all}
 use Rattle.search.proofs.Tests.{true-or-false, each-map, each-at}
 use Rattle.search.proofs.Lists.{all-mapped}
-use Rattle.answer_sets.specs.Literals.{holdsTrue, holdsFalse, setOf}
-use Rattle.answer_sets.specs.AnswerSets.{meets}
+use Rattle.logic_programs.specs.Literals.{holdsTrue, holdsFalse, setOf}
+use Rattle.logic_programs.specs.AnswerSets.{meets}
 use Rattle.answer_sets.proofs.Sets.{all-not-meets}
 use Rattle.translation_bounds.proofs.Complements.{complement-even, complement-odd, complement-below}
 use Rattle.description.specs.Atoms.{atomCount}

@@ -10,8 +10,8 @@ use Prim.Native.Nat.{ℕ, _≤_, _<_}
 use lib.ListN.{length, take}
 use Rattle.search.specs.Search.{Each}
 use Rattle.search.specs.Replies.{refused, answered}
-use Rattle.answer_sets.specs.Literals.{setOf}
-use Rattle.answer_sets.specs.AnswerSets.{AnswerSet}
+use Rattle.logic_programs.specs.Literals.{setOf}
+use Rattle.logic_programs.specs.AnswerSets.{AnswerSet}
 use Rattle.answer_sets.specs.Verdicts.{passes}
 use Rattle.answer_sets.specs.Answers as engine
 use Rattle.description.specs.declared.Law.{Law}

@@ -6,9 +6,9 @@ use mathlib.Core.Bool.{true}
 use mathlib.Core.List.{List, List·Memᴰ}
 use Prim.Native.Nat.{ℕ, _<_}
 use Rattle.search.specs.Search.{Each}
-use Rattle.answer_sets.specs.Literals.{Lits}
-use Rattle.answer_sets.specs.Rules.{Head, lit, falsum, Rule}
-use Rattle.answer_sets.specs.AnswerSets.{PositiveRule, reduct, Within, Closed, Consistent, AnswerSet}
+use Rattle.logic_programs.specs.Literals.{Lits}
+use Rattle.logic_programs.specs.Rules.{Head, lit, falsum, Rule}
+use Rattle.logic_programs.specs.AnswerSets.{PositiveRule, reduct, Within, Closed, Consistent, AnswerSet}
 
 -- a rule of the reduct by X has head c and its body in X
 abbrev pub Support : List Rule → Lits → ℕ → Type 0

@@ -10,9 +10,9 @@ use lib.ListN.{length, take, drop}
 use lib.Seq.{take-at}
 use Rattle.search.specs.Search.{first}
 use Rattle.search.specs.Replies.{Reply, refused, answered, orElse, leftAfter}
-use Rattle.answer_sets.specs.Literals.{setOf}
+use Rattle.logic_programs.specs.Literals.{setOf}
 use Rattle.answer_sets.specs.Verdicts.{verdict}
-use Rattle.answer_sets.specs.Words.{rulesOf}
+use Rattle.logic_programs.specs.Words.{rulesOf}
 use Rattle.answer_sets.specs.Answers as engine
 use Rattle.description.specs.declared.Law.{Law}
 use Rattle.description.specs.declared.Description.{Description}

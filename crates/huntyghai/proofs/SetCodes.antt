@@ -12,9 +12,9 @@ use lib.Dec.{ltb}
 use lib.ListN.{length}
 use Rattle.search.specs.Search.{Lowest}
 use Rattle.search.specs.Replies.{Reply, refused, answered}
-use Rattle.answer_sets.specs.Literals.{setOf}
+use Rattle.logic_programs.specs.Literals.{setOf}
 use Rattle.answer_sets.specs.Verdicts.{Verdict, clash, broken, unfounded, passes, verdict}
-use Rattle.answer_sets.specs.Words.{rulesOf, badRule}
+use Rattle.logic_programs.specs.Words.{rulesOf, badRule}
 use Rattle.answer_sets.specs.Answers.{tooManyValues, answer}
 use Rattle.answer_sets.specs.Demand2.{Accepted, Judged, Demand2}
 use Rattle.answer_sets.proofs.Decoding.{accepted-count}

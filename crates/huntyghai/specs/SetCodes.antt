@@ -6,10 +6,10 @@ use mathlib.Core.List.{List}
 use Prim.Native.Nat.{ℕ, _*_, _<_}
 use lib.ListN.{length}
 use Rattle.search.specs.Search.{Lowest, Nowhere}
-use Rattle.answer_sets.specs.Literals.{Lits, setOf}
-use Rattle.answer_sets.specs.Rules.{Rule}
-use Rattle.answer_sets.specs.AnswerSets.{AnswerSet}
-use Rattle.answer_sets.specs.Words.{rulesOf}
+use Rattle.logic_programs.specs.Literals.{Lits, setOf}
+use Rattle.logic_programs.specs.Rules.{Rule}
+use Rattle.logic_programs.specs.AnswerSets.{AnswerSet}
+use Rattle.logic_programs.specs.Words.{rulesOf}
 use Rattle.answer_sets.specs.Demand2.{Accepted, Clashing, BrokenAt, Unfounded}
 use Rattle.answer_codes.specs.Codes.{coded}
 

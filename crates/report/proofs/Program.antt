@@ -14,9 +14,9 @@ use Rattle.search.specs.Search.{Each, first, range}
 use Rattle.search.specs.Replies.{Reply, refused, answered, orElse}
 use Rattle.search.proofs.Tests.{not-both, or-iff, each-map, first-none, length-range, getD-range}
 use Rattle.search.proofs.Lists.{none-iff}
-use Rattle.answer_sets.specs.Literals.{holdsTrue, holdsFalse, setOf}
+use Rattle.logic_programs.specs.Literals.{holdsTrue, holdsFalse, setOf}
 use Rattle.answer_sets.specs.Verdicts.{Verdict, clash, broken, unfounded, passes, bothValues, verdict}
-use Rattle.answer_sets.specs.Words.{rulesOf}
+use Rattle.logic_programs.specs.Words.{rulesOf}
 use Rattle.answer_sets.specs.Answers as engine
 use Rattle.description.specs.declared.Law.{Law}
 use Rattle.description.specs.declared.Description.{Description}

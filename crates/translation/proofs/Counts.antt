@@ -6,8 +6,8 @@ use Prim.Native.Nat.{ℕ, zero, suc, _+_, _*_}
 use native.Mathlib.Nat.{zero-mul, one-mul, suc-mul, add-mul, add-zero, zero-add}
 use native.Mathlib.Omega.{arith}
 use lib.ListN.{length, length-append, length-map}
-use Rattle.answer_sets.specs.Rules.{Rule}
-use Rattle.answer_sets.specs.Words.{ruleWords, words}
+use Rattle.logic_programs.specs.Rules.{Rule}
+use Rattle.logic_programs.specs.Words.{ruleWords, words}
 use Rattle.search.specs.Search.{range}
 use Rattle.search.proofs.Tests.{length-range}
 use Rattle.description.specs.declared.Kind.{Kind}

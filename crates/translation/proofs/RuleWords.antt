@@ -13,7 +13,7 @@ use lib.ListN.{length, take, getD, length-map, length-take, length-append, List�
 use lib.Seq.{getD-take, getD-append-add}
 use Rattle.search.specs.Search.{range}
 use Rattle.search.proofs.Tests.{true-or-false}
-use Rattle.answer_sets.specs.Words.{headWord, ruleWords, words}
+use Rattle.logic_programs.specs.Words.{headWord, ruleWords, words}
 use Rattle.description.specs.declared.Kind.{Kind}
 use Rattle.description.specs.declared.Kind.the-variants.{Static, Dynamic}
 use Rattle.description.specs.declared.Law.{Law}

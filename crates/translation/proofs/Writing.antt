@@ -14,8 +14,8 @@ use Rattle.description.specs.declared.Kind.the-variants.{Static, Dynamic}
 use Rattle.description.specs.declared.Law.{Law}
 use Rattle.translation.specs.Rules.{staticRules, dynamicRules, perLaw, choices, actionAtoms, translation}
 use Rattle.translation.specs.Internal.{rulesOf}
-use Rattle.answer_sets.specs.Rules.{Rule}
-use Rattle.answer_sets.specs.Words.{words}
+use Rattle.logic_programs.specs.Rules.{Rule}
+use Rattle.logic_programs.specs.Words.{words}
 use Rattle.translation.proofs.Counts.{words-append}
 
 pub product-bound : (t n a b : ℕ) → t ≤ a → n ≤ b → t * n ≤ a * b

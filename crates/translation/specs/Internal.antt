@@ -4,7 +4,7 @@ use mathlib.Core.List.{List, map}
 use Prim.Native.Nat.{ℕ}
 use lib.ListN.{take}
 use Rattle.search.specs.Search.{range}
-use Rattle.answer_sets.specs.Rules.{Rule}
+use Rattle.logic_programs.specs.Rules.{Rule}
 use Rattle.description.specs.declared.Kind.{Kind}
 use Rattle.description.specs.declared.Kind.the-variants.{Static, Dynamic}
 use Rattle.description.specs.declared.Law.{Law}

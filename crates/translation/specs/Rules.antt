@@ -4,7 +4,7 @@ use mathlib.Core.Bool.{cond}
 use mathlib.Core.List.{List, [], _∷_, _++_, map}
 use Prim.Native.Nat.{ℕ, zero, suc, _+_, _-_, _*_, _%_}
 use lib.Dec.{eqb}
-use Rattle.answer_sets.specs.Rules.{Head, lit, falsum, Rule}
+use Rattle.logic_programs.specs.Rules.{Head, lit, falsum, Rule}
 use Rattle.search.specs.Search.{range}
 use Rattle.description.specs.declared.Head as described
 use Rattle.description.specs.declared.Head.the-variants.{Lit, False}

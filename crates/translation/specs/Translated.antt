@@ -7,8 +7,8 @@ use Prim.Native.Nat.{ℕ}
 use lib.Dec.{ltb}
 use lib.ListN.{length, drop}
 use Rattle.search.specs.Replies.{Reply, refused, answered, orRefuse, leftAfter}
-use Rattle.answer_sets.specs.Rules.{Rule}
-use Rattle.answer_sets.specs.Words.{words}
+use Rattle.logic_programs.specs.Rules.{Rule}
+use Rattle.logic_programs.specs.Words.{words}
 use Rattle.description.specs.declared.Law.{Law}
 use Rattle.description.specs.declared.Description.{Description}
 use Rattle.description.specs.Laws.{lawsOf}

@@ -14,7 +14,7 @@ ghost use Prim.Native.Nat.{_+_, _*_, _<_, _≤_};
 ghost use lib.ListN.{length, take, getD};
 ghost use lib.Seq.{sets};
 ghost use Rattle.search.specs.Search.{range};
-ghost use Rattle.answer_sets.specs.Words.{headWord, ruleWords, words};
+ghost use Rattle.logic_programs.specs.Words.{headWord, ruleWords, words};
 ghost use Rattle.translation.specs.Rules.{complement, headAt, perLaw, choices, actionAtoms};
 ghost use Rattle.translation.specs.Translated.{tableFor, overwritten};
 ghost use Rattle.translation.specs.Internal.{ruleFor, rulesOf};

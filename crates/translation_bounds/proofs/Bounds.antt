@@ -8,7 +8,7 @@ use native.Mathlib.Nat.{mul-le-mul, mul-le-mul-left, mul-le-mul-right, suc-mul}
 use native.Mathlib.Omega.{arith}
 use lib.ListN.{length, length-take}
 use Rattle.search.specs.Search.{Each}
-use Rattle.answer_sets.specs.Words.{words}
+use Rattle.logic_programs.specs.Words.{words}
 use Rattle.search.proofs.Tests.{each-map}
 use Rattle.search.proofs.Lists.{each-mapped}
 use Rattle.translation_bounds.proofs.Complements.{complement-below}

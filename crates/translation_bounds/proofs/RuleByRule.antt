@@ -8,7 +8,7 @@ use native.Mathlib.Omega.{arith}
 use Rattle.search.specs.Search.{Each, range}
 use Rattle.search.proofs.Tests.{each-append}
 use Rattle.search.proofs.Lists.{each-iff, each-both, each-forall, each-mapped, each-range}
-use Rattle.answer_sets.specs.Rules.{lit, Rule}
+use Rattle.logic_programs.specs.Rules.{lit, Rule}
 use Rattle.description.specs.declared.Kind.{Kind}
 use Rattle.description.specs.declared.Kind.the-variants.{Static, Dynamic}
 use Rattle.description.specs.declared.Law.{Law}

@@ -10,9 +10,9 @@ use native.Mathlib.Omega.{arith}
 use borrow.Author.Tests.{le-ltb}
 use lib.ListN.{length}
 use Rattle.search.specs.Replies.{answered}
-use Rattle.answer_sets.specs.Literals.{setOf}
+use Rattle.logic_programs.specs.Literals.{setOf}
 use Rattle.answer_sets.specs.Verdicts.{verdict}
-use Rattle.answer_sets.specs.Words.{rulesOf, badRule}
+use Rattle.logic_programs.specs.Words.{rulesOf, badRule}
 use Rattle.answer_sets.specs.Answers as engine
 use Rattle.answer_sets.proofs.Decoding.{words-accepted}
 use Rattle.answer_sets.proofs.Theorems.{accepted-judged}

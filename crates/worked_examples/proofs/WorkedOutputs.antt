@@ -2,9 +2,9 @@
 -- Assumes nothing.
 use mathlib.Core.Path.{refl}
 use Rattle.search.specs.Search.{Each}
-use Rattle.answer_sets.specs.Literals.{setOf, holdsTrue, holdsFalse}
+use Rattle.logic_programs.specs.Literals.{setOf, holdsTrue, holdsFalse}
 use Rattle.answer_sets.specs.Verdicts.{verdict}
-use Rattle.answer_sets.specs.Words.{rulesOf, badRule}
+use Rattle.logic_programs.specs.Words.{rulesOf, badRule}
 use Rattle.answer_sets.specs.Answers as engine
 use Rattle.description.specs.Acceptance.{badRecord, badHorizon}
 use Rattle.translation.specs.Rules.{complement, translation}

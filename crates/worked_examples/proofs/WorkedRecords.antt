@@ -3,9 +3,9 @@
 use mathlib.Core.Path.{refl}
 use Rattle.search.specs.Search.{Each}
 use Rattle.search.proofs.Lists.{each-mapped}
-use Rattle.answer_sets.specs.Literals.{setOf, holdsTrue, holdsFalse}
+use Rattle.logic_programs.specs.Literals.{setOf, holdsTrue, holdsFalse}
 use Rattle.answer_sets.specs.Verdicts.{verdict}
-use Rattle.answer_sets.specs.Words.{rulesOf, badRule}
+use Rattle.logic_programs.specs.Words.{rulesOf, badRule}
 use Rattle.answer_sets.specs.Answers as engine
 use Rattle.answer_sets.specs.Examples as engine-list
 use Rattle.answer_sets.proofs.Examples as engine-list-holds

@@ -9,7 +9,7 @@ use lib.ListN.{length}
 use mathlib.Core.Path.{fun-ext, ap}
 use lib.ListN.{length-replicate}
 use Rattle.answer_sets.specs.Verdicts.{rounds, round}
-use Rattle.answer_sets.specs.Words.{rulesOf}
+use Rattle.logic_programs.specs.Words.{rulesOf}
 use Rattle.answer_sets.specs.Internal.{marked}
 use Rattle.answer_sets.proofs.Stores.{clear-marks}
 use Rattle.answer_sets.proofs.Decoding.{accepted-below, codes-heads}

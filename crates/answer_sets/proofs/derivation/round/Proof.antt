@@ -6,7 +6,7 @@ use mathlib.Core.Path.{_≡_, sym, _∙_, fun-ext}
 use mathlib.Core.Bool.{false, _||_, or-false}
 use Prim.Native.Nat.{ℕ, _≤_, _-_}
 use lib.ListN.{length}
-use Rattle.answer_sets.specs.Words.{rulesOf}
+use Rattle.logic_programs.specs.Words.{rulesOf}
 use lib.ListN.{length-replicate}
 use Rattle.answer_sets.specs.Verdicts.{round}
 use Rattle.answer_sets.specs.Internal.{marked, Sound}

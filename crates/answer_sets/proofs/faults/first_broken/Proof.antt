@@ -5,7 +5,7 @@ use mathlib.Core.Path.{_≡_, refl, sym, _∙_}
 use Prim.Native.Nat.{_≤_, _+_, _-_}
 use lib.ListN.{length}
 use Rattle.search.specs.Search.{first}
-use Rattle.answer_sets.specs.Words.{rulesOf}
+use Rattle.logic_programs.specs.Words.{rulesOf}
 use Rattle.answer_sets.specs.Internal.{marked, Sound}
 use Rattle.answer_sets.specs.Verdicts.{isBroken}
 use Rattle.answer_sets.proofs.Fronts.{rule-stop, rule-go, rule-end, sound-size, sound-rest, left-behind, shorter}

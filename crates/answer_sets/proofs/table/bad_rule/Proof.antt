@@ -4,7 +4,7 @@ use native.Mathlib.Omega.{arith}
 use mathlib.Core.Path.{_≡_, sym}
 use Prim.Native.Nat.{_≤_, _+_, _-_}
 use lib.ListN.{length, length-drop}
-use Rattle.answer_sets.specs.Words.{ruleSize, badRule}
+use Rattle.logic_programs.specs.Words.{ruleSize, badRule}
 use Rattle.answer_sets.proofs.Decoding.{badRuleFrom, badRule-from}
 use Rattle.answer_sets.proofs.Fronts.{bad-many, bad-stop, bad-go, bad-end, fits-size, left-behind, shorter}
 use Rattle.answer_sets.proofs.table.bad_rule.Statement.{statement}

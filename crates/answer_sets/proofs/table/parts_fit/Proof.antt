@@ -5,7 +5,7 @@ use native.Mathlib.Omega.{arith}
 use mathlib.Core.Path.{_≡_, refl, sym, _∙_}
 use Prim.Native.Nat.{ℕ, _≤_, _-_}
 use lib.ListN.{length, getD, drop}
-use Rattle.answer_sets.specs.Words.{partsFit}
+use Rattle.logic_programs.specs.Words.{partsFit}
 use Rattle.search.proofs.Loops.{all-stop, all-go, all-done}
 use borrow.Author.Tests.{lt-ltb, le-ltb}
 use Rattle.answer_sets.proofs.Fronts.{half-below}

@@ -1,7 +1,7 @@
 -- `answer_sets::values::has` meets its contract.
 -- Assumes nothing.
 use borrow.Author.Tests.{eq-eqb, ne-eqb}
-use Rattle.answer_sets.specs.Literals.{setOf}
+use Rattle.logic_programs.specs.Literals.{setOf}
 use Rattle.answer_sets.proofs.Stores.{setOf-past}
 use mathlib.Core.Path.{sym}
 use borrow.Author.Needs.{needs}

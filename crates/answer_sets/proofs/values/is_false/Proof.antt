@@ -1,7 +1,7 @@
 -- `answer_sets::values::is_false` meets its contract.
 -- Assumes nothing.
 use borrow.Author.Tests.{eq-eqb, ne-eqb}
-use Rattle.answer_sets.specs.Literals.{holdsFalse}
+use Rattle.logic_programs.specs.Literals.{holdsFalse}
 use Rattle.answer_sets.proofs.values.is_false.Statement.{statement}
 use Rattle.answer_sets.proofs.values.is_false.Tie as tie
 

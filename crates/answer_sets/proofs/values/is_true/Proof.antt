@@ -1,7 +1,7 @@
 -- `answer_sets::values::is_true` meets its contract.
 -- Assumes nothing.
 use borrow.Author.Tests.{eq-eqb, ne-eqb}
-use Rattle.answer_sets.specs.Literals.{holdsTrue}
+use Rattle.logic_programs.specs.Literals.{holdsTrue}
 use Rattle.answer_sets.proofs.values.is_true.Statement.{statement}
 use Rattle.answer_sets.proofs.values.is_true.Tie as tie
 

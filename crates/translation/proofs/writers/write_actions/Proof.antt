@@ -5,7 +5,7 @@ use Prim.Native.Nat.{ℕ, _+_, _-_, _*_, _<_, _≤_}
 use native.Mathlib.Nat.{sub-zero, add-zero}
 use native.Mathlib.Omega.{arith}
 use Rattle.search.specs.Search.{range}
-use Rattle.answer_sets.specs.Words.{words}
+use Rattle.logic_programs.specs.Words.{words}
 use Rattle.translation.specs.Rules.{choices, actionAtoms}
 use Rattle.translation.proofs.Counts.{words-append}
 use Rattle.translation.proofs.Turns.{Turns, counted, Before, starts, fits, turned, finished}

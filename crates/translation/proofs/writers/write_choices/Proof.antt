@@ -6,7 +6,7 @@ use native.Mathlib.Omega.{arith}
 use lib.ListN.{length}
 use Rattle.search.specs.Search.{range}
 use Rattle.search.proofs.Tests.{length-range}
-use Rattle.answer_sets.specs.Words.{words}
+use Rattle.logic_programs.specs.Words.{words}
 use Rattle.translation.specs.Rules.{choices}
 use Rattle.translation.proofs.Counts.{length-words-choices}
 use Rattle.translation.proofs.RuleWords.{choices-at}

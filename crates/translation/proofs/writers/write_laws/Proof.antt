@@ -5,8 +5,8 @@ use mathlib.Core.Path.{_≡_, refl}
 use Prim.Native.Nat.{ℕ, _-_, _<_, _≤_}
 use native.Mathlib.Omega.{arith}
 use lib.ListN.{length, take, drop, getD}
-use Rattle.answer_sets.specs.Rules.{Rule}
-use Rattle.answer_sets.specs.Words.{words}
+use Rattle.logic_programs.specs.Rules.{Rule}
+use Rattle.logic_programs.specs.Words.{words}
 use Rattle.search.proofs.Loops.{rest-cons, rest-done}
 use Rattle.description.specs.declared.Kind.{Kind}
 use Rattle.description.specs.declared.Law.{Law}

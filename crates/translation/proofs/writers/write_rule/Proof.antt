@@ -3,7 +3,7 @@
 use Prim.Native.Nat.{_-_, _<_}
 use native.Mathlib.Omega.{arith}
 use lib.ListN.{length}
-use Rattle.answer_sets.specs.Words.{ruleWords}
+use Rattle.logic_programs.specs.Words.{ruleWords}
 use Rattle.translation.specs.Internal.{ruleFor}
 use Rattle.translation.proofs.RuleWords.{rule-length}
 use Rattle.translation.proofs.Writing.{Storing, storing-first, storing-next, storing-last}

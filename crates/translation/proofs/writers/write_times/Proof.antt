@@ -6,7 +6,7 @@ use Prim.Native.Nat.{ℕ, _-_, _<_}
 use native.Mathlib.Nat.{sub-zero}
 use native.Mathlib.Omega.{arith}
 use Rattle.search.specs.Search.{range}
-use Rattle.answer_sets.specs.Words.{ruleWords, words}
+use Rattle.logic_programs.specs.Words.{ruleWords, words}
 use Rattle.description.specs.declared.Law.{Law}
 use Rattle.translation.specs.Internal.{ruleFor}
 use Rattle.translation.proofs.Turns.{Turns, counted, Before, starts, fits, turned, finished}

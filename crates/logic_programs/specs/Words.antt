@@ -8,7 +8,7 @@ use Prim.Native.Nat.{ℕ, zero, suc, _+_, _*_}
 use lib.Dec.{eqb, ltb, leb}
 use lib.ListN.{length, getD, take, drop}
 use Rattle.search.specs.Search.{all}
-use Rattle.answer_sets.specs.Rules.{Head, lit, falsum, Rule}
+use Rattle.logic_programs.specs.Rules.{Head, lit, falsum, Rule}
 
 abbrev pub headWord : Head → ℕ
 headWord (lit c) = c

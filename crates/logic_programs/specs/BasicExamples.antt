@@ -7,10 +7,10 @@ use mathlib.Core.List.{List, [], _∷_}
 use Prim.Native.Nat.{ℕ}
 use lib.Dec.{eqb}
 use Rattle.search.specs.Search.{Each, chosen, range}
-use Rattle.answer_sets.specs.Literals.{Lits, setOf}
-use Rattle.answer_sets.specs.Rules.{Head, lit, falsum, Rule}
-use Rattle.answer_sets.specs.AnswerSets.{PositiveRule, reduct, Closed, ProperSubset, Consistent, AnswerSet, literalHeaded, IsLeastClosed}
-use Rattle.answer_sets.specs.Words.{words, rulesOf}
+use Rattle.logic_programs.specs.Literals.{Lits, setOf}
+use Rattle.logic_programs.specs.Rules.{Head, lit, falsum, Rule}
+use Rattle.logic_programs.specs.AnswerSets.{PositiveRule, reduct, Closed, ProperSubset, Consistent, AnswerSet, literalHeaded, IsLeastClosed}
+use Rattle.logic_programs.specs.Words.{words, rulesOf}
 
 -- the set of the listed literals
 abbrev pub codes : List ℕ → Lits

@@ -10,11 +10,11 @@ use lib.Dec.{eqb}
 use borrow.Author.Tests.{eqb-true}
 use Rattle.search.specs.Search.{Each, chosen, range}
 use Rattle.search.proofs.Tests.{not-both, or-iff}
-use Rattle.answer_sets.specs.Literals.{Lits, setOf, holdsTrue, holdsFalse}
-use Rattle.answer_sets.specs.Rules.{Rule}
-use Rattle.answer_sets.specs.AnswerSets.{reduct, Closed, Subset, ProperSubset, Consistent, AnswerSet, literalHeaded, IsLeastClosed}
-use Rattle.answer_sets.specs.Words.{words, rulesOf}
-use Rattle.answer_sets.specs.BasicExamples.{codes, p, ¬p, q, r, four, fourReduct, recipeRules, recipeWords, IsAnswerSet, answerSets, Reason, inconsistent, unclosed, smaller, Shown, IsOther, otherSets, DefinitionsHold}
+use Rattle.logic_programs.specs.Literals.{Lits, setOf, holdsTrue, holdsFalse}
+use Rattle.logic_programs.specs.Rules.{Rule}
+use Rattle.logic_programs.specs.AnswerSets.{reduct, Closed, Subset, ProperSubset, Consistent, AnswerSet, literalHeaded, IsLeastClosed}
+use Rattle.logic_programs.specs.Words.{words, rulesOf}
+use Rattle.logic_programs.specs.BasicExamples.{codes, p, ¬p, q, r, four, fourReduct, recipeRules, recipeWords, IsAnswerSet, answerSets, Reason, inconsistent, unclosed, smaller, Shown, IsOther, otherSets, DefinitionsHold}
 
 infixr 20 _&_
 -- what the definitions compute

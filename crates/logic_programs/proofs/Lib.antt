@@ -1,0 +1,2 @@
+-- The worked examples of the definitions.
+pub mod BasicExamples
