@@ -1,6 +1,6 @@
 -- What the counting loop keeps: sums over the laws not yet passed, and what one law adds.
 -- Assumes nothing.
-use mathlib.Core.Path.{_≡_, refl}
+use mathlib.Core.Path.{_≡_, refl, _∙_}
 use mathlib.Core.List.{List, [], _∷_}
 use Prim.Native.Nat.{ℕ, suc, _+_, _*_, _<_, _≤_}
 use native.Mathlib.Nat.{add-zero}
@@ -12,9 +12,11 @@ use Rattle.description.specs.declared.Kind.{Kind}
 use Rattle.description.specs.declared.Kind.the-variants.{Static, Dynamic}
 use Rattle.description.specs.declared.Law.{Law}
 use Rattle.description.specs.Laws.{ifList}
-use Rattle.search.proofs.Loops.{rest-cons}
+use Rattle.search.proofs.Loops.{rest-cons, rest-done}
+use Rattle.answer_sets.specs.Words.{words as wordsOf}
+use Rattle.translation.specs.Rules.{translation}
 use Rattle.translation.specs.Internal.{byKind, plainList}
-use Rattle.translation.proofs.Counts.{sumLaws, staticOf, dynamicOf, statics, dynamics, lawWordsOf}
+use Rattle.translation.proofs.Counts.{sumLaws, staticOf, dynamicOf, statics, dynamics, lawWordsOf, rule-count, word-count}
 
 -- what is counted and what the laws not yet passed count make up what the count began with and what all of them count
 abbrev pub Counted : (Kind → Law → ℕ) → List Law → ℕ → ℕ → ℕ → Type 0
@@ -31,9 +33,8 @@ abbrev pub past : Law
 past = record { kind = Static; head = Lit 0; «if_count» = 0; «if_codes» = []; «after_count» = 0; «after_codes» = [] }
 
 -- as many rules as a law has, each of one size
-pub law-words : (T : ℕ) (l : Law) {x y : ℕ} → x ≡ byKind (T + 1) T (l .kind) → y ≡ 3 + length (ifList l) + length (plainList l)
-    → x * y ≡ lawWordsOf T (l .kind) l
-law-words T l p q = rw (p, q) (go (l .kind))
+law-words : (T : ℕ) (l : Law) → byKind (T + 1) T (l .kind) * (3 + length (ifList l) + length (plainList l)) ≡ lawWordsOf T (l .kind) l
+law-words T l = go (l .kind)
   where
     go : (k : Kind) → byKind (T + 1) T k * (3 + length (ifList l) + length (take (byKind 0 (l .«after_count») k) (l .«after_codes»))) ≡ lawWordsOf T k l
     go Static = rw (add-one T, add-zero (3 + length (ifList l)))
@@ -50,3 +51,49 @@ rules-sum T (l ∷ ls) = omega (arith, rules-sum T ls, one (l .kind))
     one : (k : Kind) → byKind (T + 1) T k ≡ staticOf k * suc T + dynamicOf k * T
     one Static = omega arith
     one Dynamic = omega arith
+
+-- what the counting loop keeps
+pub record Counting (T : ℕ) (laws : List Law) (count rules₀ words₀ rules words i : ℕ) : Type 0 where
+  pub upto : i ≤ count
+  pub held : length laws ≡ 64
+  pub few-rules : rules ≤ rules₀ + 31 * i
+  pub few-words : words ≤ words₀ + 465 * i
+  pub all-rules : Counted (ruleTimes T) (take count laws) i rules rules₀
+  pub all-words : Counted (lawWordsOf T) (take count laws) i words words₀
+
+pub counting-first : (T : ℕ) (laws : List Law) (count rules words : ℕ) → length laws ≡ 64 → Counting T laws count rules words rules words 0
+counting-first T laws count rules words held =
+    record {
+      upto = omega arith;
+      held = held;
+      few-rules = omega arith;
+      few-words = omega arith;
+      all-rules = refl;
+      all-words = refl;
+    }
+
+pub counting-next : {T : ℕ} {laws : List Law} {count rules₀ words₀ rules words i x y : ℕ} → Counting T laws count rules₀ words₀ rules words i
+    → i < count → count ≤ 64 → (x ≡ byKind (T + 1) T (getD laws i past .kind)) × (x ≤ 31)
+    → (y ≡ byKind (T + 1) T (getD laws i past .kind) * (3 + length (ifList (getD laws i past)) + length (plainList (getD laws i past)))) × (y ≤ 465)
+    → Counting T laws count rules₀ words₀ (rules + x) (words + y) (i + 1)
+counting-next {T} {laws} {count} {rules₀} {words₀} {rules} {words} {i} {x} {y} inv here few xs ys =
+    let all : count ≤ length laws = omega arith in
+    record {
+      upto = omega arith;
+      held = inv .held;
+      few-rules = omega arith;
+      few-words = omega arith;
+      all-rules = sum-turn (ruleTimes T) laws past count i rules rules₀ here all (xs .0) (inv .all-rules);
+      all-words = sum-turn (lawWordsOf T) laws past count i words words₀ here all (ys .0 ∙ law-words T (getD laws i past)) (inv .all-words);
+    }
+
+-- all laws are counted
+pub counting-last : (n m : ℕ) {T : ℕ} {laws : List Law} {count rules words i : ℕ}
+    → Counting T laws count (2 * (n + T * m)) (8 * (n + T * m)) rules words i → count ≤ i
+    → (rules ≡ length (translation n m T (take count laws))) × (words ≡ length (wordsOf (translation n m T (take count laws))))
+counting-last n m {T} {laws} {count} {rules} {words} {i} inv h =
+    let ls = take count laws in
+    let done = rest-done laws count i h in
+    let r = rw done at (inv .all-rules) in
+    let w = rw done at (inv .all-words) in
+    (omega (arith, r, rule-count n m T ls, rules-sum T ls), omega (arith, w, word-count n m T ls))

@@ -1,22 +1,15 @@
 -- `sizes_needed` meets its contract. The invariant: of rules and of words, what is counted and what the laws not yet passed
 -- have make up the whole.
 -- Assumes nothing.
-use mathlib.Core.Path.{_≡_, refl}
 use Prim.Native.Nat.{_+_, _-_, _*_, _≤_}
 use native.Mathlib.Omega.{arith}
-use lib.ListN.{length, take, drop, getD}
-use Rattle.search.proofs.Loops.{rest-done}
-use Rattle.translation.proofs.Counts.{lawWordsOf, rule-count, word-count}
-use Rattle.translation.proofs.RuleWords.{by-kind-bound}
-use Rattle.translation.proofs.Sums.{Counted, past, sum-turn, law-words, ruleTimes, rules-sum}
+use Rattle.translation.proofs.Sums.{Counting, counting-first, counting-next, counting-last}
 use Rattle.translation.proofs.Writing.{product-bound}
 use Rattle.translation.proofs.sizes.sizes_needed.Statement.{statement}
 use Rattle.translation.proofs.sizes.sizes_needed.Tie as tie
 
 abbrev Inv-loop : tie.InvT-loop
-Inv-loop laws count horizon chosen rules₀ words₀ i₀ rules words i =
-    (i ≤ count) × (length laws ≡ 64) × (rules ≤ rules₀ + 31 * i) × (words ≤ words₀ + 465 * i)
-    × Counted (ruleTimes horizon) (take count laws) i rules rules₀ × Counted (lawWordsOf horizon) (take count laws) i words words₀
+Inv-loop laws count horizon chosen rules₀ words₀ i₀ rules words i = Counting horizon laws count rules₀ words₀ rules words i
 
 abbrev μ-loop : tie.MeasureT-loop
 μ-loop laws count horizon chosen rules₀ words₀ i₀ rules words i = count - i
@@ -37,7 +30,7 @@ mul-words : tie.Need-mul-words Inv-loop μ-loop
 mul-words c = omega (arith, bound (c .before .before))
 
 loop-holds : tie.Need-loop-holds Inv-loop μ-loop
-loop-holds c = (omega arith, c .before .before .good .1 .0 .1 .0 .1, omega arith, omega arith, refl, refl)
+loop-holds c = counting-first _ _ _ _ _ (c .before .before .good .1 .0 .1 .0 .1)
 
 mul-law : tie.Need-mul-law Inv-loop μ-loop
 mul-law c = omega arith
@@ -45,33 +38,14 @@ mul-law c = omega arith
 array-copy-out-law : tie.Need-array-copy-out-law Inv-loop μ-loop
 array-copy-out-law c = omega arith
 
-add-by-kind : tie.Need-add-by-kind Inv-loop μ-loop
-add-by-kind c = omega arith
-
-by-kind-requires : tie.Need-by-kind-requires Inv-loop μ-loop
-by-kind-requires c κs = tt
-
-few : (c : tie.After-by-kind Inv-loop μ-loop) → c .by-kind .result ≤ 31
-few c =
-    let h = c .before .before .before in
-    let a = h .before .before .before .args in
-    let d = a .d in
-    omega (arith, c .by-kind .ensures, by-kind-bound (d .horizon + 1) (d .horizon) 31 (getD (a .t2) (h .loop .i) past .kind) (omega arith) (omega arith))
+law-sizes-requires : tie.Need-law-sizes-requires Inv-loop μ-loop
+law-sizes-requires c κs = c .before .before .before .before .before .pre .3
 
 add-rules : tie.Need-add-rules Inv-loop μ-loop
-add-rules c = omega (arith, few c, bound (c .before .before .before .before .before .before))
-
-rule-size-requires : tie.Need-rule-size-requires Inv-loop μ-loop
-rule-size-requires c κs = tt
-
-most : (c : tie.After-rule-size Inv-loop μ-loop) → c .before .by-kind .result * c .rule-size .result ≤ 31 * 15
-most c = product-bound _ _ 31 15 (few (c .before)) (c .rule-size .ensures .1)
-
-mul-words-2 : tie.Need-mul-words-2 Inv-loop μ-loop
-mul-words-2 c = omega (arith, most c)
+add-rules c = omega (arith, bound (c .before .before .before .before .before .before .before))
 
 add-words : tie.Need-add-words Inv-loop μ-loop
-add-words c = omega (arith, bound (c .before .before .before .before .before .before .before), most c)
+add-words c = omega (arith, bound (c .before .before .before .before .before .before .before .before))
 
 add-i : tie.Need-add-i Inv-loop μ-loop
 add-i c = omega arith
@@ -81,31 +55,15 @@ loop-less c = omega arith
 
 loop-again : tie.Need-loop-again Inv-loop μ-loop
 loop-again c =
-    let h = c .before .before .before .before in
-    let a = h .before .before .before .args in
-    let d = a .d in
-    let times = c .before .by-kind .ensures in
-    let words = law-words (d .horizon) (getD (a .t2) (h .loop .i) past) times (c .rule-size .ensures .0) in (
-      omega arith,
-      h .loop .inv .1,
-      omega (arith, few (c .before)),
-      omega (arith, most c),
-      sum-turn (ruleTimes (d .horizon)) (a .t2) past (d .laws) (h .loop .i) (h .loop .rules) _ (omega arith) (omega arith) times (h .loop .inv .4),
-      sum-turn (lawWordsOf (d .horizon)) (a .t2) past (d .laws) (h .loop .i) (h .loop .words) _ (omega arith) (omega arith) words (h .loop .inv .5),
-    )
+    let more = c .before .before .law-sizes .ensures in
+    let t = c .before .before .before .before in
+    let h = t .before in
+    counting-next (h .loop .inv) (t .loop-test .taken) (h .before .before .before .pre .2) (more .0) (more .1)
 
 returns : tie.Need-returns Inv-loop μ-loop
 returns c =
-    let h = c .before in
-    let a = h .before .before .before .args in
-    let d = a .d in
-    let ls = take (d .laws) (a .t2) in
-    let done = rest-done (a .t2) (d .laws) (h .loop .i) (c .loop-test .left) in
-    let rules = rw done at (h .loop .inv .4) in
-    let words = rw done at (h .loop .inv .5) in (
-      omega (arith, rules, rule-count (d .fluents) (d .actions) (d .horizon) ls, rules-sum (d .horizon) ls),
-      omega (arith, words, word-count (d .fluents) (d .actions) (d .horizon) ls),
-    )
+    let d = c .before .before .before .before .args .d in
+    counting-last (d .fluents) (d .actions) (c .before .loop .inv) (c .loop-test .left)
 
 pub sizes-needed-spec : {M : Type 1} → statement M
 sizes-needed-spec =
@@ -120,11 +78,8 @@ sizes-needed-spec =
     loop-holds
     mul-law
     array-copy-out-law
-    add-by-kind
-    by-kind-requires
+    law-sizes-requires
     add-rules
-    rule-size-requires
-    mul-words-2
     add-words
     add-i
     loop-less
