@@ -13,7 +13,7 @@ use Rattle.description.specs.declared.Kind.the-variants.{Static, Dynamic}
 use Rattle.description.specs.declared.Law.{Law}
 use Rattle.description.specs.Laws.{ifList}
 use Rattle.search.proofs.Loops.{rest-cons, rest-done}
-use Rattle.answer_sets.specs.Words.{words as wordsOf}
+use Rattle.logic_programs.specs.Words.{words as wordsOf}
 use Rattle.translation.specs.Rules.{translation}
 use Rattle.translation.specs.Internal.{byKind, plainList}
 use Rattle.translation.proofs.Counts.{sumLaws, staticOf, dynamicOf, statics, dynamics, lawWordsOf, rule-count, word-count}
