@@ -1,20 +1,18 @@
 -- What is known of an input whose description is read, and what the readers' answers say of the whole input.
 -- Assumes nothing.
-use mathlib.Core.Path.{_≡_, refl, sym, ap, subst, _∙_}
-use mathlib.Core.Bool.{Bool, true, false, cond}
-use mathlib.Core.List.{List, [], _∷_, _++_}
-use mathlib.Core.Option.{Option, none, some}
-use Prim.Native.Nat.{ℕ, suc, _+_, _-_, _*_, _≤_, _<_}
+use mathlib.Core.Path.{_≡_, refl, sym, ap, _∙_}
+use mathlib.Core.List.{List, _++_}
+use Prim.Native.Nat.{ℕ, _+_, _-_, _*_, _≤_}
 use native.Mathlib.Nat.{mul-le-mul}
 use native.Mathlib.Omega.{arith}
 use borrow.Author.Tests.{eq-eqb}
-use lib.Dec.{eqb, ltb}
+use lib.Dec.{ltb}
 use lib.ListN.{length, take, drop, replicate, length-append, length-replicate, replicate-append-replicate}
 use lib.Seq.{drop-at, take-at, take-all}
 use Rattle.search.specs.Replies.{Reply, refused, answered}
 use Rattle.description_reader.specs.LineSteps.{lawDue, Draft}
-use Rattle.description_reader.specs.Descriptions.{Taken, read, described, descriptionOf}
-use Rattle.description_reader.specs.Answers.{Behind, behind, replied, recordOf}
+use Rattle.description_reader.specs.Descriptions.{Taken, read, described}
+use Rattle.description_reader.specs.Answers.{behind, replied}
 use Rattle.history_reader.specs.Histories.{atoms, statesFrom, readHistory, historyReplied, valuesLeft}
 use Rattle.reader_bounds.proofs.Drafts.{Limited, chosen, BoundedReply, bounded}
 use Rattle.inputs.specs.Inputs.{movedBy, recordedIn}

@@ -1,9 +1,7 @@
 -- `bytes::put_word` meets its contract: the table has the word's bytes, and past it there is no word.
 -- Assumes nothing.
-use mathlib.Core.Path.{refl, sym, ap, subst}
+use mathlib.Core.Path.{refl}
 use native.Mathlib.Omega.{arith}
-use lib.ListN.{length}
-use Rattle.output_lines.specs.Internal.{wordAt}
 use Rattle.output_lines.proofs.WordTable.{row, no-word, word-short}
 use borrow.Author.Needs.{needs}
 use Rattle.output_lines.proofs.bytes.put_word.Statement.{statement}
