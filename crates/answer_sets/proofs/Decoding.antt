@@ -1,30 +1,24 @@
 -- A rule table's words and its rules: decoding in steps, decoding the words of rules, and what an accepted table has.
 -- Assumes nothing.
 use mathlib.Core.Path.{_≡_, refl, sym, ap, _∙_}
-use mathlib.Core.Logic.{_↔_, _≢_, inr}
-use mathlib.Core.Bool.{Bool, true, false, cond, _&&_}
+use mathlib.Core.Logic.{_≢_, inr}
+use mathlib.Core.Bool.{Bool, true, false, _&&_}
 use mathlib.Core.List.{List, [], _∷_, _++_, append-assoc}
-use mathlib.Core.Option.{Option, none, some}
+use mathlib.Core.Option.{none}
 use Prim.Native.Nat.{ℕ, zero, suc, _+_, _*_, _≤_, _<_}
 use native.Mathlib.Omega.{arith}
-use lib.Dec.{eqb, ltb, leb}
-use lib.ListN.{length, getD, take, drop, length-append, length-drop}
+use lib.Dec.{eqb, ltb}
+use lib.ListN.{length, getD, take, drop, length-append}
 use lib.Seq.{drop-drop, take-append-seam, drop-append-seam, take-at, take-add}
 use Rattle.search.specs.Search.{Each}
 use Rattle.logic_programs.specs.Rules.{Head, lit, falsum, Rule}
-use Rattle.logic_programs.specs.Words.{headWord, ruleWords, words, headOf, ruleSize, ruleAt, rulesIn, rulesOf, headFits, partsFit, ruleFits, badRuleIn, badRule}
-use Rattle.search.proofs.Tests.{true-of-not, and-iff, and₃-iff, or-iff, each-map, all-each, each-append}
+use Rattle.logic_programs.specs.Words.{headWord, ruleWords, words, headOf, ruleSize, ruleAt, rulesIn, rulesOf, headFits, ruleFits, badRuleIn, badRule}
+use Rattle.search.proofs.Tests.{true-of-not, and-iff, or-iff, each-map, each-append}
+use Rattle.rule_tables.proofs.Fitting.{afterRule, fewer, badRuleFrom, badRuleFrom-cons, badRuleFrom-nil, badRule-from, ruleFits-iff}
 use Rattle.answer_sets.proofs.Least.{HeadBelow, HeadsBelow}
-use borrow.Author.Tests.{ltb-true, lt-ltb, leb-true, le-leb, ne-eqb}
+use borrow.Author.Tests.{ltb-true, lt-ltb, ne-eqb}
 
--- Any fuel is enough that is not less than the words: rules
-
--- the words after the first rule
-abbrev pub afterRule : List ℕ → List ℕ
-afterRule ws = drop (ruleSize ws) ws
-
-fewer : (w : ℕ) (ws : List ℕ) (k : ℕ) → length (w ∷ ws) ≤ suc k → length (afterRule (w ∷ ws)) ≤ k
-fewer w ws k h = omega (arith, length-drop (ruleSize (w ∷ ws)) (w ∷ ws))
+-- Any fuel is enough that is not less than the words
 
 rulesIn-same : (k j : ℕ) (ws : List ℕ) → length ws ≤ k → length ws ≤ j → rulesIn k ws ≡ rulesIn j ws
 rulesIn-same zero zero ws h g = refl
@@ -46,42 +40,6 @@ rulesOf-nil = refl
 pub rulesOf-cons : (w : ℕ) (ws : List ℕ) → rulesOf (w ∷ ws) ≡ ruleAt (w ∷ ws) ∷ rulesOf (drop (ruleSize (w ∷ ws)) (w ∷ ws))
 unfolding rulesOf
 rulesOf-cons w ws = ap {B = List Rule} (λ rs. ruleAt (w ∷ ws) ∷ rs) (rulesIn-enough (length ws) (afterRule (w ∷ ws)) (fewer w ws (length ws) (omega arith)))
-
--- and refusals
-
-badRuleIn-same : (n f g k at : ℕ) (ws : List ℕ) → length ws ≤ f → length ws ≤ g → badRuleIn f n k at ws ≡ badRuleIn g n k at ws
-badRuleIn-same n zero zero k at ws p q = refl
-badRuleIn-same n zero (suc g) k at [] p q = refl
-badRuleIn-same n zero (suc g) k at (w ∷ ws) p q = absurd (omega arith)
-badRuleIn-same n (suc f) zero k at [] p q = refl
-badRuleIn-same n (suc f) zero k at (w ∷ ws) p q = absurd (omega arith)
-badRuleIn-same n (suc f) (suc g) k at [] p q = refl
-badRuleIn-same n (suc f) (suc g) k at (w ∷ ws) p q =
-    ap {B = Option ℕ} (λ o. cond (ltb k 4096 && ruleFits n (w ∷ ws)) o (some at))
-    (badRuleIn-same n f g (suc k) (at + ruleSize (w ∷ ws)) (afterRule (w ∷ ws)) (fewer w ws f p) (fewer w ws g q))
-
-pub badRuleIn-enough : (f n k at : ℕ) (ws : List ℕ) → length ws ≤ f → badRuleIn f n k at ws ≡ badRuleIn (length ws) n k at ws
-badRuleIn-enough f n k at ws h = badRuleIn-same n f (length ws) k at ws h (omega arith)
-
-unfoldable pub badRuleFrom : ℕ → ℕ → ℕ → List ℕ → Option ℕ
-badRuleFrom n k at ws = badRuleIn (length ws) n k at ws
-
-pub badRuleFrom-cons : (n k at w : ℕ) (ws : List ℕ) → badRuleFrom n k at (w ∷ ws)
-    ≡ cond (ltb k 4096 && ruleFits n (w ∷ ws))
-    (badRuleFrom n (suc k) (at + ruleSize (w ∷ ws)) (drop (ruleSize (w ∷ ws)) (w ∷ ws)))
-    (some at)
-unfolding badRuleFrom
-badRuleFrom-cons n k at w ws =
-    ap {B = Option ℕ} (λ o. cond (ltb k 4096 && ruleFits n (w ∷ ws)) o (some at))
-    (badRuleIn-enough (length ws) n (suc k) (at + ruleSize (w ∷ ws)) (afterRule (w ∷ ws)) (fewer w ws (length ws) (omega arith)))
-
-pub badRuleFrom-nil : (n k at : ℕ) → badRuleFrom n k at [] ≡ none
-unfolding badRuleFrom
-badRuleFrom-nil n k at = refl
-
-pub badRule-from : (n : ℕ) (ws : List ℕ) → badRule n ws ≡ badRuleFrom n 0 0 ws
-unfolding badRule badRuleFrom
-badRule-from n ws = refl
 
 -- The words of rules decode to the rules
 
@@ -145,26 +103,6 @@ codes-coded N Π h small = each-map (λ r b. coded (r .head) (b .0)) Π h
     coded : (h : Head) → HeadBelow N h → HeadCoded h
     coded (lit c) b = omega arith
     coded falsum b = tt
-
-partsFit-iff : (n : ℕ) (cs : List ℕ) → partsFit n cs ≡ true ↔ Each (λ c. c < 2 * n) cs
-partsFit-iff n cs = (
-  λ e. each-map (λ c t. ltb-true c (2 * n) t) cs (all-each (λ c. ltb c (2 * n)) cs .0 e),
-  λ h. all-each (λ c. ltb c (2 * n)) cs .1 (each-map (λ c b. lt-ltb c (2 * n) b) cs h),
-)
-
--- a rule fits: it does not run past the end, its head is in range, and so are its parts
-pub ruleFits-iff : (n : ℕ) (ws : List ℕ) → ruleFits n ws ≡ true
-    ↔ ((ruleSize ws ≤ length ws) × (headFits n (getD ws 0 0) ≡ true) × Each (λ c. c < 2 * n) (take (getD ws 1 0 + getD ws 2 0) (drop 3 ws)))
-ruleFits-iff n ws = (
-  λ e. let h = both .0 e in (leb-true _ _ (h .0), h .1, partsFit-iff n parts .0 (h .2)),
-  λ h. both .1 (le-leb _ _ (h .0), h .1, partsFit-iff n parts .1 (h .2)),
-)
-  where
-    parts : List ℕ
-    parts = take (getD ws 1 0 + getD ws 2 0) (drop 3 ws)
-
-    both : ruleFits n ws ≡ true ↔ ((leb (ruleSize ws) (length ws) ≡ true) × (headFits n (getD ws 0 0) ≡ true) × (partsFit n parts ≡ true))
-    both = and₃-iff (leb (ruleSize ws) (length ws)) (headFits n (getD ws 0 0)) (partsFit n parts)
 
 word-fits : (n : ℕ) (h : Head) → HeadBelow (2 * n) h → headFits n (headWord h) ≡ true
 word-fits n (lit c) b = or-iff (eqb c 65535) (ltb c (2 * n)) .1 (inr (lt-ltb c (2 * n) b))

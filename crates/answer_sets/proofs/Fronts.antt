@@ -5,58 +5,24 @@ use mathlib.Core.Bool.{Bool, true, false, cond, not, _&&_, _||_, and-false, fals
 use mathlib.Core.List.{List, [], _∷_}
 use mathlib.Core.Option.{Option, none, some}
 use mathlib.Core.Logic.{_⊎_, inl, inr, ⊎-elim}
-use Prim.Native.Nat.{ℕ, zero, suc, _+_, _-_, _*_, _/_, _≤_, _<_}
+use Prim.Native.Nat.{ℕ, suc, _+_, _*_, _≤_, _<_}
 use native.Mathlib.Numerals.{add-one}
 use native.Mathlib.Omega.{arith}
-use borrow.Author.Tests.{lt-leb, le-leb, not-true, not-false, ltb-true, ltb-false, lt-ltb, le-ltb, eqb-true, eqb-false}
-use lib.Dec.{eqb, ltb, leb}
-use lib.ListN.{length, getD, take, drop, set, length-drop, length-set}
-use Rattle.search.specs.Search.{all, first}
+use borrow.Author.Tests.{not-true, ltb-true, eqb-true, eqb-false}
+use lib.Dec.{eqb, ltb}
+use lib.ListN.{length, getD, drop, set, length-set}
+use Rattle.search.specs.Search.{first}
 use Rattle.search.proofs.Tests.{and-iff, or-iff}
-use Rattle.search.proofs.Loops.{to-the-end}
 use Rattle.logic_programs.specs.Literals.{Lits}
 use Rattle.logic_programs.specs.Rules.{Rule, lit, falsum}
-use Rattle.answer_sets.specs.Verdicts.{applies, round, headIs}
-use Rattle.logic_programs.specs.Words.{ruleSize, ruleAt, ruleFits, headFits, partsFit, headOf, rulesOf, badRuleIn, badRule}
-use Rattle.answer_sets.specs.Internal.{Sound, marked, derives}
+use Rattle.rule_tables.specs.Bodies.{marked, applies, frontApplies, frontDerives}
+use Rattle.answer_sets.specs.Verdicts.{round, headIs}
+use Rattle.logic_programs.specs.Words.{ruleSize, ruleAt, ruleFits, headFits, headOf, rulesOf, badRule}
+use Rattle.answer_sets.specs.Internal.{Sound}
 use Rattle.answer_sets.proofs.Stores.{getD-set}
-use Rattle.answer_sets.proofs.Decoding.{rulesOf-nil, rulesOf-cons, badRuleFrom, badRuleFrom-cons, badRuleFrom-nil, badRule-from, ruleFits-iff}
-
--- a rule applies: first its negated parts are looked at, then its plain ones
-module _ (X Y : Lits) (ws : List ℕ) (r : Bool) (is : r ≡ all (λ c. not (X c)) (take (3 + getD ws 1 0 - 3) (drop 3 ws))) where
-  negated : r ≡ all (λ c. not (X c)) (ruleAt ws .negated)
-  negated = let e : 3 + getD ws 1 0 - 3 ≡ getD ws 1 0 = omega arith in rw e at is
-
-  pub applies-stop : not r ≡ true → false ≡ applies X Y (ruleAt ws)
-  applies-stop e = rw (← negated, not-true r e)
-
-  pub applies-go : (q : Bool) → not r ≡ false → q ≡ all Y (take (3 + getD ws 1 0 + getD ws 2 0 - (3 + getD ws 1 0)) (drop (3 + getD ws 1 0) ws))
-      → q ≡ applies X Y (ruleAt ws)
-  applies-go q e plain =
-      let size : 3 + getD ws 1 0 + getD ws 2 0 - (3 + getD ws 1 0) ≡ getD ws 2 0 = omega arith in
-      rw (← negated, not-false r e) (rw size at plain)
-
--- a code is below 2 × atoms where its atom is below atoms
-pub half-below : (c n : ℕ) → ltb (c / 2) n ≡ ltb c (2 * n)
-half-below c n = go (ltb (c / 2) n) refl
-  where
-    go : (b : Bool) → ltb (c / 2) n ≡ b → b ≡ ltb c (2 * n)
-    go true t = sym (lt-ltb c (2 * n) (omega (arith, ltb-true (c / 2) n t)))
-    go false f = sym (le-ltb c (2 * n) (omega (arith, ltb-false (c / 2) n f)))
-
--- a rule fits: the tests in the order of the code
-module _ (n : ℕ) (ws : List ℕ) where
-  pub fits-short : length ws < ruleSize ws → false ≡ ruleFits n ws
-  fits-short h = rw (lt-leb (ruleSize ws) (length ws) h)
-
-  pub fits-head : (r : Bool) → ruleSize ws ≤ length ws → r ≡ headFits n (getD ws 0 0) → not r ≡ true → false ≡ ruleFits n ws
-  fits-head r h is e = rw (le-leb (ruleSize ws) (length ws) h, ← is, not-true r e)
-
-  pub fits-parts : (r q : Bool) (size : ℕ) → size ≡ ruleSize ws → size ≤ length ws → r ≡ headFits n (getD ws 0 0) → not r ≡ false
-      → q ≡ partsFit n (take (size - 3) (drop 3 ws)) → q ≡ ruleFits n ws
-  fits-parts r q size s h is e parts =
-      let same : size - 3 ≡ getD ws 1 0 + getD ws 2 0 = omega arith in
-      rw (le-leb (ruleSize ws) (length ws) (omega arith), ← is, not-false r e) (rw same at parts)
+use Rattle.rule_tables.proofs.Fitting.{badRuleFrom, badRule-from, ruleFits-iff}
+use Rattle.rule_tables.proofs.Fronts.{whole-derives, bad-front}
+use Rattle.answer_sets.proofs.Decoding.{rulesOf-nil, rulesOf-cons}
 
 -- a table of rules that is not at its end
 pub rules-front : (ws : List ℕ) → 0 < length ws → rulesOf ws ≡ ruleAt ws ∷ rulesOf (drop (ruleSize ws) ws)
@@ -66,34 +32,6 @@ rules-front (w ∷ ws) h = rulesOf-cons w ws
 pub rules-end : (ws : List ℕ) → length ws ≤ 0 → rulesOf ws ≡ []
 rules-end [] h = rulesOf-nil
 rules-end (w ∷ ws) h = absurd (omega arith)
-
--- the search for the first rule that does not fit
-bad-front : (n k at : ℕ) (ws : List ℕ) → 0 < length ws → badRuleFrom n k at ws
-    ≡ cond (ltb k 4096 && ruleFits n ws) (badRuleFrom n (suc k) (at + ruleSize ws) (drop (ruleSize ws) ws)) (some at)
-bad-front n k at [] h = absurd (omega arith)
-bad-front n k at (w ∷ ws) h = badRuleFrom-cons n k at w ws
-
-module _ (n k at : ℕ) (ws : List ℕ) {R : Option ℕ} where
-  pub bad-many : 0 < length ws → badRuleFrom n k at ws ≡ R → 4096 ≤ k → some at ≡ R
-  bad-many h inv many = rw (bad-front n k at ws h, le-ltb k 4096 many) at inv
-
-  pub bad-stop : (r : Bool) → 0 < length ws → badRuleFrom n k at ws ≡ R → r ≡ ruleFits n ws → not r ≡ true → some at ≡ R
-  bad-stop r h inv is e = rw (bad-front n k at ws h, ← is, not-true r e, and-false (ltb k 4096)) at inv
-
-  pub bad-go : (r : Bool) (size : ℕ) → size ≡ ruleSize ws → 0 < length ws → badRuleFrom n k at ws ≡ R → k < 4096 → r ≡ ruleFits n ws
-      → not r ≡ false → badRuleFrom n (k + 1) (at + size) (drop (ruleSize ws) ws) ≡ R
-  bad-go r size s h inv few is e =
-      rw (add-one k, s) (rw (bad-front n k at ws h, lt-ltb k 4096 few, ← is, not-false r e) at inv)
-
-  pub bad-end : length ws ≤ 0 → badRuleFrom n k at ws ≡ R → none ≡ R
-  bad-end h inv = done ws h inv
-    where
-      done : (l : List ℕ) → length l ≤ 0 → badRuleFrom n k at l ≡ R → none ≡ R
-      done [] b e = rw (badRuleFrom-nil n k at) at e
-      done (x ∷ xs) b e = absurd (omega arith)
-
-pub fits-size : (n : ℕ) (ws : List ℕ) (r : Bool) → r ≡ ruleFits n ws → not r ≡ false → ruleSize ws ≤ length ws
-fits-size n ws r is e = ruleFits-iff n ws .0 (sym is ∙ not-false r e) .0
 
 -- the rule at the front of sound words, and the words behind it
 pub accepted-sound : (n : ℕ) (ws : List ℕ) → n ≤ 1024 → badRule n ws ≡ none → Sound ws
@@ -135,6 +73,10 @@ module _ (p : Rule → Bool) (k : ℕ) (ws : List ℕ) {R : Option ℕ} where
   pub rule-end : length ws ≤ 0 → first p k (rulesOf ws) ≡ R → none ≡ R
   rule-end h inv = rw (rules-end ws h) at inv
 
+-- the rule at the front applies and has a literal as its head
+abbrev pub derives : Lits → Lits → List ℕ → Bool
+derives X Y ws = not (eqb (getD ws 0 0) 65535) && applies X Y (ruleAt ws)
+
 -- one round of derivation, rule by rule: what is marked new, or will be by the rules that are left
 module _ (X Y : Lits) (ws : List ℕ) (h : 0 < length ws) (new : List Bool) (c : ℕ) where
   round-front : (marked new c || round (rulesOf ws) X Y c)
@@ -166,27 +108,21 @@ module _ (X Y : Lits) (ws : List ℕ) (h : 0 < length ws) (new : List Bool) (c :
       joined false true rest = refl
       joined false false rest = refl
 
-pub derives-literal : (X Y : Lits) (ws : List ℕ) (r : Bool) → r ≡ derives X Y ws → r ≡ true → getD ws 0 0 ≡ 65535 → ⊥
+pub derives-literal : (X Y : Lits) (ws : List ℕ) (r : Bool) → r ≡ frontDerives X Y ws → r ≡ true → getD ws 0 0 ≡ 65535 → ⊥
+unfolding frontDerives
 derives-literal X Y ws r is e =
-    eqb-false _ _ (not-true _ (and-iff (not (eqb (getD ws 0 0) 65535)) (applies X Y (ruleAt ws)) .0 (sym is ∙ e) .0))
-
--- what the code takes to be left behind the rule at the front
-pub left-behind : (ws : List ℕ) (size : ℕ) → size ≡ ruleSize ws → take (length ws - size) (drop size ws) ≡ drop (ruleSize ws) ws
-left-behind ws size e = to-the-end size ws ∙ ap (λ (k : ℕ). drop k ws) e
-
-pub shorter : (ws : List ℕ) → 0 < length ws → length (drop (ruleSize ws) ws) < length ws
-shorter ws h = omega (arith, length-drop (ruleSize ws) ws)
+    eqb-false _ _ (not-true _ (and-iff (not (eqb (getD ws 0 0) 65535)) (frontApplies X Y ws) .0 (sym is ∙ e) .0))
 
 -- a turn of a round: the mark of the rule's head is set, or nothing is
-pub round-turn : (X Y : Lits) (ws : List ℕ) (h : 0 < length ws) (s : Sound ws) (old new : List Bool) (r : Bool) → r ≡ derives X Y ws
+pub round-turn : (X Y : Lits) (ws : List ℕ) (h : 0 < length ws) (s : Sound ws) (old new : List Bool) (r : Bool) → r ≡ frontDerives X Y ws
     → ((r ≡ true) × (new ≡ set old (getD ws 0 0) true)) ⊎ ((r ≡ false) × (new ≡ old)) → length old ≡ 2048 → {R : Lits}
     → ((c : ℕ) → (marked old c || round (rulesOf ws) X Y c) ≡ R c)
     → (length new ≡ 2048) × ((c : ℕ) → (marked new c || round (rulesOf (drop (ruleSize ws) ws)) X Y c) ≡ R c)
 round-turn X Y ws h s old new r is (inl w) size inv = (
   rw (w .1) (length-set old (getD ws 0 0) true ∙ size),
-  λ c. rw (w .1) (round-mark X Y ws h old c r (inv c) is (w .0) (omega (arith, sound-head ws h s (derives-literal X Y ws r is (w .0))))),
+  λ c. rw (w .1) (round-mark X Y ws h old c r (inv c) (whole-derives X Y ws (sound-size ws h s) is) (w .0) (omega (arith, sound-head ws h s (derives-literal X Y ws r is (w .0))))),
 )
 round-turn X Y ws h s old new r is (inr w) size inv = (
   rw (w .1) size,
-  λ c. rw (w .1) (round-idle X Y ws h old c r (inv c) is (w .0)),
+  λ c. rw (w .1) (round-idle X Y ws h old c r (inv c) (whole-derives X Y ws (sound-size ws h s) is) (w .0)),
 )

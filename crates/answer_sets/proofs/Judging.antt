@@ -1,9 +1,8 @@
 -- The verdict and the answer, from what the searches found, in the order in which the code makes them.
 -- Assumes nothing.
-use mathlib.Core.Path.{_≡_, refl, sym, _∙_, ap}
-use mathlib.Core.Bool.{Bool, true, false, cond}
+use mathlib.Core.Path.{_≡_, sym, _∙_}
 use mathlib.Core.List.{List}
-use mathlib.Core.Option.{Option, none, some}
+use mathlib.Core.Option.{none, some}
 use Prim.Native.Nat.{ℕ, _+_, _-_, _*_, _≤_, _<_}
 use native.Mathlib.Numerals.{add-one}
 use native.Mathlib.Omega.{arith}
@@ -11,11 +10,11 @@ use borrow.Author.Tests.{lt-ltb, le-ltb}
 use lib.ListN.{length}
 use Rattle.search.specs.Search.{first, range}
 use Rattle.search.specs.Replies.{refused, answered}
-use Rattle.logic_programs.specs.Literals.{Lits, setOf}
+use Rattle.logic_programs.specs.Literals.{Lits, setOf, badValue}
 use Rattle.logic_programs.specs.Rules.{Rule}
-use Rattle.answer_sets.specs.Verdicts.{Verdict, clash, broken, unfounded, passes, round, rounds, bothValues, isBroken, isUnfounded, verdict}
+use Rattle.answer_sets.specs.Verdicts.{clash, broken, unfounded, passes, round, rounds, bothValues, isBroken, isUnfounded, verdict}
 use Rattle.logic_programs.specs.Words.{rulesOf, badRule}
-use Rattle.answer_sets.specs.Answers.{badValue, answer}
+use Rattle.answer_sets.specs.Answers.{answer}
 use Rattle.answer_sets.proofs.Least.{HeadsBelow, rounds-stay, rounds-settle}
 
 -- Y is the set X, as marks

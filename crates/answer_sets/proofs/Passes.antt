@@ -11,7 +11,8 @@ use Rattle.search.specs.Search.{Each, Nowhere}
 use Rattle.logic_programs.specs.Literals.{Lits}
 use Rattle.logic_programs.specs.Rules.{Head, lit, falsum, Rule}
 use Rattle.logic_programs.specs.AnswerSets.{reduct, HeadIn, Closed, Subset, AnswerSet, literalHeaded, IsLeastClosed}
-use Rattle.answer_sets.specs.Verdicts.{passes, applies, rounds, verdict}
+use Rattle.rule_tables.specs.Bodies.{applies}
+use Rattle.answer_sets.specs.Verdicts.{passes, rounds, verdict}
 use Rattle.answer_sets.specs.Demand2.{Clashing, BrokenRule, BrokenAt, Unfounded, noRule}
 use Rattle.search.proofs.Tests.{not-both, false-of-not, true-of-not, each-map₂, each-at}
 use Rattle.answer_sets.proofs.Least.{HeadsBelow, Below, LiteralIn, applies-iff, applies-subset, reduct-closed, literal-closed, closed-literal, least-closed}

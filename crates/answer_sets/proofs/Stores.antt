@@ -1,17 +1,18 @@
 -- Marks after a store, and the marks of value bytes.
 -- Assumes nothing.
-use mathlib.Core.Path.{_≡_, refl, sym, _∙_, ap, fun-ext}
-use mathlib.Core.Bool.{Bool, true, false, cond, not, _&&_, _||_, and-false, Bool·beq}
-use mathlib.Core.List.{List, [], _∷_}
+use mathlib.Core.Path.{_≡_, refl, sym, _∙_, fun-ext}
+use mathlib.Core.Bool.{Bool, true, false, cond, _&&_}
+use mathlib.Core.List.{List}
 use mathlib.Core.Logic.{_⊎_, ⊎-elim, _≢_}
-use Prim.Native.Nat.{ℕ, zero, suc, _+_, _*_, _/_, _%_, _≤_, _<_}
+use Prim.Native.Nat.{ℕ, zero, suc, _+_, _*_, _/_, _≤_, _<_}
 use native.Mathlib.Omega.{arith}
-use borrow.Author.Tests.{ltb-true, ltb-false, lt-ltb, le-ltb, eqb-true, eqb-false, eq-eqb, ne-eqb}
+use borrow.Author.Tests.{ltb-true, ltb-false, lt-ltb, le-ltb, eqb-true, eqb-false}
 use lib.Dec.{eqb, ltb}
-use lib.ListN.{length, getD, set, replicate, List·getD-eq-default}
+use lib.ListN.{length, getD, set, replicate}
 use lib.Seq.{getD-set-same, getD-set-other}
-use Rattle.logic_programs.specs.Literals.{Lits, setOf, holdsTrue, holdsFalse}
-use Rattle.answer_sets.specs.Internal.{marked, is}
+use Rattle.logic_programs.specs.Literals.{Lits, setOf}
+use Rattle.rule_tables.specs.Bodies.{marked}
+use Rattle.rule_tables.proofs.Lookups.{setOf-past}
 use Rattle.search.proofs.Tests.{true-or-false}
 
 pub clear-marks : (n c : ℕ) → marked (replicate n false) c ≡ false
@@ -47,15 +48,6 @@ fill-step X marks code v h is inv c = getD-set marks code v h c ∙ ⊎-elim sam
     other : eqb code c ≡ false → cond (eqb code c) v (marked marks c) ≡ (ltb c (code + 1) && X c)
     other e = rw (e, inv c, below (ltb c code) refl (eqb-false code c e))
 
--- no literal of an atom past the values
-pub setOf-past : (vs : List ℕ) (c : ℕ) → length vs ≤ c / 2 → setOf vs c ≡ false
-unfolding setOf holdsTrue holdsFalse
-setOf-past vs c h = rw (List·getD-eq-default vs 0 h) (same (eqb (c % 2) 0))
-  where
-    same : (b : Bool) → cond b false false ≡ false
-    same true = refl
-    same false = refl
-
 pub fill-done : (vs : List ℕ) (code : ℕ) (marks : List Bool) → 2 * length vs ≤ code
     → ((c : ℕ) → marked marks c ≡ (ltb c code && setOf vs c)) → marked marks ≡ setOf vs
 fill-done vs code marks h inv = fun-ext (λ c. inv c ∙ whole c (ltb c code) refl)
@@ -65,13 +57,3 @@ fill-done vs code marks h inv = fun-ext (λ c. inv c ∙ whole c (ltb c code) re
     whole c false e =
         let past : length vs ≤ c / 2 = omega (arith, ltb-false c code e) in
         rw (e, setOf-past vs c past)
-
--- whether a mark is as wanted, by the test for a difference
-pub differs : (found mark want v : Bool) → found ≡ mark → not (Bool·beq found want) ≡ v → is want mark ≡ not v
-differs found mark want v e t = rw (← e) (rw (← t) (cases found want))
-  where
-    cases : (a b : Bool) → is b a ≡ not (not (Bool·beq a b))
-    cases true true = refl
-    cases true false = refl
-    cases false true = refl
-    cases false false = refl

@@ -1,14 +1,13 @@
 -- What the engine answers to values and a table: the first refusal that holds, or the verdict.
 -- Assumes nothing.
-use mathlib.Core.Bool.{Bool, true, false, cond}
+use mathlib.Core.Bool.{cond}
 use mathlib.Core.List.{List}
 use mathlib.Core.Option.{Option, none, some}
 use Prim.Native.Nat.{ℕ}
 use lib.Dec.{ltb}
 use lib.ListN.{length}
-use Rattle.search.specs.Search.{first}
 use Rattle.search.specs.Replies.{Reply, refused, answered, orRefuse}
-use Rattle.logic_programs.specs.Literals.{setOf}
+use Rattle.logic_programs.specs.Literals.{setOf, badValue}
 use Rattle.answer_sets.specs.Verdicts.{Verdict, clash, broken, unfounded, passes, verdict}
 use Rattle.logic_programs.specs.Words.{rulesOf, badRule}
 use Rattle.answer_sets.specs.declared.Answer.{Answer}
@@ -25,10 +24,6 @@ replyOf Passes = answered passes
 -- refusal 10: over 1,024 values
 abbrev pub tooManyValues : List ℕ → Option ℕ
 tooManyValues vs = cond (ltb 1024 (length vs)) (some (length vs)) none
-
--- refusal 11: a byte over 3
-abbrev pub badValue : List ℕ → Option ℕ
-badValue vs = first (ltb 3) 0 vs
 
 unfoldable pub answer : List ℕ → List ℕ → Reply Verdict
 answer vs ws =

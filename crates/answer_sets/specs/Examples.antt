@@ -3,7 +3,6 @@
 use mathlib.Core.Path.{_≡_}
 use mathlib.Core.List.{List, [], _∷_}
 use Prim.Native.Nat.{ℕ}
-use Rattle.search.specs.Search.{Each}
 use Rattle.search.specs.Replies.{Reply, refused, answered}
 use Rattle.answer_sets.specs.Verdicts.{Verdict, clash, broken, unfounded, passes}
 use Rattle.answer_sets.specs.Answers.{answer}

@@ -1,14 +1,15 @@
 -- The verdict on a set of literals X over n atoms and a program Π, as it is computed: the first of clash, broken and
 -- unfounded that holds, or passes. Written without the reduct; a theorem joins it with AnswerSet.
 -- Assumes nothing.
-use mathlib.Core.Bool.{Bool, true, false, not, _&&_, _||_}
+use mathlib.Core.Bool.{Bool, false, not, _&&_, _||_}
 use mathlib.Core.List.{List, [], _∷_}
 use Prim.Native.Nat.{ℕ, zero, suc, _+_, _*_}
 use lib.Dec.{eqb}
-use Rattle.search.specs.Search.{all, first, range}
+use Rattle.search.specs.Search.{first, range}
 use Rattle.search.specs.Replies.{orElse}
 use Rattle.logic_programs.specs.Literals.{Lits}
 use Rattle.logic_programs.specs.Rules.{Head, lit, falsum, Rule}
+use Rattle.rule_tables.specs.Bodies.{applies, headIn}
 
 pub data Verdict : Type 0 where
   clash : ℕ → Verdict
@@ -16,17 +17,9 @@ pub data Verdict : Type 0 where
   unfounded : ℕ → Verdict
   passes : Verdict
 
--- no negated part is in X and every plain part is in Y
-abbrev pub applies : Lits → Lits → Rule → Bool
-applies X Y r = all (λ c. not (X c)) (r .negated) && all Y (r .plain)
-
 abbrev pub headIs : Head → ℕ → Bool
 headIs (lit h) c = eqb h c
 headIs falsum c = false
-
-abbrev pub headIn : Head → Lits → Bool
-headIn (lit h) X = X h
-headIn falsum X = false
 
 -- the literal heads whose bodies hold in the round before; negated parts are always looked up in X
 abbrev pub round : List Rule → Lits → Lits → Lits

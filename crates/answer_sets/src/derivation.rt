@@ -1,13 +1,14 @@
 // The least set closed under the reduct's rules with literal heads, by rounds from 2,048 clear marks.
-use crate::marks;
-use crate::table;
+use rule_tables::marks;
+use rule_tables::table;
 ghost use mathlib.Core.Path.{_≡_};
 ghost use mathlib.Core.Option.{none};
 ghost use Prim.Native.Nat.{_*_, _≤_};
 ghost use Rattle.answer_sets.specs.Verdicts.{rounds};
 ghost use Rattle.answer_sets.specs.Verdicts.{round as roundOf};
 ghost use Rattle.logic_programs.specs.Words.{rulesOf, badRule};
-ghost use Rattle.answer_sets.specs.Internal.{marked, Sound};
+ghost use Rattle.rule_tables.specs.Bodies.{marked};
+ghost use Rattle.answer_sets.specs.Internal.{Sound};
 
 // The literal heads whose bodies hold: negated parts are looked up in x, plain parts in the old marks.
 fn round(table: &[u16], x: [bool; 2048], old: [bool; 2048]) -> [bool; 2048]

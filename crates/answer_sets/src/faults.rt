@@ -1,9 +1,9 @@
 // The verdict on an accepted table and accepted values: the first fault that there is, and the lowest of its kind.
 use crate::Answer;
 use crate::derivation;
-use crate::marks;
-use crate::table;
 use crate::values;
+use rule_tables::marks;
+use rule_tables::table;
 use search::Found;
 ghost use mathlib.Core.Path.{_≡_};
 ghost use mathlib.Core.Option.{none};
@@ -15,7 +15,8 @@ ghost use Rattle.logic_programs.specs.Literals.{setOf};
 ghost use Rattle.answer_sets.specs.Verdicts.{verdict, bothValues, isBroken, isUnfounded};
 ghost use Rattle.logic_programs.specs.Words.{rulesOf, badRule, ruleAt, ruleSize};
 ghost use Rattle.answer_sets.specs.Answers.{replyOf};
-ghost use Rattle.answer_sets.specs.Internal.{marked, Sound};
+ghost use Rattle.rule_tables.specs.Bodies.{marked};
+ghost use Rattle.answer_sets.specs.Internal.{Sound};
 
 // Whether an atom has both values.
 fn both_values(x: &[bool], atom: usize) -> bool

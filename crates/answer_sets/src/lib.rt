@@ -1,9 +1,7 @@
 // The answer-set engine: whether a set of literals is an answer set of a rule table. It knows nothing of what atoms mean.
 mod derivation;
 mod faults;
-mod marks;
-mod table;
-pub mod values;
+mod values;
 
 use search::Found;
 ghost use mathlib.Core.Path.{_≡_};
@@ -28,10 +26,10 @@ pub fn check_set(values: &[u8], table: &[u16]) -> Answer
     if 1024 < atoms {
         return Answer::Refused(10, atoms);
     }
-    if let Found::At(place) = values::bad_value(values) {
+    if let Found::At(place) = rule_tables::values::bad_value(values) {
         return Answer::Refused(11, place);
     }
-    if let Found::At(place) = table::bad_rule(table, atoms) {
+    if let Found::At(place) = rule_tables::table::bad_rule(table, atoms) {
         return Answer::Refused(12, place);
     }
     faults::judge(values, table)

@@ -1,56 +1,10 @@
-// Value bytes, one an atom: 0 none, 1 true, 2 false, 3 both.
-use crate::marks;
-use search::Found;
+// Value bytes as marks.
+use rule_tables::marks;
 ghost use mathlib.Core.Path.{_≡_};
 ghost use Prim.Native.Nat.{_≤_};
 ghost use lib.ListN.{length};
-ghost use Rattle.search.specs.Replies.{refusalOf, refusal};
-ghost use Rattle.answer_sets.specs.Answers.{badValue};
-ghost use Rattle.logic_programs.specs.Literals.{setOf, holdsTrue, holdsFalse};
-ghost use Rattle.answer_sets.specs.Internal.{marked};
-
-// Refusal 11: the lowest index of a byte over 3.
-pub fn bad_value(values: &[u8]) -> Found
-    ensures { λ r. ⌜ refusalOf 11 r ≡ refusal 11 (badValue (now (values .entry))) ⌝ }
-{
-    let mut i = 0;
-    while i < values.len() {
-        if 3 < values[i] {
-            return Found::At(i);
-        }
-        i += 1;
-    }
-    Found::Nothing
-}
-
-// Whether a value makes its atom true.
-fn is_true(value: u8) -> bool
-    ensures { λ r. ⌜ r ≡ holdsTrue value ⌝ }
-{
-    value == 1 || value == 3
-}
-
-// Whether a value makes its atom false.
-fn is_false(value: u8) -> bool
-    ensures { λ r. ⌜ r ≡ holdsFalse value ⌝ }
-{
-    value == 2 || value == 3
-}
-
-// Whether a literal is in the set that the values stand for.
-fn has(values: &[u8], code: usize) -> bool
-    ensures { λ r. ⌜ r ≡ setOf (now (values .entry)) code ⌝ }
-{
-    let atom = code / 2;
-    if values.len() <= atom {
-        return false;
-    }
-    let value = values[atom];
-    if code % 2 == 0 {
-        return is_true(value);
-    }
-    is_false(value)
-}
+ghost use Rattle.logic_programs.specs.Literals.{setOf};
+ghost use Rattle.rule_tables.specs.Bodies.{marked};
 
 // The literals that the values stand for.
 pub(crate) fn marks_of(values: &[u8]) -> [bool; 2048]
@@ -60,7 +14,7 @@ pub(crate) fn marks_of(values: &[u8]) -> [bool; 2048]
     let mut marks = marks::clear();
     let codes = 2 * values.len();
     for code in 0..codes {
-        marks[code] = has(values, code);
+        marks[code] = rule_tables::values::has(values, code);
     }
     marks
 }

@@ -10,7 +10,7 @@ use lib.ListN.{length, take, drop}
 use lib.Seq.{take-at}
 use Rattle.search.specs.Search.{first}
 use Rattle.search.specs.Replies.{Reply, refused, answered, orElse, leftAfter}
-use Rattle.logic_programs.specs.Literals.{setOf}
+use Rattle.logic_programs.specs.Literals.{setOf, badValue}
 use Rattle.answer_sets.specs.Verdicts.{verdict}
 use Rattle.logic_programs.specs.Words.{rulesOf}
 use Rattle.answer_sets.specs.Answers as engine
@@ -36,12 +36,12 @@ module _ (d : Description) (ls : List Law) (lent : ℕ) (vs table : List ℕ) wh
     says-10 n = rw (e, ne-eqb (length vs) a n) (refl, refl)
 
     module _ (size : length vs ≡ a) where
-      pub says-11 : {p : ℕ} → engine.badValue vs ≡ some p
+      pub says-11 : {p : ℕ} → badValue vs ≡ some p
           → (refused 11 p ≡ checked d ls lent vs (length table)) × (table ≡ tableAfter d ls lent vs table)
       unfolding checked tableAfter
       says-11 bad = rw (e, eq-eqb (length vs) a size, bad) (refl, refl)
 
-      module _ (small : engine.badValue vs ≡ none) where
+      module _ (small : badValue vs ≡ none) where
         pub says-verdict : (reply : Reply Finding) → reply ≡ finding vs (translated.tableFor d ls)
             → reply ≡ checked d ls lent vs (length table)
         unfolding checked

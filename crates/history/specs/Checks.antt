@@ -6,6 +6,7 @@ use lib.Dec.{eqb}
 use lib.ListN.{length}
 use Rattle.search.specs.Search.{first}
 use Rattle.search.specs.Replies.{Reply, refused, answered, orElse, orRefuse, leftAfter}
+use Rattle.logic_programs.specs.Literals.{badValue}
 use Rattle.answer_sets.specs.Verdicts.{Verdict, clash, broken, unfounded, passes}
 use Rattle.answer_sets.specs.Answers as engine
 use Rattle.description.specs.declared.Law.{Law}
@@ -43,7 +44,7 @@ abbrev pub afterTranslation : Reply Written → List ℕ → List ℕ → Reply 
 afterTranslation (refused number place) vs ws = refused number place
 afterTranslation (answered (written atoms rules words)) vs ws =
     orRefuse (wrongLength atoms (length vs)) 10
-    (orRefuse (engine.badValue vs) 11
+    (orRefuse (badValue vs) 11
     (finding vs ws))
 
 unfoldable pub checked : Description → List Law → ℕ → List ℕ → ℕ → Reply Finding

@@ -78,7 +78,7 @@ pub fn check_history(
             if values.len() != atoms {
                 return Checked::Refused(10, values.len());
             }
-            if let Found::At(place) = answer_sets::values::bad_value(values) {
+            if let Found::At(place) = rule_tables::values::bad_value(values) {
                 return Checked::Refused(11, place);
             }
             translation::translate(d, laws, lent, table);

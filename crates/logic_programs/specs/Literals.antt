@@ -2,9 +2,11 @@
 -- Assumes nothing.
 use mathlib.Core.Bool.{Bool, true, false, cond, _||_}
 use mathlib.Core.List.{List}
+use mathlib.Core.Option.{Option}
 use Prim.Native.Nat.{ℕ, _/_, _%_}
-use lib.Dec.{eqb}
+use lib.Dec.{eqb, ltb}
 use lib.ListN.{getD}
+use Rattle.search.specs.Search.{first}
 
 -- any set of literals, as a test on codes: c is in Y where Y c is true
 abbrev pub Lits : Type 0
@@ -20,3 +22,7 @@ holdsFalse v = eqb v 2 || eqb v 3
 -- the set of literals that a list of value bytes stands for, one byte an atom
 unfoldable pub setOf : List ℕ → Lits
 setOf vs c = cond (eqb (c % 2) 0) (holdsTrue (getD vs (c / 2) 0)) (holdsFalse (getD vs (c / 2) 0))
+
+-- refusal 11: a byte over 3
+abbrev pub badValue : List ℕ → Option ℕ
+badValue vs = first (ltb 3) 0 vs

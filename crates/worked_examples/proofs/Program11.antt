@@ -14,11 +14,11 @@ use Rattle.search.specs.Search.{Each}
 use Rattle.search.specs.Replies.{Reply, refused, answered}
 use Rattle.search.proofs.Tests.{none-first, each-at, each-map}
 use Rattle.search.proofs.Lists.{chosen-iff, tuples-all}
-use Rattle.logic_programs.specs.Literals.{setOf, holdsTrue, holdsFalse}
+use Rattle.logic_programs.specs.Literals.{setOf, holdsTrue, holdsFalse, badValue}
 use Rattle.logic_programs.specs.AnswerSets.{AnswerSet}
 use Rattle.answer_sets.specs.Verdicts.{Verdict, clash, broken, unfounded, passes, verdict}
 use Rattle.logic_programs.specs.Words.{rulesOf, badRule}
-use Rattle.answer_sets.specs.Answers.{tooManyValues, badValue, answer}
+use Rattle.answer_sets.specs.Answers.{tooManyValues, answer}
 use Rattle.answer_sets.proofs.Theorems.{passes-exactly}
 use Rattle.worked_examples.specs.Program11.{program11, answerSets11, allValues, isPass, passing}
 

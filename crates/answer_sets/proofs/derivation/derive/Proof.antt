@@ -10,7 +10,7 @@ use mathlib.Core.Path.{fun-ext, ap}
 use lib.ListN.{length-replicate}
 use Rattle.answer_sets.specs.Verdicts.{rounds, round}
 use Rattle.logic_programs.specs.Words.{rulesOf}
-use Rattle.answer_sets.specs.Internal.{marked}
+use Rattle.rule_tables.specs.Bodies.{marked}
 use Rattle.answer_sets.proofs.Stores.{clear-marks}
 use Rattle.answer_sets.proofs.Decoding.{accepted-below, codes-heads}
 use Rattle.answer_sets.proofs.Fronts.{accepted-sound}

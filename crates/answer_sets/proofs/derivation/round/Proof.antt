@@ -4,14 +4,16 @@ use mathlib.Core.Logic.{⊎-elim, inl, inr}
 use native.Mathlib.Omega.{arith}
 use mathlib.Core.Path.{_≡_, sym, _∙_, fun-ext}
 use mathlib.Core.Bool.{false, _||_, or-false}
-use Prim.Native.Nat.{ℕ, _≤_, _-_}
+use Prim.Native.Nat.{ℕ, _≤_}
 use lib.ListN.{length}
 use Rattle.logic_programs.specs.Words.{rulesOf}
 use lib.ListN.{length-replicate}
 use Rattle.answer_sets.specs.Verdicts.{round}
-use Rattle.answer_sets.specs.Internal.{marked, Sound}
+use Rattle.rule_tables.specs.Bodies.{marked}
+use Rattle.answer_sets.specs.Internal.{Sound}
 use Rattle.answer_sets.proofs.Stores.{clear-marks}
-use Rattle.answer_sets.proofs.Fronts.{derives-literal, sound-size, sound-head, sound-rest, left-behind, shorter, rules-end, round-turn}
+use Rattle.rule_tables.proofs.Fronts.{left-behind, shorter}
+use Rattle.answer_sets.proofs.Fronts.{derives-literal, sound-size, sound-head, sound-rest, rules-end, round-turn}
 use Rattle.answer_sets.proofs.derivation.round.Statement.{statement}
 use Rattle.answer_sets.proofs.derivation.round.Tie as tie
 
@@ -44,7 +46,7 @@ slice-aggregate-rule-derives-2 : tie.Need-slice-aggregate-rule-derives-2 Inv-loo
 slice-aggregate-rule-derives-2 c = omega arith
 
 rule-derives-requires : tie.Need-rule-derives-requires Inv-loop μ-loop
-rule-derives-requires c κs = sound-size _ (c .before .before .before .loop-test .taken) (c .before .before .before .before .loop .inv .1)
+rule-derives-requires c κs = tt
 
 array-write-new : tie.Need-array-write-new Inv-loop μ-loop
 array-write-new c =

@@ -2,13 +2,15 @@
 -- Assumes nothing.
 use native.Mathlib.Omega.{arith}
 use mathlib.Core.Path.{_≡_, refl, sym, _∙_}
-use Prim.Native.Nat.{_≤_, _+_, _-_}
+use Prim.Native.Nat.{_≤_, _+_}
 use lib.ListN.{length}
 use Rattle.search.specs.Search.{first}
 use Rattle.logic_programs.specs.Words.{rulesOf}
-use Rattle.answer_sets.specs.Internal.{marked, Sound}
+use Rattle.rule_tables.specs.Bodies.{marked}
+use Rattle.answer_sets.specs.Internal.{Sound}
 use Rattle.answer_sets.specs.Verdicts.{isBroken}
-use Rattle.answer_sets.proofs.Fronts.{rule-stop, rule-go, rule-end, sound-size, sound-rest, left-behind, shorter}
+use Rattle.rule_tables.proofs.Fronts.{left-behind, shorter}
+use Rattle.answer_sets.proofs.Fronts.{rule-stop, rule-go, rule-end, sound-size, sound-rest}
 use Rattle.answer_sets.proofs.faults.first_broken.Statement.{statement}
 use Rattle.answer_sets.proofs.faults.first_broken.Tie as tie
 

@@ -5,7 +5,7 @@ use native.Mathlib.Omega.{arith}
 use borrow.Author.Needs.{needs}
 use Rattle.search.specs.Replies.{answered}
 use Rattle.search.proofs.Loops.{at-place, no-place}
-use Rattle.answer_sets.specs.Internal.{marked}
+use Rattle.rule_tables.specs.Bodies.{marked}
 use Rattle.answer_sets.proofs.Fronts.{accepted-sound}
 use Rattle.answer_sets.proofs.Judging.{says-clash, says-broken, says-unfounded, says-passes}
 use Rattle.answer_sets.proofs.faults.judge.Statement.{statement}

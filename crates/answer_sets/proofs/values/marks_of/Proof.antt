@@ -6,7 +6,7 @@ use mathlib.Core.Bool.{false, _&&_}
 use Prim.Native.Nat.{ℕ, _≤_, _-_}
 use lib.Dec.{ltb}
 use lib.ListN.{length, length-set, length-replicate}
-use Rattle.answer_sets.specs.Internal.{marked}
+use Rattle.rule_tables.specs.Bodies.{marked}
 use Rattle.logic_programs.specs.Literals.{setOf}
 use Rattle.answer_sets.proofs.Stores.{fill-start, fill-step, fill-done}
 use Rattle.answer_sets.proofs.values.marks_of.Statement.{statement}

@@ -1,0 +1,4 @@
+-- The laws that the functions' proofs cite.
+pub mod Fitting
+pub mod Fronts
+pub mod Lookups

@@ -1,0 +1,37 @@
+-- Bodies and heads of rules looked up in sets of literals, and sets given as marks: what the functions on a rule table tell.
+-- Assumes nothing.
+use mathlib.Core.Bool.{Bool, true, false, not, _&&_}
+use mathlib.Core.List.{List}
+use Prim.Native.Nat.{ℕ}
+use lib.Dec.{eqb, leb}
+use lib.ListN.{length, getD}
+use Rattle.search.specs.Search.{all}
+use Rattle.logic_programs.specs.Literals.{Lits}
+use Rattle.logic_programs.specs.Rules.{Head, lit, falsum, Rule}
+use Rattle.logic_programs.specs.Words.{ruleSize, ruleAt}
+
+-- no negated part is in X and every plain part is in Y
+abbrev pub applies : Lits → Lits → Rule → Bool
+applies X Y r = all (λ c. not (X c)) (r .negated) && all Y (r .plain)
+
+-- ⊥ is in no set
+abbrev pub headIn : Head → Lits → Bool
+headIn (lit h) X = X h
+headIn falsum X = false
+
+-- the set that a list of marks stands for, one mark a literal code
+abbrev pub marked : List Bool → Lits
+marked marks c = getD marks c false
+
+-- a mark is as wanted
+abbrev pub is : Bool → Bool → Bool
+is true b = b
+is false b = not b
+
+-- the rule at the front of a list of words does not run past the end, and applies
+unfoldable pub frontApplies : Lits → Lits → List ℕ → Bool
+frontApplies X Y ws = leb (ruleSize ws) (length ws) && applies X Y (ruleAt ws)
+
+-- and has a literal as its head
+unfoldable pub frontDerives : Lits → Lits → List ℕ → Bool
+frontDerives X Y ws = not (eqb (getD ws 0 0) 65535) && frontApplies X Y ws

@@ -1,0 +1,2 @@
+-- What the promises on rule tables, marks and values mean.
+pub mod Bodies

@@ -1,0 +1,48 @@
+// Value bytes, one an atom: 0 none, 1 true, 2 false, 3 both.
+use search::Found;
+ghost use mathlib.Core.Path.{_≡_};
+ghost use Rattle.search.specs.Replies.{refusalOf, refusal};
+ghost use Rattle.logic_programs.specs.Literals.{setOf, holdsTrue, holdsFalse, badValue};
+
+// Refusal 11: the lowest index of a byte over 3.
+pub fn bad_value(values: &[u8]) -> Found
+    ensures { λ r. ⌜ refusalOf 11 r ≡ refusal 11 (badValue (now (values .entry))) ⌝ }
+{
+    let mut i = 0;
+    while i < values.len() {
+        if 3 < values[i] {
+            return Found::At(i);
+        }
+        i += 1;
+    }
+    Found::Nothing
+}
+
+// Whether a value makes its atom true.
+fn is_true(value: u8) -> bool
+    ensures { λ r. ⌜ r ≡ holdsTrue value ⌝ }
+{
+    value == 1 || value == 3
+}
+
+// Whether a value makes its atom false.
+fn is_false(value: u8) -> bool
+    ensures { λ r. ⌜ r ≡ holdsFalse value ⌝ }
+{
+    value == 2 || value == 3
+}
+
+// Whether a literal is in the set that the values stand for.
+pub fn has(values: &[u8], code: usize) -> bool
+    ensures { λ r. ⌜ r ≡ setOf (now (values .entry)) code ⌝ }
+{
+    let atom = code / 2;
+    if values.len() <= atom {
+        return false;
+    }
+    let value = values[atom];
+    if code % 2 == 0 {
+        return is_true(value);
+    }
+    is_false(value)
+}
