@@ -12,10 +12,10 @@ use lib.Dec.{eqb, ltb}
 use lib.ListN.{length}
 use Rattle.search.specs.Search.{Each, first}
 use Rattle.search.specs.Replies.{Reply, refused, answered, orElse, orRefuse}
-use Rattle.logic_programs.specs.Literals.{setOf}
+use Rattle.logic_programs.specs.Literals.{setOf, badValue}
 use Rattle.answer_sets.specs.Verdicts.{Verdict, verdict}
 use Rattle.logic_programs.specs.Words.{rulesOf, badRule}
-use Rattle.answer_sets.specs.Answers.{tooManyValues, badValue, answer}
+use Rattle.answer_sets.specs.Answers.{tooManyValues, answer}
 use Rattle.description.specs.declared.Law.{Law}
 use Rattle.description.specs.declared.Description.{Description}
 use Rattle.description.specs.Atoms.{atomCount}
