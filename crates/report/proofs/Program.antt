@@ -14,7 +14,7 @@ use Rattle.search.specs.Search.{Each, first, range}
 use Rattle.search.specs.Replies.{Reply, refused, answered, orElse}
 use Rattle.search.proofs.Tests.{not-both, or-iff, each-map, first-none, length-range, getD-range}
 use Rattle.search.proofs.Lists.{none-iff}
-use Rattle.logic_programs.specs.Literals.{holdsTrue, holdsFalse, setOf}
+use Rattle.logic_programs.specs.Literals.{holdsTrue, holdsFalse, setOf, badValue}
 use Rattle.answer_sets.specs.Verdicts.{Verdict, clash, broken, unfounded, passes, bothValues, verdict}
 use Rattle.logic_programs.specs.Words.{rulesOf}
 use Rattle.answer_sets.specs.Answers as engine
@@ -127,7 +127,7 @@ module _ (input : List ℕ) (d : Draft) (rest : List ℕ) (lines : ℕ) (vs : Li
   size : length vs ≡ atoms d
   size = values-count input d rest lines vs is e
 
-  bytes : engine.badValue vs ≡ none
+  bytes : badValue vs ≡ none
   bytes = none-iff (ltb 3) 0 vs .1 (each-map (λ v h. le-ltb 3 v h) vs (values-small input d rest lines vs is e))
 
   abbrev said : Verdict
