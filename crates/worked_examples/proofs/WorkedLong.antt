@@ -16,7 +16,7 @@ use Rattle.description_reader.specs.LineSteps.{horizonOf, lineStep}
 use Rattle.description_reader.specs.Descriptions.{read, linesFrom, described}
 use Rattle.history_reader.specs.Histories.{readHistory, byNames}
 use Rattle.inputs.specs.Inputs.{afterDescription, recordedIn}
-use Rattle.report.specs.Writing.{decimal}
+use Rattle.output_lines.specs.Writing.{decimal}
 use Rattle.report.specs.Output.{afterInput, output}
 use Rattle.worked_examples.specs.Examples.{Holds}
 use Rattle.worked_examples.specs.Texts.{tinyText, letters}
