@@ -71,16 +71,16 @@ low-place lines (refused k p) few h = omega arith
 low-place lines (answered vs) few h = tt
 
 module _ (input : List ℕ) where
-  turned-from : (o : Reply Taken) {number place : ℕ} → replied input o ≡ refused number place → o ≡ refused number place
-  turned-from (refused k p) {number} {place} e =
+  refused-from : (o : Reply Taken) {number place : ℕ} → replied input o ≡ refused number place → o ≡ refused number place
+  refused-from (refused k p) {number} {place} e =
       let a : k ≡ number = cc in
       let b : p ≡ place = cc in
       rw (a, b)
-  turned-from (answered (read d rest last)) e = let z : _≡_ {A = ℕ} 0 1 = cc in absurd (omega arith)
+  refused-from (answered (read d rest last)) e = let z : _≡_ {A = ℕ} 0 1 = cc in absurd (omega arith)
 
   -- the description is refused
   pub description-refused : {number place : ℕ} → replied input (described 64 input) ≡ refused number place → described 64 input ≡ refused number place
-  description-refused e = turned-from (described 64 input) e
+  description-refused e = refused-from (described 64 input) e
 
   pub recorded-refused : {number place : ℕ} → described 64 input ≡ refused number place → recordedIn input ≡ refused number place
   unfolding recordedIn
