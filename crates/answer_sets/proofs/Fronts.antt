@@ -19,7 +19,7 @@ use Rattle.rule_tables.specs.Bodies.{marked, applies, frontApplies, frontDerive
 use Rattle.answer_sets.specs.Verdicts.{round, headIs}
 use Rattle.logic_programs.specs.Words.{ruleSize, ruleAt, ruleFits, headFits, headOf, rulesOf, badRule}
 use Rattle.answer_sets.specs.Internal.{Sound}
-use Rattle.answer_sets.proofs.Stores.{getD-set}
+use Rattle.search.proofs.Stored.{getD-set}
 use Rattle.rule_tables.proofs.Fitting.{badRuleFrom, badRule-from, ruleFits-iff}
 use Rattle.rule_tables.proofs.Fronts.{whole-derives, bad-front}
 use Rattle.answer_sets.proofs.Decoding.{rulesOf-nil, rulesOf-cons}
@@ -99,7 +99,7 @@ module _ (X Y : Lits) (ws : List ℕ) (h : 0 < length ws) (new : List Bool) (c :
       → (marked (set new (getD ws 0 0) true) c || round (rulesOf (drop (ruleSize ws) ws)) X Y c) ≡ R
   round-mark r inv is e below =
       let both = and-iff (not (eqb (getD ws 0 0) 65535)) (applies X Y (ruleAt ws)) .0 (sym is ∙ e) in
-      rw (getD-set new (getD ws 0 0) true below c)
+      rw (getD-set new (getD ws 0 0) true false below c)
       (joined (eqb (getD ws 0 0) c) (marked new c) _ ∙ (rw (round-front, both .1, not-true (eqb (getD ws 0 0) 65535) (both .0)) at inv))
     where
       joined : (q m rest : Bool) → (cond q true m || rest) ≡ (m || ((q && true) || rest))

@@ -9,34 +9,19 @@ use native.Mathlib.Omega.{arith}
 use borrow.Author.Tests.{ltb-true, ltb-false, lt-ltb, le-ltb, eqb-true, eqb-false}
 use lib.Dec.{eqb, ltb}
 use lib.ListN.{length, getD, set, replicate}
-use lib.Seq.{getD-set-same, getD-set-other}
 use Rattle.logic_programs.specs.Literals.{Lits, setOf}
 use Rattle.rule_tables.specs.Bodies.{marked}
 use Rattle.rule_tables.proofs.Lookups.{setOf-past}
 use Rattle.search.proofs.Tests.{true-or-false}
-
-pub clear-marks : (n c : ℕ) → marked (replicate n false) c ≡ false
-clear-marks zero c = refl
-clear-marks (suc n) zero = refl
-clear-marks (suc n) (suc c) = clear-marks n c
-
--- what stands at j after a store at i
-pub getD-set : (l : List Bool) (i : ℕ) (a : Bool) → i < length l → (j : ℕ) → getD (set l i a) j false ≡ cond (eqb i j) a (getD l j false)
-getD-set l i a h j = ⊎-elim same other (true-or-false (eqb i j))
-  where
-    same : eqb i j ≡ true → getD (set l i a) j false ≡ cond (eqb i j) a (getD l j false)
-    same e = rw (e, ← (eqb-true i j e), getD-set-same l i a false h)
-
-    other : eqb i j ≡ false → getD (set l i a) j false ≡ cond (eqb i j) a (getD l j false)
-    other e = rw (e, getD-set-other l i j a false (λ q. eqb-false i j e (sym q)))
+use Rattle.search.proofs.Stored.{getD-replicate, getD-set}
 
 -- marks that are filled in order, code by code
 pub fill-start : (X : Lits) (marks : List Bool) → marks ≡ replicate 2048 false → (c : ℕ) → marked marks c ≡ (ltb c 0 && X c)
-fill-start X marks e c = rw (e, clear-marks 2048 c, le-ltb c 0 (omega arith))
+fill-start X marks e c = rw (e, getD-replicate 2048 c false, le-ltb c 0 (omega arith))
 
 pub fill-step : (X : Lits) (marks : List Bool) (code : ℕ) (v : Bool) → code < length marks → v ≡ X code
     → ((c : ℕ) → marked marks c ≡ (ltb c code && X c)) → (c : ℕ) → marked (set marks code v) c ≡ (ltb c (code + 1) && X c)
-fill-step X marks code v h is inv c = getD-set marks code v h c ∙ ⊎-elim same other (true-or-false (eqb code c))
+fill-step X marks code v h is inv c = getD-set marks code v false h c ∙ ⊎-elim same other (true-or-false (eqb code c))
   where
     same : eqb code c ≡ true → cond (eqb code c) v (marked marks c) ≡ (ltb c (code + 1) && X c)
     same e = let q : code ≡ c = eqb-true code c e in rw (e, lt-ltb c (code + 1) (omega arith), is, q)

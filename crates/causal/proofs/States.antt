@@ -1,13 +1,11 @@
 -- Parts of the values that run to the end, read as the state and the actions at a time; how far the parts reach; the first state.
 -- Assumes nothing.
 use mathlib.Core.Path.{_≡_, refl, sym, _∙_, ap, fun-ext}
-use mathlib.Core.Bool.{Bool, true, false, _&&_, _||_}
 use mathlib.Core.List.{List}
 use Prim.Native.Nat.{ℕ, suc, _+_, _-_, _*_, _≤_, _<_}
-use native.Mathlib.Nat.{sub-zero, suc-mul, zero-mul, zero-add, mul-le-mul-right}
+use native.Mathlib.Nat.{suc-mul, zero-mul, zero-add, mul-le-mul-right}
 use native.Mathlib.Numerals.{add-one}
 use native.Mathlib.Omega.{arith}
-use borrow.Author.Tests.{le-ltb}
 use lib.Dec.{eqb}
 use lib.ListN.{length, getD, take, drop}
 use lib.Seq.{getD-drop}
@@ -15,32 +13,17 @@ use Rattle.search.specs.Search.{first}
 use Rattle.search.proofs.Loops.{to-the-end}
 use Rattle.description.specs.declared.Law.{Law}
 use Rattle.description.specs.Atoms.{atomCount}
-use Rattle.description.specs.Laws.{isStatic, ifList}
-use Rattle.description.specs.Meaning.{Interpretation, holds, together, stateAt, actionAt}
-use Rattle.causal.specs.Verdicts.{read, Causal, path, appliesAtStart, contradicts, stepVerdict}
-use Rattle.causal.specs.Internal.{applies}
-
--- with no fluents before it, a state alone
-pub alone : (s : Interpretation) → together 0 s s ≡ s
-alone s = fun-ext (λ i. rw (le-ltb i 0 (omega arith), sub-zero i))
-
--- the laws that apply in the first state
-applies-at-start : (n : ℕ) (s a s′ : Interpretation) → applies true n s a s′ ≡ appliesAtStart s′
-applies-at-start n s a s′ = fun-ext (λ l. go (holds s′ (ifList l)) (isStatic (l .kind)))
-  where
-    go : (p q : Bool) → (p && (q || false)) ≡ (q && p)
-    go true true = refl
-    go true false = refl
-    go false true = refl
-    go false false = refl
+use Rattle.description.specs.Meaning.{Interpretation, stateAt, actionAt}
+use Rattle.causes.specs.Applying.{read, appliesAtStart, contradicts}
+use Rattle.causal.specs.Verdicts.{path, stepVerdict}
 
 start-state : (n m : ℕ) (vs : List ℕ) → read vs ≡ stateAt n m vs 0
 start-state n m vs = fun-ext (λ i. ap (λ k. eqb (getD vs k 0) 1) (sym (ap (λ z. z + i) (zero-mul (n + m)) ∙ zero-add i)))
 
--- the lowest law that contradicts the first state
+-- the lowest law that the first state breaks
 pub first-at-start : (n m : ℕ) (vs : List ℕ) (ls : List Law) → let s = stateAt n m vs 0 in
-    first (contradicts (applies true n (read vs) (read vs) (read vs)) (read vs)) 0 ls ≡ first (contradicts (appliesAtStart s) s) 0 ls
-first-at-start n m vs ls = rw (applies-at-start n (read vs) (read vs) (read vs), start-state n m vs)
+    first (contradicts (appliesAtStart (read vs)) (read vs)) 0 ls ≡ first (contradicts (appliesAtStart s) s) 0 ls
+first-at-start n m vs ls = rw (start-state n m vs)
 
 -- the part that starts at b
 unfoldable pub part : ℕ → List ℕ → List ℕ

@@ -1,4 +1,3 @@
 -- What the causal reading answers. Read in this order.
 pub mod Verdicts
 pub mod Readings
-pub mod Internal

@@ -1,7 +1,4 @@
 // The causal reading: whether a set of values is a path of causally explained transitions, and the first fault where not.
-mod laws;
-mod literals;
-mod searches;
 mod values;
 
 use description::Description;
@@ -14,7 +11,8 @@ ghost use Rattle.search.specs.Replies.{answered};
 ghost use Rattle.description.specs.Laws.{lawsOf};
 ghost use Rattle.description.specs.Atoms.{atomCount};
 ghost use Rattle.description.specs.Meaning.{stateAt, actionAt};
-ghost use Rattle.causal.specs.Verdicts.{read, path, stepVerdict, stepsFrom, causalVerdict};
+ghost use Rattle.causes.specs.Applying.{read};
+ghost use Rattle.causal.specs.Verdicts.{path, stepVerdict, stepsFrom, causalVerdict};
 ghost use Rattle.causal.specs.Readings.{replyOf, reading};
 
 // A refusal's number and place, or the verdict with its time and the law or the fluent that it names.
@@ -39,11 +37,13 @@ pub fn step_fault(
     ensures { λ r. ⌜ replyOf r ≡ answered (stepVerdict n (take count laws)
         (read (now (old .entry))) (read (now (done .entry))) (read (now (new .entry))) time path) ⌝ }
 {
-    let contradicting = searches::first_contradiction(laws, count, false, n, old, done, new);
+    let tried = causes::try_laws(laws, count, n, old, done, new);
+    let contradicting = tried.contradicting;
     if let Found::At(law) = contradicting {
         return Reading::Contradicted(time, law);
     }
-    let bare = searches::first_uncaused(laws, count, n, old, done, new);
+    let marks = tried.marks;
+    let bare = causes::first_uncaused(&marks, n, new);
     if let Found::At(fluent) = bare {
         return Reading::Uncaused(time, fluent);
     }
@@ -96,9 +96,8 @@ fn verdict(d: Description, laws: [Law; 64], values: &[u8]) -> Reading
         (causalVerdict (d .fluents) (d .actions) (d .horizon) (lawsOf d laws) (now (values .entry))) ⌝ }
 {
     let count = d.laws;
-    let n = d.fluents;
-    let contradicting = searches::first_contradiction(laws, count, true, n, values, values, values);
-    if let Found::At(law) = contradicting {
+    let broken = causes::first_broken(laws, count, values);
+    if let Found::At(law) = broken {
         return Reading::Contradicted(0, law);
     }
     steps(d, laws, values)

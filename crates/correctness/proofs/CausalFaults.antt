@@ -18,11 +18,13 @@ use Rattle.description.specs.declared.Description.{Description}
 use Rattle.description.specs.Laws.{isStatic, ifList, noLaw, lawsOf}
 use Rattle.description.specs.Meaning.{Interpretation, holds, satisfiesHead, stateAt, actionAt}
 use Rattle.causal.specs.declared.Reading.{Reading}
-use Rattle.causal.specs.Verdicts.{Causal, contradicted, uncaused, path, appliesAtStart, appliesInStep, literalIn, someCause, contradicts, stepsFrom, causalVerdict}
+use Rattle.causes.specs.Applying.{appliesAtStart, appliesInStep, literalIn, someCause, contradicts}
+use Rattle.causal.specs.Verdicts.{Causal, contradicted, uncaused, path, stepsFrom, causalVerdict}
 use Rattle.causal.specs.Readings as causal
 use Rattle.correctness.specs.Demand3.{Complete}
 use Rattle.correctness.specs.CausalFaults.{Unsatisfied, Contradicting, NotCaused, ContradictedAt, UncausedAt, NoFaultBefore, FaultNamed, NamesFault}
-use Rattle.correctness.proofs.Explained.{satisfied-literal, literal-holds, causing-applies, cause-iff-caused}
+use Rattle.causes.proofs.CausedHeads.{causing-applies, cause-iff-caused}
+use Rattle.correctness.proofs.Explained.{satisfied-literal, literal-holds}
 use Rattle.correctness.proofs.Reading.{orElse-path, contradicted-no-path, uncaused-no-path, inStep}
 use Rattle.correctness.proofs.Demand3.{read-verdict}
 

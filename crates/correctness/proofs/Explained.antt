@@ -3,26 +3,21 @@
 -- Assumes nothing.
 use mathlib.Core.Path.{_≡_, refl, sym, _∙_}
 use mathlib.Core.Logic.{_↔_, ⊎-elim}
-use mathlib.Core.Bool.{Bool, true, false, not, cond, and-true}
-use mathlib.Core.List.{List, [], _∷_, List·Memᴰ}
+use mathlib.Core.Bool.{Bool, true, false, not, cond}
+use mathlib.Core.List.{List}
 use Prim.Native.Nat.{ℕ, _+_, _*_, _/_, _<_}
 use native.Mathlib.Omega.{arith}
 use lib.Dec.{eqb}
 use borrow.Author.Tests.{eqb-true, eq-eqb}
-use Rattle.search.specs.Search.{Each}
 use Rattle.search.proofs.Tests.{not-both, false-of-not, true-of-not, not-iff, each-map₂}
-use Rattle.search.proofs.Lists.{each-member, member-each}
 use Rattle.description.specs.declared.Head.{Head}
 use Rattle.description.specs.declared.Head.the-variants.{Lit, False}
-use Rattle.description.specs.declared.Kind.{Kind}
-use Rattle.description.specs.declared.Kind.the-variants.{Static, Dynamic}
 use Rattle.description.specs.declared.Law.{Law}
-use Rattle.description.specs.Laws.{ifList}
-use Rattle.description.specs.Meaning.{Interpretation, satisfies, holds, satisfiesHead, causing, caused, SatisfiesAll, Explained}
+use Rattle.description.specs.Meaning.{Interpretation, satisfies, satisfiesHead, caused, SatisfiesAll, Explained}
 use Rattle.search.proofs.Parity.{even-or-odd}
 use Rattle.description.proofs.Literals.{satisfies-even, satisfies-odd}
-use Rattle.causal.specs.Verdicts.{appliesInStep, literalIn, headIs, someCause}
-use Rattle.causal.proofs.CausedHeads.{Heads, cause-heads, heads-cause}
+use Rattle.causes.specs.Applying.{appliesInStep, literalIn, headIs, someCause}
+use Rattle.causes.proofs.CausedHeads.{cause-heads, heads-cause, caused-iff}
 
 -- The literal of a fluent that holds
 
@@ -79,42 +74,9 @@ flipped-head I f (Lit c) e other = rw elsewhere e
         not-both (eq-eqb c (literalIn I f) (rw same at (satisfied-literal I c e))) other)
 flipped-head I f False e other = e
 
--- What is caused, law by law
-
 module _ (n : ℕ) (s a s′ : Interpretation) where
   abbrev applies : Law → Bool
   applies = appliesInStep n s a s′
-
-  pub causing-applies : (k : Kind) (l : Law) → l .kind ≡ k → causing n s a s′ k l ≡ applies l
-  causing-applies Static l e = rw e (sym (and-true (holds s′ (ifList l))))
-  causing-applies Dynamic l e = rw e
-
-  pub caused-iff : (P : Head → Type 0) (ls : List Law) → Each P (caused n s a s′ ls) ↔ Heads P (appliesInStep n s a s′) ls
-  caused-iff P [] = (λ h. h, λ h. h)
-  caused-iff P (l ∷ ls) = go (causing n s a s′ (l .kind) l) refl (caused-iff P ls)
-    where
-      same : causing n s a s′ (l .kind) l ≡ applies l
-      same = causing-applies (l .kind) l refl
-
-      go : (b : Bool) → causing n s a s′ (l .kind) l ≡ b → (Each P (caused n s a s′ ls) ↔ Heads P applies ls)
-          → Each P (caused n s a s′ (l ∷ ls)) ↔ Heads P applies (l ∷ ls)
-      go true t rest = rw t (λ h. (λ e. h .0, rest .0 (h .1)), λ h. (h .0 (sym same ∙ t), rest .1 (h .1)))
-      go false f rest = rw f (λ h. (λ e. absurd (not-both (same ∙ e) f), rest .0 h), λ h. rest .1 (h .1))
-
-  -- a literal has a cause exactly where it is caused
-  pub cause-iff-caused : (c : ℕ) (ls : List Law) → someCause (appliesInStep n s a s′) c ls ≡ true ↔ List·Memᴰ (Lit c) (caused n s a s′ ls)
-  cause-iff-caused c ls = (
-    λ e. cause-heads applies c (λ h. List·Memᴰ h heads) ls e (caused-iff (λ h. List·Memᴰ h heads) ls .0 (each-member heads)),
-    λ m. member-each Caused heads (caused-iff Caused ls .1 (heads-cause applies c ls)) m (eq-eqb c c refl),
-  )
-    where
-      heads : List Head
-      heads = caused n s a s′ ls
-
-      Caused : Head → Type 0
-      Caused h = headIs h c ≡ true → someCause applies c ls ≡ true
-
-  -- Explained transitions
 
   -- all that is caused is satisfied, and each fluent's literal is caused
   abbrev pub StateCaused : List Law → Type 0
@@ -128,9 +90,9 @@ module _ (n : ℕ) (s a s′ : Interpretation) where
     where
       satisfied : someCause applies (literalIn s′ f) ls ≡ false → SatisfiesAll (flipped s′ f) (caused n s a s′ ls)
       satisfied uncaused =
-          caused-iff (λ h. satisfiesHead (flipped s′ f) h ≡ true) ls .1
+          caused-iff n s a s′ (λ h. satisfiesHead (flipped s′ f) h ≡ true) ls .1
           (each-map₂ (λ l holds cause e. flipped-head s′ f (l .head) (holds e) (false-of-not _ (λ i. not-both (cause e i) uncaused))) ls
-          (caused-iff (λ h. satisfiesHead s′ h ≡ true) ls .0 (h .satisfied)) (heads-cause applies (literalIn s′ f) ls))
+          (caused-iff n s a s′ (λ h. satisfiesHead s′ h ≡ true) ls .0 (h .satisfied)) (heads-cause applies (literalIn s′ f) ls))
 
   pub explained-iff : (ls : List Law) → Explained n ls s a s′ ↔ StateCaused ls
   explained-iff ls = (
@@ -139,6 +101,6 @@ module _ (n : ℕ) (s a s′ : Interpretation) where
       satisfied = h .0;
       only = λ I all f b. literal-satisfied I s′ f
           (cause-heads applies (literalIn s′ f) (λ h. satisfiesHead I h ≡ true) ls (h .1 f b)
-          (caused-iff (λ h. satisfiesHead I h ≡ true) ls .0 all));
+          (caused-iff n s a s′ (λ h. satisfiesHead I h ≡ true) ls .0 all));
     },
   )

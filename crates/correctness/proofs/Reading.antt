@@ -18,9 +18,10 @@ use Rattle.description.specs.declared.Law.{Law}
 use Rattle.description.specs.Laws.{isStatic, ifList, afterList}
 use Rattle.description.specs.Meaning.{Interpretation, holds, satisfiesHead, together, Explained, SatisfiesStatic, State, stateAt, actionAt, Path}
 use Rattle.search.specs.Replies.{orElse}
-use Rattle.causal.specs.Verdicts.{Causal, contradicted, uncaused, path, appliesAtStart, appliesInStep, literalIn, someCause, contradicts, stepVerdict, stepsFrom, causalVerdict}
-use Rattle.causal.proofs.CausedHeads.{Heads}
-use Rattle.correctness.proofs.Explained.{caused-iff, explained-iff}
+use Rattle.causes.specs.Applying.{appliesAtStart, appliesInStep, literalIn, someCause, contradicts}
+use Rattle.causal.specs.Verdicts.{Causal, contradicted, uncaused, path, stepVerdict, stepsFrom, causalVerdict}
+use Rattle.causes.proofs.CausedHeads.{Heads, caused-iff}
+use Rattle.correctness.proofs.Explained.{explained-iff}
 
 -- What a reading finds, law by law
 

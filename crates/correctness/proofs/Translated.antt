@@ -34,8 +34,8 @@ use Rattle.search.proofs.Parity.{even-or-odd}
 use Rattle.description.proofs.Fits.{CodesBelow, HeadBelow, AfterBelow, Fits, law-fits}
 use Rattle.translation.specs.Rules.{atTime, headAt, literalsAt, staticRule, translation}
 use Rattle.translation_bounds.proofs.RuleByRule.{stepRule, AtStart, AtChoice, EachRule, each-rule}
-use Rattle.causal.specs.Verdicts.{appliesAtStart, literalIn, headIs, someCause}
-use Rattle.causal.proofs.CausedHeads.{cause-heads, heads-cause}
+use Rattle.causes.specs.Applying.{appliesAtStart, literalIn, headIs, someCause}
+use Rattle.causes.proofs.CausedHeads.{cause-heads, heads-cause}
 use Rattle.correctness.proofs.Explained.{satisfied-literal, literal-holds, literal-below}
 use Rattle.correctness.proofs.Reading.{Obeyed, Supplied, inStep, path-iff}
 use Rattle.correctness.specs.Demand3.{OneValue}

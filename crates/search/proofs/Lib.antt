@@ -3,3 +3,4 @@ pub mod Tests
 pub mod Parity
 pub mod Lists
 pub mod Loops
+pub mod Stored

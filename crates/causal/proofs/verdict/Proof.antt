@@ -5,28 +5,29 @@ use Rattle.search.specs.Search.{first, placeOf}
 use Rattle.search.proofs.Loops.{at-place, no-place}
 use Rattle.description.specs.Laws.{lawsOf}
 use Rattle.description.specs.Meaning.{stateAt}
-use Rattle.causal.specs.Verdicts.{contradicts, appliesAtStart, causalVerdict}
+use Rattle.causes.specs.Applying.{contradicts, appliesAtStart}
+use Rattle.causal.specs.Verdicts.{causalVerdict}
 use Rattle.causal.proofs.States.{first-at-start}
 use borrow.Author.Needs.{needs}
 use Rattle.causal.proofs.verdict.Statement.{statement}
 use Rattle.causal.proofs.verdict.Tie as tie
 
 -- the law found is the one that the verdict names
-found : (c : tie.After-first-contradiction) → let a = c .before .before .args in let s = stateAt (a .d .fluents) (a .d .actions) (a .values .now) 0 in
-    placeOf (c .first-contradiction .result) ≡ first (contradicts (appliesAtStart s) s) 0 (lawsOf (a .d) (a .laws))
+found : (c : tie.After-first-broken) → let a = c .before .before .args in let s = stateAt (a .d .fluents) (a .d .actions) (a .values .now) 0 in
+    placeOf (c .first-broken .result) ≡ first (contradicts (appliesAtStart s) s) 0 (lawsOf (a .d) (a .laws))
 found c =
     let a = c .before .before .args in
-    c .first-contradiction .ensures ∙ first-at-start (a .d .fluents) (a .d .actions) (a .values .now) (lawsOf (a .d) (a .laws))
+    c .first-broken .ensures ∙ first-at-start (a .d .fluents) (a .d .actions) (a .values .now) (lawsOf (a .d) (a .laws))
 
-first-contradiction-requires : tie.Need-first-contradiction-requires
-first-contradiction-requires c κs = search needs
+first-broken-requires : tie.Need-first-broken-requires
+first-broken-requires c κs = search needs
 
-enum-known-contradicting : tie.Need-enum-known-contradicting
-enum-known-contradicting c = search needs
+enum-known-broken : tie.Need-enum-known-broken
+enum-known-broken c = search needs
 
 returns : tie.Need-returns
 unfolding causalVerdict
-returns c = rw (at-place (found (c .before .before .before)) (c .before .contradicting .given .1))
+returns c = rw (at-place (found (c .before .before .before)) (c .before .broken .given .1))
 
 enum-told : tie.Need-enum-told
 enum-told c = search needs
@@ -42,8 +43,8 @@ pub verdict-spec : {M : Type 1} → statement M
 verdict-spec =
     tie.close
     (tie.spec
-    first-contradiction-requires
-    enum-known-contradicting
+    first-broken-requires
+    enum-known-broken
     returns
     enum-told
     steps-requires

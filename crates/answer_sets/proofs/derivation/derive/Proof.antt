@@ -11,7 +11,7 @@ use lib.ListN.{length-replicate}
 use Rattle.answer_sets.specs.Verdicts.{rounds, round}
 use Rattle.logic_programs.specs.Words.{rulesOf}
 use Rattle.rule_tables.specs.Bodies.{marked}
-use Rattle.answer_sets.proofs.Stores.{clear-marks}
+use Rattle.search.proofs.Stored.{getD-replicate}
 use Rattle.answer_sets.proofs.Decoding.{accepted-below, codes-heads}
 use Rattle.answer_sets.proofs.Fronts.{accepted-sound}
 use Rattle.answer_sets.proofs.derivation.derive.Statement.{statement}
@@ -33,7 +33,7 @@ clear-requires : tie.Need-clear-requires Inv-loop μ-loop
 clear-requires c κs = tt
 
 loop-holds : tie.Need-loop-holds Inv-loop μ-loop
-loop-holds c = (omega arith, rw (c .clear .ensures) (length-replicate 2048 false), fun-ext (λ k. rw (c .clear .ensures) (clear-marks 2048 k)))
+loop-holds c = (omega arith, rw (c .clear .ensures) (length-replicate 2048 false), fun-ext (λ k. rw (c .clear .ensures) (getD-replicate 2048 k false)))
 
 round-requires : tie.Need-round-requires Inv-loop μ-loop
 round-requires c κs = accepted-sound _ _ (c .before .before .before .before .pre .0) (c .before .before .before .before .pre .1)

@@ -11,7 +11,7 @@ use lib.ListN.{length-replicate}
 use Rattle.answer_sets.specs.Verdicts.{round}
 use Rattle.rule_tables.specs.Bodies.{marked}
 use Rattle.answer_sets.specs.Internal.{Sound}
-use Rattle.answer_sets.proofs.Stores.{clear-marks}
+use Rattle.search.proofs.Stored.{getD-replicate}
 use Rattle.rule_tables.proofs.Fronts.{left-behind, shorter}
 use Rattle.answer_sets.proofs.Fronts.{derives-literal, sound-size, sound-head, sound-rest, rules-end, round-turn}
 use Rattle.answer_sets.proofs.derivation.round.Statement.{statement}
@@ -31,7 +31,7 @@ clear-requires c κs = tt
 loop-holds : tie.Need-loop-holds Inv-loop μ-loop
 loop-holds c =
     let c2 = c .before .before in
-    (omega arith, c2 .pre, rw (c .clear .ensures) (length-replicate 2048 false), λ k. rw (c .clear .ensures, clear-marks 2048 k))
+    (omega arith, c2 .pre, rw (c .clear .ensures) (length-replicate 2048 false), λ k. rw (c .clear .ensures, getD-replicate 2048 k false))
 
 shared-slice-read-head : tie.Need-shared-slice-read-head Inv-loop μ-loop
 shared-slice-read-head c = c .before .loop-test .taken

@@ -1,0 +1,4 @@
+-- What laws do in a step. Read in this order.
+pub mod Applying
+pub mod Marked
+pub mod Internal
