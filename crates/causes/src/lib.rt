@@ -79,9 +79,9 @@ pub fn first_uncaused(marks: &[bool], n: usize, state: &[u8]) -> Found
 pub fn first_broken(laws: [Law; 64], count: usize, state: &[u8]) -> Found
     ensures { λ r. ⌜ placeOf r ≡ first (contradicts (appliesAtStart (read (now (state .entry)))) (read (now (state .entry)))) 0 (take count laws) ⌝ }
 {
-    let end = values::least(count, 64);
+    let limit = values::least(count, 64);
     let mut i = 0;
-    while i < end {
+    while i < limit {
         let law = laws[i];
         if laws::breaks(state, law) {
             return Found::At(i);

@@ -12,12 +12,12 @@ use Rattle.causes.proofs.first_broken.Statement.{statement}
 use Rattle.causes.proofs.first_broken.Tie as tie
 
 abbrev Inv-loop : tie.InvT-loop
-Inv-loop count state laws end i₀ i =
-    (end ≤ 64) × (length laws ≡ 64)
-    × (first (contradicts (appliesAtStart (read state)) (read state)) i (drop i (take end laws)) ≡ first (contradicts (appliesAtStart (read state)) (read state)) 0 (take count laws))
+Inv-loop count state laws limit i₀ i =
+    (limit ≤ 64) × (length laws ≡ 64)
+    × (first (contradicts (appliesAtStart (read state)) (read state)) i (drop i (take limit laws)) ≡ first (contradicts (appliesAtStart (read state)) (read state)) 0 (take count laws))
 
 abbrev μ-loop : tie.MeasureT-loop
-μ-loop count state laws end i₀ i = end - i
+μ-loop count state laws limit i₀ i = limit - i
 
 least-requires : tie.Need-least-requires Inv-loop μ-loop
 least-requires c κs = tt
