@@ -17,7 +17,7 @@ extern "C" {
     fn causal_times(input: *const u8, input_length: usize, times: usize) -> u64;
 }
 
-/// How many readings are timed together.
+/// How many readings are timed together, on either side.
 const TIMES: u32 = 100;
 
 /// The library: an input is read once, and its history causally once and so many times more.
@@ -64,13 +64,14 @@ fn time_sample(label: &str, text: &[u8]) {
         input.description.laws.len(),
         input.description.horizon
     );
-    let mut readings = readings_time(text, TIMES);
-    let times = by_turns(
-        || readings() / f64::from(TIMES),
-        timed(|| {
+    let mut proved = readings_time(text, TIMES);
+    let mut own = timed(|| {
+        for _ in 0..TIMES {
             black_box(reading(black_box(&input)));
-        }),
-    );
+        }
+    });
+    let each = f64::from(TIMES);
+    let times = by_turns(|| proved() / each, || own() / each);
     print_pair("causal reading", &times);
     println!(
         "    {} readings take {:.1} times as long as {TIMES}",
