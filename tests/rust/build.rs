@@ -1,7 +1,7 @@
-//! Tells the linker where the static library lies.
+//! Tells the linker where the static libraries lie.
 //!
-//! The library itself is named in `src/lent.rs`, which only the linking programs include; a search path that does not
-//! exist does no harm to the others.
+//! The libraries themselves are named in `src/lent.rs` and `src/bin/causal_benchmark.rs`, which only the linking programs
+//! include; a search path that does not exist does no harm to the others.
 
 use std::env;
 use std::path::Path;
@@ -15,8 +15,10 @@ fn main() {
         default.to_string_lossy().into_owned()
     });
     println!("cargo:rustc-link-search=native={directory}");
-    let archive = Path::new(&directory).join("libhuntyghai.a");
-    if archive.exists() {
-        println!("cargo:rerun-if-changed={}", archive.display());
+    for name in ["libhuntyghai.a", "libcausal_times.a"] {
+        let archive = Path::new(&directory).join(name);
+        if archive.exists() {
+            println!("cargo:rerun-if-changed={}", archive.display());
+        }
     }
 }

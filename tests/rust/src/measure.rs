@@ -55,16 +55,20 @@ fn run(call: &mut impl FnMut(), calls: u32) -> f64 {
     start.elapsed().as_nanos() as f64 / f64::from(calls)
 }
 
-/// Times two calls by turns, so that whatever slows the machine down slows both.
-pub fn pair(mut first: impl FnMut(), mut second: impl FnMut()) -> Pair {
-    let first_calls = warm_up(&mut first);
-    let second_calls = warm_up(&mut second);
+/// A call, warmed up: each run of it answers the nanoseconds of one call.
+pub fn timed(mut call: impl FnMut()) -> impl FnMut() -> f64 {
+    let calls = warm_up(&mut call);
+    move || run(&mut call, calls)
+}
+
+/// Runs two sides by turns, so that whatever slows the machine down slows both. Each answers its nanoseconds.
+pub fn by_turns(mut first: impl FnMut() -> f64, mut second: impl FnMut() -> f64) -> Pair {
     let mut first_times = Vec::new();
     let mut second_times = Vec::new();
     let start = Instant::now();
     while first_times.len() < RUNS && (first_times.len() < FEWEST || start.elapsed() < LONGEST) {
-        first_times.push(run(&mut first, first_calls));
-        second_times.push(run(&mut second, second_calls));
+        first_times.push(first());
+        second_times.push(second());
     }
     let runs = first_times.len();
     Pair {
@@ -72,6 +76,23 @@ pub fn pair(mut first: impl FnMut(), mut second: impl FnMut()) -> Pair {
         second: median(&mut second_times),
         runs,
     }
+}
+
+/// Times two calls by turns.
+pub fn pair(first: impl FnMut(), second: impl FnMut()) -> Pair {
+    let first = timed(first);
+    by_turns(first, timed(second))
+}
+
+/// Prints a library's time beside the reading's.
+pub fn print_pair(what: &str, times: &Pair) {
+    println!(
+        "  {what}: library {}, reading {}, ratio {:.2} (median of {} runs a side)",
+        readable(times.first),
+        readable(times.second),
+        times.ratio(),
+        times.runs
+    );
 }
 
 /// Nanoseconds in a readable unit.

@@ -1,4 +1,5 @@
-//! Recipes that more than one program uses: the contract's full recipe, the largest one, and one of any horizon.
+//! Recipes that more than one program uses: the contract's full recipe, the largest one, one of any horizon, and one in
+//! which nothing changes.
 
 use crate::generate::render::{description_text, history_text};
 use crate::reading::model::{Description, Head, Law};
@@ -123,6 +124,33 @@ pub fn belt_recipe(horizon: usize) -> Vec<u8> {
             values.push(if loaded(time + places) { 1 } else { 2 });
         }
     }
+    whole_text(&description, &values)
+}
+
+/// Inertia alone: 24 fluents that stay as they are, by two laws each, over the most steps. There are no actions.
+pub fn inertia_description() -> Description {
+    let fluents = MAX_FLUENTS;
+    let law = |literal: u16| Law {
+        head: Head::Literal(literal),
+        ifs: vec![literal],
+        after: Some(vec![literal]),
+    };
+    Description {
+        horizon: MAX_HORIZON,
+        fluents: numbered('f', fluents),
+        actions: vec![],
+        laws: (0..2 * fluents as u16).map(law).collect(),
+        length: 0,
+        lines: 0,
+    }
+}
+
+/// Inertia with a history that passes: every third fluent is true, the others are false.
+pub fn inertia_recipe() -> Vec<u8> {
+    let description = inertia_description();
+    let fluents = description.fluents.len();
+    let value = |atom: usize| if (atom % fluents).is_multiple_of(3) { 1 } else { 2 };
+    let values: Vec<u8> = (0..description.atoms()).map(value).collect();
     whole_text(&description, &values)
 }
 

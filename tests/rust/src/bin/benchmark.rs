@@ -10,7 +10,7 @@ use lent::Lent;
 use readings::answer::{Answer, PASSES};
 use readings::calls::{Calls, Reading};
 use readings::clingo;
-use readings::measure::{pair, readable, Pair};
+use readings::measure::{pair, print_pair, readable, Pair};
 use readings::reading::report::read_input;
 use readings::reading::translation::all_rules;
 use readings::recipes::{belt_recipe, full_recipe, largest_recipe};
@@ -100,16 +100,6 @@ fn time_history_check(sample: &Sample) -> Pair {
             black_box(Reading.check_history(black_box(&sample.text), black_box(&sample.values), &mut own));
         },
     )
-}
-
-fn print_pair(what: &str, times: &Pair) {
-    println!(
-        "  {what}: library {}, reading {}, ratio {:.2} (median of {} runs a side)",
-        readable(times.first),
-        readable(times.second),
-        times.ratio(),
-        times.runs
-    );
 }
 
 fn time_sample(sample: &Sample) {

@@ -9,7 +9,9 @@ use super::model::Description;
 use super::report::{output, read_input};
 use super::translation::{translate, Table};
 use super::{Refusal, MAX_LAWS};
-use crate::recipes::{belt_recipe, full_recipe, largest_description, largest_recipe, FULL_DESCRIPTION, FULL_HISTORY};
+use crate::recipes::{
+    belt_recipe, full_recipe, inertia_recipe, largest_description, largest_recipe, FULL_DESCRIPTION, FULL_HISTORY,
+};
 
 fn full_description() -> Description {
     read_description(FULL_DESCRIPTION.as_bytes(), MAX_LAWS).expect("the full recipe is taken")
@@ -169,6 +171,12 @@ fn largest_table_has_30_912_words() {
 fn largest_recipe_passes() {
     let printed = String::from_utf8(output(&largest_recipe())).unwrap();
     assert!(printed.starts_with("horizon=30\natoms=984\nrules=2448\nwords=30912\nanswer=passes\nat=\ncausal=path\n"));
+}
+
+#[test]
+fn inertia_passes() {
+    let printed = String::from_utf8(output(&inertia_recipe())).unwrap();
+    assert!(printed.starts_with("horizon=30\natoms=744\nrules=1488\nwords=7392\nanswer=passes\nat=\ncausal=path\n"));
 }
 
 #[test]
