@@ -9,10 +9,11 @@ use Prim.Native.Nat.{ℕ, suc, _+_, _≤_, _<_}
 use native.Mathlib.Omega.{arith}
 use types.Run.{OneOf}
 use denote.Enum.Declared.{tagOf}
+use borrow.Author.Tests.{eqb-true}
 use lib.Dec.{eqb}
 use lib.ListN.{length, getD, set, take, drop, replicate}
 use Rattle.search.specs.Search.{first, range}
-use Rattle.search.proofs.Tests.{not-both}
+use Rattle.search.proofs.Tests.{not-both, or-iff}
 use Rattle.search.proofs.Loops.{rest-cons, rest-done, prefix-stop, prefix-go, prefix-done}
 use Rattle.search.proofs.Stored.{getD-replicate, getD-set}
 use Rattle.description.specs.declared.Head.{Head}
@@ -21,7 +22,7 @@ use Rattle.description.specs.declared.Law.{Law}
 use Rattle.description.specs.Meaning.{Interpretation, satisfies, satisfiesHead, caused}
 use Rattle.causes.specs.Applying.{appliesInStep, literalIn, headIs, someCause, contradicts}
 use Rattle.causes.specs.Marked.{before, marked, MarksOf}
-use Rattle.causes.specs.Internal.{effectOf, isCause}
+use Rattle.causes.specs.Internal.{effectOf, isCause, headMarked}
 use Rattle.causes.specs.declared.laws.Effect.{Effect}
 use Rattle.causes.specs.declared.laws.Effect.the-variants.{Idle, Causes, Contradicts}
 use Rattle.causes.proofs.laws.Effect.{the-type}
@@ -48,6 +49,16 @@ agreeing s′ (Lit d) true told = go (satisfies s′ d) told
     go false q = absurd (⊎-elim (λ z. omega arith) (λ z. omega arith) q)
 agreeing s′ False true told = absurd (⊎-elim (λ z. omega arith) (λ z. omega arith) told)
 agreeing s′ h false told = (refl, λ c. refl)
+
+-- what is caused holds in the new state
+pub caused-holds : (s′ : Interpretation) (h : Head) (b : Bool) (c : ℕ) → isCause (effectOf s′ h b) c ≡ true → satisfies s′ c ≡ true
+caused-holds s′ (Lit d) true c e = go (satisfies s′ d) refl e
+  where
+    go : (v : Bool) → satisfies s′ d ≡ v → isCause (cond v (Causes d) Contradicts) c ≡ true → satisfies s′ c ≡ true
+    go true held q = rw (← eqb-true d c q) held
+    go false held q = absurd (not-both q refl)
+caused-holds s′ False true c e = absurd (not-both e refl)
+caused-holds s′ h false c e = absurd (not-both e refl)
 
 -- a law that causes nothing
 pub causes-nothing : (e : Effect) → OneOf (0 ∷ 2 ∷ []) (tagOf the-type e) → (c : ℕ) → isCause e c ≡ false
@@ -88,6 +99,30 @@ caused-marks n s a s′ ls marks h c = go (marked marks c) (someCause (appliesIn
     go false true f g = f .1 (g .0 refl)
     go false false f g = refl
 
+-- a law whose head is marked or not, where all that is marked holds in the new state
+module _ (s′ : Interpretation) (marks : List Bool) (held : (c : ℕ) → marked marks c ≡ true → satisfies s′ c ≡ true) where
+  -- it contradicts only where its head is not marked
+  pub known-contradicting : (h : Head) (b known : Bool) → effectOf s′ h (not known && b) ≡ Contradicts → (b && not (satisfiesHead s′ h)) ≡ true
+  known-contradicting h b true e = let z : _≡_ {A = ℕ} 0 1 = cc in absurd (omega arith)
+  known-contradicting h b false e = contradicting s′ h b e
+
+  -- and where it is, nothing is left to be marked
+  pub known-agreeing : (h : Head) (b known : Bool) → known ≡ headMarked marks h → OneOf (0 ∷ 1 ∷ []) (tagOf the-type (effectOf s′ h (not known && b)))
+      → ((b && not (satisfiesHead s′ h)) ≡ false)
+      × ((c : ℕ) → (isCause (effectOf s′ h (not known && b)) c || marked marks c) ≡ ((b && headIs h c) || marked marks c))
+  known-agreeing h b false is told = let agrees = agreeing s′ h b told in (agrees .0, λ c. rw (agrees .1 c))
+  known-agreeing (Lit d) b true is told = (rw (held d (sym is)) (none-against b), λ c. same c (eqb d c) refl b)
+    where
+      none-against : (v : Bool) → (v && false) ≡ false
+      none-against true = refl
+      none-against false = refl
+
+      same : (c : ℕ) (e : Bool) → eqb d c ≡ e → (v : Bool) → marked marks c ≡ ((v && e) || marked marks c)
+      same c true q true = rw (← eqb-true d c q) (sym is)
+      same c false q true = refl
+      same c e q false = refl
+  known-agreeing False b true is told = absurd (not-both refl is)
+
 -- The loop over the laws of a step: the first `end` of them are tried, which are the first `count`.
 module _ (n : ℕ) (s a s′ : Interpretation) (ls : List Law) (count end : ℕ) where
   abbrev applied : Law → Bool
@@ -96,35 +131,42 @@ module _ (n : ℕ) (s a s′ : Interpretation) (ls : List Law) (count end : ℕ)
   abbrev against : Law → Bool
   against = contradicts applied s′
 
-  -- the lowest law that contradicts is the lowest of those not yet passed, and what is marked together with what the laws ahead cause
-  -- is all that is to be marked
+  -- the lowest law that contradicts is the lowest of those not yet passed; what is marked together with what the laws ahead cause
+  -- is all that is to be marked; and what is marked holds in the new state
   abbrev pub Ahead : ℕ → List Bool → Type 0
   Ahead i marks =
       (first against i (drop i (take end ls)) ≡ first against 0 (take count ls))
       × ((c : ℕ) → (marked marks c || someCause applied c (before against (drop i (take end ls)))) ≡ someCause applied c (before against (take count ls)))
+      × ((c : ℕ) → marked marks c ≡ true → satisfies s′ c ≡ true)
 
   pub try-start : take end ls ≡ take count ls → (marks : List Bool) → marks ≡ replicate 256 false → Ahead 0 marks
-  try-start all marks is = (rw all, λ c. rw (is, getD-replicate 256 c false, all))
+  try-start all marks is = (
+    rw all,
+    λ c. rw (is, getD-replicate 256 c false, all),
+    λ c e. absurd (not-both e (ap (λ l. marked l c) is ∙ getD-replicate 256 c false)),
+  )
 
-  module _ (i : ℕ) (d : Law) (marks : List Bool) where
+  module _ (i : ℕ) (d : Law) (marks : List Bool) (known : Bool) where
     pub try-stop : i < end → end ≤ length ls → length marks ≡ 256 → Ahead i marks
-        → (e : Effect) → e ≡ effectOf s′ (getD ls i d .head) (applied (getD ls i d)) → e ≡ Contradicts
+        → (e : Effect) → e ≡ effectOf s′ (getD ls i d .head) (not known && applied (getD ls i d)) → e ≡ Contradicts
         → (some i ≡ first against 0 (take count ls)) × MarksOf (caused n s a s′ (before against (take count ls))) marks
     try-stop h within size inv e is told =
-        let found = contradicting s′ (getD ls i d .head) (applied (getD ls i d)) (sym is ∙ told) in (
+        let found = known-contradicting s′ marks (inv .2) (getD ls i d .head) (applied (getD ls i d)) known (sym is ∙ told) in (
           prefix-stop against ls end i d h within (inv .0) found,
           marks-caused n s a s′ (before against (take count ls)) marks size
               (λ c. sym (or-false (marked marks c)) ∙ (rw (rest-cons ls end i d h within, found) at (inv .1 c))),
         )
 
-    pub try-go : i < end → end ≤ length ls → Ahead i marks
-        → (e : Effect) → e ≡ effectOf s′ (getD ls i d .head) (applied (getD ls i d)) → OneOf (0 ∷ 1 ∷ []) (tagOf the-type e)
+    pub try-go : i < end → end ≤ length ls → Ahead i marks → known ≡ headMarked marks (getD ls i d .head)
+        → (e : Effect) → e ≡ effectOf s′ (getD ls i d .head) (not known && applied (getD ls i d)) → OneOf (0 ∷ 1 ∷ []) (tagOf the-type e)
         → (next : List Bool) → ((c : ℕ) → marked next c ≡ (isCause e c || marked marks c)) → Ahead (i + 1) next
-    try-go h within inv e is told next marking =
-        let agrees = agreeing s′ (getD ls i d .head) (applied (getD ls i d)) (rw is at told) in (
+    try-go h within inv head-known e is told next marking =
+        let agrees = known-agreeing s′ marks (inv .2) (getD ls i d .head) (applied (getD ls i d)) known head-known (rw is at told) in (
           prefix-go against ls end i d h within (inv .0) (agrees .0),
           λ c. rw (marking c, is, agrees .1 c)
               (exchange (applied (getD ls i d) && headIs (getD ls i d .head) c) (marked marks c) _ ∙ (rw (rest-cons ls end i d h within, agrees .0) at (inv .1 c))),
+          λ c q. ⊎-elim (λ now. caused-holds s′ (getD ls i d .head) (not known && applied (getD ls i d)) c (rw is at now)) (inv .2 c)
+              (or-iff (isCause e c) (marked marks c) .0 (sym (marking c) ∙ q)),
         )
       where
         exchange : (x y z : Bool) → ((x || y) || z) ≡ (y || (x || z))

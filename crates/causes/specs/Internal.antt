@@ -1,11 +1,13 @@
 -- Internal: what the crate's own functions promise each other. No public promise rests on it; a reader may pass it over.
 -- Assumes nothing.
 use mathlib.Core.Bool.{Bool, true, false, cond}
+use mathlib.Core.List.{List}
 use Prim.Native.Nat.{ℕ}
 use lib.Dec.{eqb}
 use Rattle.description.specs.declared.Head.{Head}
 use Rattle.description.specs.declared.Head.the-variants.{Lit, False}
 use Rattle.description.specs.Meaning.{Interpretation, satisfies}
+use Rattle.causes.specs.Marked.{marked}
 use Rattle.causes.specs.declared.laws.Effect.{Effect}
 use Rattle.causes.specs.declared.laws.Effect.the-variants.{Idle, Causes, Contradicts}
 
@@ -23,3 +25,8 @@ abbrev pub isCause : Effect → ℕ → Bool
 isCause Idle c = false
 isCause (Causes d) c = eqb d c
 isCause Contradicts c = false
+
+-- a head is marked; false never is
+abbrev pub headMarked : List Bool → Head → Bool
+headMarked marks (Lit c) = marked marks c
+headMarked marks False = false

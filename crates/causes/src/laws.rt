@@ -5,6 +5,7 @@ use description::Head;
 use description::Kind;
 use description::Law;
 ghost use mathlib.Core.Path.{_≡_};
+ghost use mathlib.Core.Bool.{not, _&&_};
 ghost use Rattle.description.specs.Meaning.{satisfiesHead};
 ghost use Rattle.causes.specs.Applying.{read, contradicts, appliesAtStart, appliesInStep};
 ghost use Rattle.causes.specs.Internal.{effectOf};
@@ -63,12 +64,22 @@ pub(crate) fn head_effect(head: Head, applied: bool, new: &[u8]) -> Effect
     }
 }
 
-// What a law does in a step.
-pub(crate) fn effect_of(law: Law, n: usize, old: &[u8], done: &[u8], new: &[u8]) -> Effect
-    ensures { λ r. ⌜ r ≡ effectOf (read (now (new .entry))) (law .head)
-        (appliesInStep n (read (now (old .entry))) (read (now (done .entry))) (read (now (new .entry))) law) ⌝ }
+// What a law does in a step. A law whose head is known to be caused is not tried again: it does nothing more.
+pub(crate) fn effect_of(
+    law: Law,
+    known: bool,
+    n: usize,
+    old: &[u8],
+    done: &[u8],
+    new: &[u8],
+) -> Effect
+    ensures { λ r. ⌜ r ≡ effectOf (read (now (new .entry))) (law .head) (not known
+        && appliesInStep n (read (now (old .entry))) (read (now (done .entry))) (read (now (new .entry))) law) ⌝ }
 {
     let head = law.head;
+    if known {
+        return Effect::Idle;
+    }
     let applied = applies(law, n, old, done, new);
     head_effect(head, applied, new)
 }

@@ -22,7 +22,8 @@ pub struct Tried {
 }
 
 // Tries each of the first count laws once, as far as the lowest that contradicts the new state; n is the number of fluents.
-// Where none does, code c is marked exactly if it is the head of a law that applies.
+// Where none does, code c is marked exactly if it is the head of a law that applies. What is marked holds in the new state, so a law
+// whose head is marked already can't contradict it and is passed over.
 pub fn try_laws(
     laws: [Law; 64],
     count: usize,
@@ -44,7 +45,9 @@ pub fn try_laws(
     let mut number = 0;
     while number < end {
         let law = laws[number];
-        let effect = laws::effect_of(law, n, old, done, new);
+        let head = law.head;
+        let known = marks::has_head(&marks, head);
+        let effect = laws::effect_of(law, known, n, old, done, new);
         if let Effect::Contradicts = effect {
             return Tried {
                 contradicting: Found::At(number),

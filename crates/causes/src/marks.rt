@@ -1,12 +1,13 @@
 // Marks of literals, one a code.
 use crate::laws::Effect;
 use crate::values;
+use description::Head;
 ghost use mathlib.Core.Path.{_≡_};
 ghost use mathlib.Core.Bool.{false, cond, _||_};
 ghost use Prim.Native.Nat.{ℕ, _+_, _*_, _≤_};
 ghost use lib.ListN.{length, replicate};
 ghost use Rattle.causes.specs.Marked.{marked};
-ghost use Rattle.causes.specs.Internal.{isCause};
+ghost use Rattle.causes.specs.Internal.{headMarked, isCause};
 
 // A mark for each code that a law can hold as its head, all clear.
 pub(crate) fn clear() -> [bool; 256]
@@ -36,6 +37,16 @@ fn has(marks: &[bool], code: usize) -> bool
         return marks[code];
     }
     false
+}
+
+// Whether a head is marked; false never is.
+pub(crate) fn has_head(marks: &[bool], head: Head) -> bool
+    ensures { λ r. ⌜ r ≡ headMarked (now (marks .entry)) head ⌝ }
+{
+    match head {
+        Head::Lit(code) => has(marks, values::wide(code)),
+        Head::False => false,
+    }
 }
 
 // Whether the literal of fluent f with this value is marked.

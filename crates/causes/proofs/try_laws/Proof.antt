@@ -42,6 +42,12 @@ mul-law c = omega arith
 array-copy-out-law : tie.Need-array-copy-out-law Inv-loop μ-loop
 array-copy-out-law c = omega arith
 
+slice-aggregate-has-head : tie.Need-slice-aggregate-has-head Inv-loop μ-loop
+slice-aggregate-has-head c = omega arith
+
+has-head-requires : tie.Need-has-head-requires Inv-loop μ-loop
+has-head-requires c κs = tt
+
 effect-of-requires : tie.Need-effect-of-requires Inv-loop μ-loop
 effect-of-requires c κs = tt
 
@@ -50,11 +56,12 @@ enum-told c = c .match .keys1
 
 returns : tie.Need-returns Inv-loop μ-loop
 returns c =
-    let h = c .before .before .before .before .before in
+    let t = c .before .before in
+    let h = t .before .before .before .before .before in
     let a = h .before .before .before .before .before .before .args in
     try-stop (a .n) (read (a .old .now)) (read (a .done .now)) (read (a .new .now)) (a .t1) (a .count) _ (h .loop .number) _ (h .loop .marks)
-    (c .before .before .before .before .loop-test .taken) (omega arith) (h .loop .inv .2) (h .loop .inv .3) (c .before .before .effect-of .result)
-    (c .before .before .effect-of .ensures) (c .enum-told .given .1)
+    (t .before .has-head .result) (t .before .before .before .before .loop-test .taken) (omega arith) (h .loop .inv .2) (h .loop .inv .3) (t .effect-of .result)
+    (t .effect-of .ensures) (c .enum-told .given .1)
 
 slice-aggregate-mark : tie.Need-slice-aggregate-mark Inv-loop μ-loop
 slice-aggregate-mark c = omega arith
@@ -71,14 +78,14 @@ loop-less c = omega arith
 loop-again : tie.Need-loop-again Inv-loop μ-loop
 loop-again c =
     let t = c .before .before .before .before in
-    let h = t .before .before .before in
+    let h = t .before .before .before .before .before in
     let a = h .before .before .before .before .before .before .args in (
       h .loop .inv .0,
       h .loop .inv .1,
       omega (arith, c .before .mark .ensures .0),
       try-go (a .n) (read (a .old .now)) (read (a .done .now)) (read (a .new .now)) (a .t1) (a .count) _ (h .loop .number) _ (h .loop .marks)
-          (t .before .before .loop-test .taken) (omega arith) (h .loop .inv .3) (t .effect-of .result) (t .effect-of .ensures) (c .before .before .before .match .keys2)
-          (c .before .mark .last .0) (c .before .mark .ensures .1),
+          (t .before .has-head .result) (t .before .before .before .before .loop-test .taken) (omega arith) (h .loop .inv .3) (t .before .has-head .ensures)
+          (t .effect-of .result) (t .effect-of .ensures) (c .before .before .before .match .keys2) (c .before .mark .last .0) (c .before .mark .ensures .1),
     )
 
 returns-2 : tie.Need-returns-2 Inv-loop μ-loop
@@ -99,6 +106,8 @@ try-laws-spec =
     loop-holds
     mul-law
     array-copy-out-law
+    slice-aggregate-has-head
+    has-head-requires
     effect-of-requires
     enum-told
     returns
