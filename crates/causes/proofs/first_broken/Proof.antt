@@ -1,6 +1,6 @@
 -- `first_broken` meets its contract. The loop's invariant: the lowest law that the state breaks is the lowest of those not yet passed.
 -- Assumes nothing.
-use mathlib.Core.Path.{_≡_, sym, _∙_}
+use mathlib.Core.Path.{_≡_, refl, sym, _∙_}
 use Prim.Native.Nat.{_≤_, _-_}
 use native.Mathlib.Omega.{arith}
 use lib.ListN.{length, take, drop}
@@ -25,7 +25,7 @@ least-requires c κs = tt
 loop-holds : tie.Need-loop-holds Inv-loop μ-loop
 loop-holds c =
     let s = c .before .before in
-    (omega (arith, c .least .ensures), s .good .0 .1 .0 .1, rw (take-least _ (s .args .count) (s .good .0 .1 .0 .1) (c .least .ensures)))
+    (omega (arith, c .least .ensures), s .good .0 .1 .0 .1, rw (take-least _ (s .args .count) (s .good .0 .1 .0 .1) (c .least .ensures)) refl)
 
 mul-law : tie.Need-mul-law Inv-loop μ-loop
 mul-law c = omega arith

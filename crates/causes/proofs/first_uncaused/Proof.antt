@@ -32,7 +32,9 @@ tested c =
     ap not (sym (c .has-literal .ensures ∙ ap (λ v. marked (a .marks .now) (cond v (2 * h .loop .f) (2 * h .loop .f + 1))) (c .before .is-true .ensures)))
 
 loop-holds : tie.Need-loop-holds Inv-loop μ-loop
-loop-holds c = rw (sub-zero (c .before .before .args .n))
+loop-holds c =
+    let a = c .before .before .args in
+    ap (λ k. first (unmarked (a .marks .now) (a .state .now)) 0 (range 0 k)) (sub-zero (a .n))
 
 is-true-requires : tie.Need-is-true-requires Inv-loop μ-loop
 is-true-requires c κs = tt

@@ -1,6 +1,6 @@
 -- `applies` meets its contract: the if-list is tested, then a dynamic law's after-list.
 -- Assumes nothing.
-use mathlib.Core.Path.{_≡_, _∙_}
+use mathlib.Core.Path.{_≡_, refl, _∙_}
 use Rattle.search.proofs.Loops.{and-stop, and-go}
 use Rattle.description.specs.Laws.{ifList}
 use Rattle.description.specs.Meaning.{holds}
@@ -39,7 +39,7 @@ holds-requires-2 : tie.Need-holds-requires-2
 holds-requires-2 c κs = search needs
 
 returns-2 : tie.Need-returns-2
-returns-2 c = and-go (c .before .before .before .holds .result) _ (listed (c .before .before .before)) (c .before .before .if1 .left) (rw (c .enum-told .given .1))
+returns-2 c = and-go (c .before .before .before .holds .result) _ (listed (c .before .before .before)) (c .before .before .if1 .left) (rw (c .enum-told .given .1) refl)
 
 returns-3 : tie.Need-returns-3
 returns-3 c =

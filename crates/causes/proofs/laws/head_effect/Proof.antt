@@ -1,6 +1,6 @@
 -- `head_effect` meets its contract: where the law applies, its head decides.
 -- Assumes nothing.
-use mathlib.Core.Path.{_≡_, sym, _∙_, ap}
+use mathlib.Core.Path.{_≡_, refl, sym, _∙_, ap}
 use Rattle.description.specs.Meaning.{satisfies}
 use Rattle.causes.specs.Applying.{read}
 use Rattle.causes.proofs.Interpretations.{alone}
@@ -43,7 +43,7 @@ returns-3 c =
     )
 
 returns-4 : tie.Need-returns-4
-returns-4 c = rw (not-false (c .before .before .before .before .args .applied) (c .before .before .if1 .left), c .enum-told .given .1)
+returns-4 c = rw (not-false (c .before .before .before .before .args .applied) (c .before .before .if1 .left), c .enum-told .given .1) refl
 
 pub head-effect-spec : {M : Type 1} → statement M
 head-effect-spec =

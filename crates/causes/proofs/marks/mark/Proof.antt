@@ -1,9 +1,11 @@
 -- `mark` meets its contract: the code of what was caused is marked, and nothing else changes.
 -- Assumes nothing.
+use mathlib.Core.Path.{refl, _∙_, ap}
+use mathlib.Core.Bool.{true, _||_}
 use native.Mathlib.Omega.{arith}
+use lib.Dec.{eqb}
 use lib.ListN.{length-set}
-use mathlib.Core.Bool.{true}
-use mathlib.Core.Path.{refl}
+use Rattle.causes.specs.Marked.{marked}
 use Rattle.causes.proofs.Trying.{causes-nothing, stored}
 use borrow.Author.Needs.{needs}
 use Rattle.causes.proofs.marks.mark.Statement.{statement}
@@ -25,8 +27,11 @@ returns : tie.Need-returns
 returns c =
     let a = c .before .before .before .before .before in
     let marks = a .args .marks .now in
-    let code = c .wide .result in
-    (length-set marks code true, λ k. rw (c .before .before .effect .given .1, ← c .wide .ensures .0) (stored marks code (omega (arith, c .wide .ensures .1, a .pre)) k))
+    let code = c .wide .result in (
+      length-set marks code true,
+      λ k. rw (c .before .before .effect .given .1)
+          (stored marks code (omega (arith, c .wide .ensures .1, a .pre)) k ∙ ap (λ d. eqb d k || marked marks k) (c .wide .ensures .0)),
+    )
 
 returns-2 : tie.Need-returns-2
 returns-2 c = (refl, λ k. rw (causes-nothing (c .before .before .args .effect) (c .match .keys2) k))
