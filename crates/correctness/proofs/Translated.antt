@@ -32,7 +32,8 @@ use Rattle.description.specs.Acceptance.{lawFits}
 use Rattle.description.specs.Meaning.{Interpretation, satisfies, holds, satisfiesHead, stateAt, Path}
 use Rattle.search.proofs.Parity.{even-or-odd}
 use Rattle.description.proofs.Fits.{CodesBelow, HeadBelow, AfterBelow, Fits, law-fits}
-use Rattle.translation.specs.Rules.{atTime, headAt, literalsAt, staticRule, translation}
+use Rattle.rule_words.specs.RuleForms.{atTime, headAt, literalsAt, staticRule}
+use Rattle.translation.specs.Rules.{translation}
 use Rattle.translation_bounds.proofs.RuleByRule.{stepRule, AtStart, AtChoice, EachRule, each-rule}
 use Rattle.causes.specs.Applying.{appliesAtStart, literalIn, headIs, someCause}
 use Rattle.causes.proofs.CausedHeads.{cause-heads, heads-cause}

@@ -24,7 +24,7 @@ use Rattle.correctness.specs.Demand3.{OneValue}
 use Rattle.search.proofs.Parity.{by-parity}
 use Rattle.description.proofs.Literals.{satisfies-even, satisfies-odd}
 use Rattle.description.proofs.Fits.{CodesBelow}
-use Rattle.translation.specs.Rules.{complement, atTime, complementsAt, literalsAt}
+use Rattle.rule_words.specs.RuleForms.{complement, atTime, complementsAt, literalsAt}
 
 -- the atoms with value true
 abbrev pub truth : List ℕ → Interpretation

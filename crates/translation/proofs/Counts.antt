@@ -14,8 +14,8 @@ use Rattle.description.specs.declared.Kind.{Kind}
 use Rattle.description.specs.declared.Kind.the-variants.{Static, Dynamic}
 use Rattle.description.specs.declared.Law.{Law}
 use Rattle.description.specs.Laws.{ifList, afterList}
-use Rattle.translation.specs.Rules.{complement, atTime, staticRule, dynamicRule, staticRules, dynamicRules, perLaw}
-use Rattle.translation.specs.Rules.{choices, actionAtoms, choiceAtoms, translation}
+use Rattle.rule_words.specs.RuleForms.{complement, atTime, staticRule, dynamicRule, choices}
+use Rattle.translation.specs.Rules.{staticRules, dynamicRules, perLaw, actionAtoms, choiceAtoms, translation}
 
 -- Words of rules
 

@@ -1,7 +1,6 @@
 -- What the functions' proofs cite: the translation's counts for an open horizon, what its writers store, its outcomes.
 pub mod Counts
 pub mod Sums
-pub mod RuleWords
 pub mod Writing
 pub mod Turns
 pub mod Outcomes

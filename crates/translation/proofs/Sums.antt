@@ -14,8 +14,8 @@ use Rattle.description.specs.declared.Law.{Law}
 use Rattle.description.specs.Laws.{ifList}
 use Rattle.search.proofs.Loops.{rest-cons, rest-done}
 use Rattle.logic_programs.specs.Words.{words as wordsOf}
+use Rattle.rule_words.specs.Internal.{byKind, plainList}
 use Rattle.translation.specs.Rules.{translation}
-use Rattle.translation.specs.Internal.{byKind, plainList}
 use Rattle.translation.proofs.Counts.{sumLaws, staticOf, dynamicOf, statics, dynamics, lawWordsOf, rule-count, word-count}
 
 -- what is counted and what the laws not yet passed count make up what the count began with and what all of them count

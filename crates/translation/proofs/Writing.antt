@@ -1,18 +1,23 @@
 -- What the writers' proofs share: runs of stores one behind the other, and the products that times make.
 -- Assumes nothing.
 use mathlib.Core.Path.{_≡_, refl, sym, ap, _∙_}
+use mathlib.Core.Logic.{⊎-elim}
 use mathlib.Core.List.{List, [], _∷_, _++_, map, append-assoc, append-nil}
-use Prim.Native.Nat.{ℕ, suc, _+_, _*_, _≤_, _<_}
+use Prim.Native.Nat.{ℕ, zero, suc, _+_, _-_, _*_, _/_, _%_, _≤_, _<_}
 use native.Mathlib.Nat.{mul-le-mul, add-zero, zero-add, add-suc, suc-add}
 use native.Mathlib.Omega.{arith}
 use native.Mathlib.Numerals.{add-one}
-use lib.ListN.{length, getD, set, drop, length-set, length-append, drop-of-length-le}
-use lib.Seq.{sets, drop-cons, length-sets, sets-eq}
+use borrow.Author.Tests.{ltb-true, ltb-false}
+use lib.Dec.{ltb}
+use lib.ListN.{length, getD, set, drop, length-set, length-append, drop-of-length-le, List·getD-append}
+use lib.Seq.{sets, drop-cons, length-sets, sets-eq, getD-append-add}
 use Rattle.search.specs.Search.{range}
+use Rattle.search.proofs.Tests.{true-or-false}
 use Rattle.description.specs.declared.Kind.{Kind}
 use Rattle.description.specs.declared.Kind.the-variants.{Static, Dynamic}
 use Rattle.description.specs.declared.Law.{Law}
-use Rattle.translation.specs.Rules.{staticRules, dynamicRules, perLaw, choices, actionAtoms, translation}
+use Rattle.rule_words.specs.RuleForms.{choices}
+use Rattle.translation.specs.Rules.{staticRules, dynamicRules, perLaw, actionAtoms, translation}
 use Rattle.translation.specs.Internal.{rulesOf}
 use Rattle.logic_programs.specs.Rules.{Rule}
 use Rattle.logic_programs.specs.Words.{words}
@@ -93,6 +98,34 @@ begun table at ws ws₀ e = rw e (record { as-long = refl; ends = refl; stores =
 pub choices-append : (Bs Cs : List ℕ) → choices (Bs ++ Cs) ≡ choices Bs ++ choices Cs
 choices-append [] Cs = refl
 choices-append (B ∷ Bs) Cs = rw (choices-append Bs Cs)
+
+-- the words of a run of atoms are those of each atom in turn
+pub choices-at : (first count i : ℕ) → i < 8 * count
+    → getD (words (choices (range first count))) i 0 ≡ getD (words (choices ((first + i / 8) ∷ []))) (i % 8) 0
+choices-at first zero i h = absurd (omega arith)
+choices-at first (suc count) i h =
+    ⊎-elim (λ t. here (ltb-true i 8 t)) (λ f. later (ltb-false i 8 f) (choices-at (suc first) count (i - 8))) (true-or-false (ltb i 8))
+  where
+    this : List ℕ
+    this = words (choices (first ∷ []))
+
+    rest : List ℕ
+    rest = words (choices (range (suc first) count))
+
+    here : i < 8 → getD (this ++ rest) i 0 ≡ getD (words (choices ((first + i / 8) ∷ []))) (i % 8) 0
+    here b =
+        let time : first + i / 8 ≡ first = omega arith in
+        let place : i % 8 ≡ i = omega arith in
+        rw (time, place) (List·getD-append this rest 0 i b)
+
+    later : 8 ≤ i
+        → (i - 8 < 8 * count → getD rest (i - 8) 0 ≡ getD (words (choices ((suc first + (i - 8) / 8) ∷ []))) ((i - 8) % 8) 0)
+        → getD (this ++ rest) i 0 ≡ getD (words (choices ((first + i / 8) ∷ []))) (i % 8) 0
+    later b next =
+        let time : suc first + (i - 8) / 8 ≡ first + i / 8 = omega arith in
+        let place : (i - 8) % 8 ≡ i % 8 = omega arith in
+        let behind : 8 + (i - 8) ≡ i = omega arith in
+        rw behind at (getD-append-add this rest (i - 8) 0) ∙ rw (time, place) at (next (omega arith))
 
 perLaw-ext : (f g : Kind → Law → List Rule) → ((k : Kind) (l : Law) → f k l ≡ g k l) → (ls : List Law) → perLaw f ls ≡ perLaw g ls
 perLaw-ext f g same [] = refl

@@ -2,27 +2,11 @@
 -- Assumes nothing.
 use mathlib.Core.List.{List, map}
 use Prim.Native.Nat.{ℕ}
-use lib.ListN.{take}
 use Rattle.search.specs.Search.{range}
 use Rattle.logic_programs.specs.Rules.{Rule}
 use Rattle.description.specs.declared.Kind.{Kind}
-use Rattle.description.specs.declared.Kind.the-variants.{Static, Dynamic}
 use Rattle.description.specs.declared.Law.{Law}
-use Rattle.translation.specs.Rules.{staticRule, dynamicRule}
-
--- the number for a law's kind, of one for static laws and one for dynamic laws
-abbrev pub byKind : ℕ → ℕ → Kind → ℕ
-byKind static dynamic Static = static
-byKind static dynamic Dynamic = dynamic
-
--- the literals of the after-list that are read: none of a static law's
-abbrev pub plainList : Law → List ℕ
-plainList l = take (byKind 0 (l .«after_count») (l .kind)) (l .«after_codes»)
-
--- a law's rule for time t
-abbrev pub ruleFor : ℕ → Kind → Law → ℕ → Rule
-ruleFor N Static l t = staticRule N l t
-ruleFor N Dynamic l t = dynamicRule N l t
+use Rattle.rule_words.specs.Internal.{byKind, ruleFor}
 
 -- a law's rules, of which a static law has as many as one number says, and a dynamic law as the other
 abbrev pub rulesOf : ℕ → ℕ → ℕ → Kind → Law → List Rule

@@ -6,7 +6,6 @@ ghost use mathlib.Core.Path.{_≡_};
 ghost use lib.ListN.{length};
 ghost use Rattle.translation.specs.Translated.{outcomeOf, outcome, tableAfter};
 
-mod lists;
 mod sizes;
 mod writers;
 

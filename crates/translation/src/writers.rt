@@ -1,91 +1,23 @@
 // Writers of rules into a lent table of words. Each stores its words from `at` on, and returns the place behind them. What the
-// words are is said by functions of their place in a rule.
-use crate::lists::by_kind;
-use crate::lists::negated_count;
-use crate::lists::plain_count;
-use crate::lists::rule_size;
-use crate::lists::wide;
+// words are is said by rule_words, by their place in a rule.
 use description::Description;
-use description::Head;
 use description::Law;
+use rule_words::choice_word;
+use rule_words::lists::by_kind;
+use rule_words::lists::rule_size;
+use rule_words::rule_word;
 ghost use mathlib.Core.Path.{_≡_};
-ghost use mathlib.Core.List.{[], _∷_, map};
-ghost use Prim.Native.Nat.{_+_, _*_, _<_, _≤_};
-ghost use lib.ListN.{length, take, getD};
+ghost use mathlib.Core.List.{map};
+ghost use Prim.Native.Nat.{_+_, _≤_};
+ghost use lib.ListN.{length, take};
 ghost use lib.Seq.{sets};
 ghost use Rattle.search.specs.Search.{range};
-ghost use Rattle.logic_programs.specs.Words.{headWord, ruleWords, words};
-ghost use Rattle.translation.specs.Rules.{complement, headAt, perLaw, choices, actionAtoms};
+ghost use Rattle.logic_programs.specs.Words.{ruleWords, words};
+ghost use Rattle.rule_words.specs.RuleForms.{choices};
+ghost use Rattle.rule_words.specs.Internal.{ruleFor};
+ghost use Rattle.translation.specs.Rules.{perLaw, actionAtoms};
 ghost use Rattle.translation.specs.Translated.{tableFor, overwritten};
-ghost use Rattle.translation.specs.Internal.{ruleFor, rulesOf};
-
-// What is added to a literal's code for time t, over n fluents and actions.
-fn shift(n: usize, t: usize) -> usize
-    requires { ⌜ (n ≤ 32) × (t ≤ 31) ⌝ }
-    ensures { λ r. ⌜ (r ≡ 2 * (t * n)) × (r ≤ 1984) ⌝ }
-{
-    2 * (t * n)
-}
-
-// The word of a law's head at time t: its literal's code, or 65535 for false.
-fn head_word(law: Law, n: usize, t: usize) -> u16
-    requires { ⌜ (n ≤ 32) × (t ≤ 31) ⌝ }
-    ensures { λ r. ⌜ r ≡ headWord (headAt n t (law .head)) ⌝ }
-{
-    let head = law.head;
-    match head {
-        Head::Lit(code) => (shift(n, t) + wide(code)) as u16,
-        Head::False => 65535,
-    }
-}
-
-// The word of the negated part at place i of a law's rule: the complement of the if-list's literal there, moved on by `base`.
-fn negated_word(law: Law, i: usize, base: usize) -> u16
-    requires { ⌜ (i < 6) × (base ≤ 1984) ⌝ }
-    ensures { λ r. ⌜ r ≡ complement (base + getD (law .«if_codes») i 0) ⌝ }
-{
-    let codes = law.if_codes;
-    let code = base + wide(codes[i]);
-    if code % 2 == 0 {
-        (code + 1) as u16
-    } else {
-        (code - 1) as u16
-    }
-}
-
-// The word of the plain part at place i: the after-list's literal there, moved on by `base`.
-fn plain_word(law: Law, i: usize, base: usize) -> u16
-    requires { ⌜ (i < 6) × (base ≤ 1984) ⌝ }
-    ensures { λ r. ⌜ r ≡ base + getD (law .«after_codes») i 0 ⌝ }
-{
-    let codes = law.after_codes;
-    (base + wide(codes[i])) as u16
-}
-
-// Word i of a law's rule for time t: its head, the counts of its negated and plain parts, the complements of its if-list, its
-// after-list. A dynamic law's head and if-list are at t + 1, and its after-list is at t.
-fn rule_word(law: Law, n: usize, t: usize, i: usize) -> u16
-    requires { ⌜ (n ≤ 32) × (t ≤ 30) × (i < length (ruleWords (ruleFor n (law .kind) law t))) ⌝ }
-    ensures { λ r. ⌜ r ≡ getD (ruleWords (ruleFor n (law .kind) law t)) i 0 ⌝ }
-{
-    let new = by_kind(law, t, t + 1);
-    let negated = negated_count(law);
-    let plain = plain_count(law);
-    if i == 0 {
-        return head_word(law, n, new);
-    }
-    if i == 1 {
-        return negated as u16;
-    }
-    if i == 2 {
-        return plain as u16;
-    }
-    let part = i - 3;
-    if part < negated {
-        return negated_word(law, part, shift(n, new));
-    }
-    plain_word(law, part - negated, shift(n, t))
-}
+ghost use Rattle.translation.specs.Internal.{rulesOf};
 
 // A law's rule for time t.
 fn write_rule(table: &mut [u16], at: usize, law: Law, n: usize, t: usize) -> usize
@@ -144,21 +76,6 @@ fn write_laws(
         i += 1;
     }
     place
-}
-
-// Word i of the two rules that leave an atom open: not the atom unless it is in the set, then the atom unless its negation is.
-fn choice_word(atom: usize, i: usize) -> u16
-    requires { ⌜ atom < 1024 ⌝ }
-    ensures { λ r. ⌜ r ≡ getD (words (choices (atom ∷ []))) i 0 ⌝ }
-{
-    let positive = (2 * atom) as u16;
-    let negative = positive + 1;
-    match i {
-        0 | 7 => negative,
-        3 | 4 => positive,
-        1 | 5 => 1,
-        _ => 0,
-    }
 }
 
 // The choices of `count` atoms from `first` on, eight words for each.

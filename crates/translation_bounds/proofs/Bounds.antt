@@ -24,7 +24,8 @@ use Rattle.description.specs.Atoms.{actionAtom, atomCount}
 use Rattle.description.specs.Acceptance.{lawFits}
 use Rattle.description.proofs.Fits as fits
 use Rattle.description.proofs.Laws.{AllFit, fits-if, fits-after}
-use Rattle.translation.specs.Rules.{complement, atTime, headAt, complementsAt, literalsAt, translation}
+use Rattle.rule_words.specs.RuleForms.{complement, atTime, headAt, complementsAt, literalsAt}
+use Rattle.translation.specs.Rules.{translation}
 use Rattle.translation_bounds.proofs.RuleByRule.{AtStart, AtChoice, stepRule, each-rule}
 use Rattle.translation.proofs.Counts.{sumLaws, staticOf, dynamicOf, statics, dynamics, lawWordsOf, rule-count, word-count}
 

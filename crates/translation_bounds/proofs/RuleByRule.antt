@@ -13,7 +13,8 @@ use Rattle.description.specs.declared.Kind.{Kind}
 use Rattle.description.specs.declared.Kind.the-variants.{Static, Dynamic}
 use Rattle.description.specs.declared.Law.{Law}
 use Rattle.description.specs.Atoms.{fluentAtom, actionAtom}
-use Rattle.translation.specs.Rules.{staticRule, dynamicRule, staticRules, dynamicRules, perLaw, choices, actionAtoms, choiceAtoms, translation}
+use Rattle.rule_words.specs.RuleForms.{staticRule, dynamicRule, choices}
+use Rattle.translation.specs.Rules.{staticRules, dynamicRules, perLaw, actionAtoms, choiceAtoms, translation}
 
 -- the rule of a law for the step from time t: its head is at t + 1
 abbrev pub stepRule : ℕ → ℕ → Kind → Law → Rule

@@ -10,7 +10,8 @@ use Rattle.answer_sets.specs.Answers as engine
 use Rattle.answer_sets.specs.Examples as engine-list
 use Rattle.answer_sets.proofs.Examples as engine-list-holds
 use Rattle.description.specs.Acceptance.{badRecord, badHorizon}
-use Rattle.translation.specs.Rules.{complement, translation}
+use Rattle.rule_words.specs.RuleForms.{complement}
+use Rattle.translation.specs.Rules.{translation}
 use Rattle.translation.specs.Translated as translated
 use Rattle.history.specs.Checks as history
 use Rattle.causal.specs.Verdicts.{causalVerdict}

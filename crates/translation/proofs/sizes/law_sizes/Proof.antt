@@ -3,7 +3,7 @@
 use mathlib.Core.Path.{ap}
 use Prim.Native.Nat.{_+_, _*_, _≤_}
 use native.Mathlib.Omega.{arith}
-use Rattle.translation.proofs.RuleWords.{by-kind-bound}
+use Rattle.rule_words.proofs.RuleWords.{by-kind-bound}
 use Rattle.translation.proofs.Writing.{product-bound}
 use Rattle.translation.proofs.sizes.law_sizes.Statement.{statement}
 use Rattle.translation.proofs.sizes.law_sizes.Tie as tie

@@ -6,7 +6,8 @@ use native.Mathlib.Nat.{sub-zero, add-zero}
 use native.Mathlib.Omega.{arith}
 use Rattle.search.specs.Search.{range}
 use Rattle.logic_programs.specs.Words.{words}
-use Rattle.translation.specs.Rules.{choices, actionAtoms}
+use Rattle.rule_words.specs.RuleForms.{choices}
+use Rattle.translation.specs.Rules.{actionAtoms}
 use Rattle.translation.proofs.Counts.{words-append}
 use Rattle.translation.proofs.Turns.{Turns, counted, Before, starts, fits, turned, finished}
 use Rattle.translation.proofs.Writing.{product-bound, choices-append}

@@ -7,10 +7,9 @@ use lib.ListN.{length}
 use Rattle.search.specs.Search.{range}
 use Rattle.search.proofs.Tests.{length-range}
 use Rattle.logic_programs.specs.Words.{words}
-use Rattle.translation.specs.Rules.{choices}
+use Rattle.rule_words.specs.RuleForms.{choices}
 use Rattle.translation.proofs.Counts.{length-words-choices}
-use Rattle.translation.proofs.RuleWords.{choices-at}
-use Rattle.translation.proofs.Writing.{Storing, storing-first, storing-next, storing-last}
+use Rattle.translation.proofs.Writing.{choices-at, Storing, storing-first, storing-next, storing-last}
 use Rattle.translation.proofs.writers.write_choices.Statement.{statement}
 use Rattle.translation.proofs.writers.write_choices.Tie as tie
 
@@ -33,7 +32,7 @@ add-choice-word : tie.Need-add-choice-word Inv-loop μ-loop
 add-choice-word c = omega arith
 
 choice-word-requires : tie.Need-choice-word-requires Inv-loop μ-loop
-choice-word-requires c κs = omega arith
+choice-word-requires c κs = tt
 
 -- there is room for what a turn stores
 room : (c : tie.In-loop Inv-loop μ-loop) → let a = c .before .before .before .args in length (words (choices (range (a .first) (a .count)))) ≡ 8 * a .count
@@ -59,7 +58,7 @@ loop-again c =
     let h = c .before .before in
     let a = h .before .before .args in
     storing-next (h .loop .inv) (omega (arith, room (c .before)))
-    (c .choice-word .ensures ∙ sym (choices-at (a .first) (a .count) (h .loop .i) (omega arith)))
+    (c .choice-word .ensures (omega arith) ∙ sym (choices-at (a .first) (a .count) (h .loop .i) (omega arith)))
 
 add-result : tie.Need-add-result Inv-loop μ-loop
 add-result c = let a = c .before .before .before .args in omega (arith, size (a .first) (a .count))

@@ -13,7 +13,7 @@ use Rattle.description.specs.declared.Law.{Law}
 use Rattle.translation.specs.Rules.{perLaw}
 use Rattle.translation.specs.Internal.{rulesOf}
 use Rattle.translation.proofs.Counts.{words-append}
-use Rattle.translation.proofs.RuleWords.{by-kind-bound}
+use Rattle.rule_words.proofs.RuleWords.{by-kind-bound}
 use Rattle.translation.proofs.Sums.{past}
 use Rattle.translation.proofs.Turns.{Turns, Before, starts, fits, turned, finished}
 use Rattle.translation.proofs.writers.write_laws.Statement.{statement}

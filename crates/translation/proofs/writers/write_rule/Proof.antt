@@ -4,8 +4,8 @@ use Prim.Native.Nat.{_-_, _<_}
 use native.Mathlib.Omega.{arith}
 use lib.ListN.{length}
 use Rattle.logic_programs.specs.Words.{ruleWords}
-use Rattle.translation.specs.Internal.{ruleFor}
-use Rattle.translation.proofs.RuleWords.{rule-length}
+use Rattle.rule_words.specs.Internal.{ruleFor}
+use Rattle.rule_words.proofs.RuleWords.{rule-length}
 use Rattle.translation.proofs.Writing.{Storing, storing-first, storing-next, storing-last}
 use Rattle.translation.proofs.writers.write_rule.Statement.{statement}
 use Rattle.translation.proofs.writers.write_rule.Tie as tie
@@ -30,7 +30,7 @@ loop-holds : tie.Need-loop-holds Inv-loop μ-loop
 loop-holds c = storing-first _ _ _
 
 rule-word-requires : tie.Need-rule-word-requires Inv-loop μ-loop
-rule-word-requires c κs = (omega arith, omega arith, in-rule c)
+rule-word-requires c κs = tt
 
 add-table : tie.Need-add-table Inv-loop μ-loop
 add-table c = omega (arith, in-rule (c .before))
@@ -48,7 +48,7 @@ loop-less : tie.Need-loop-less Inv-loop μ-loop
 loop-less c = omega arith
 
 loop-again : tie.Need-loop-again Inv-loop μ-loop
-loop-again c = storing-next (c .before .before .loop .inv) (in-rule (c .before)) (c .rule-word .ensures)
+loop-again c = storing-next (c .before .before .loop .inv) (in-rule (c .before)) (c .rule-word .ensures (omega arith, omega arith))
 
 add-result : tie.Need-add-result Inv-loop μ-loop
 add-result c =

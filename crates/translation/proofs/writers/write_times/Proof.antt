@@ -8,7 +8,7 @@ use native.Mathlib.Omega.{arith}
 use Rattle.search.specs.Search.{range}
 use Rattle.logic_programs.specs.Words.{ruleWords, words}
 use Rattle.description.specs.declared.Law.{Law}
-use Rattle.translation.specs.Internal.{ruleFor}
+use Rattle.rule_words.specs.Internal.{ruleFor}
 use Rattle.translation.proofs.Turns.{Turns, counted, Before, starts, fits, turned, finished}
 use Rattle.translation.proofs.writers.write_times.Statement.{statement}
 use Rattle.translation.proofs.writers.write_times.Tie as tie

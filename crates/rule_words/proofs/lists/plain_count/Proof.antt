@@ -1,8 +1,8 @@
 -- `plain_count` meets its contract. None of a static law's after-list is read.
 -- Assumes nothing.
 use borrow.Author.Needs.{needs}
-use Rattle.translation.proofs.lists.plain_count.Statement.{statement}
-use Rattle.translation.proofs.lists.plain_count.Tie as tie
+use Rattle.rule_words.proofs.lists.plain_count.Statement.{statement}
+use Rattle.rule_words.proofs.lists.plain_count.Tie as tie
 
 wide-requires : tie.Need-wide-requires
 wide-requires c κs = search needs

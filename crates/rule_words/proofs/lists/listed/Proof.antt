@@ -2,8 +2,8 @@
 -- Assumes nothing.
 use native.Mathlib.Omega.{arith}
 use lib.ListN.{length-take}
-use Rattle.translation.proofs.lists.listed.Statement.{statement}
-use Rattle.translation.proofs.lists.listed.Tie as tie
+use Rattle.rule_words.proofs.lists.listed.Statement.{statement}
+use Rattle.rule_words.proofs.lists.listed.Tie as tie
 
 returns : tie.Need-returns
 returns c = let s = c .before in omega (arith, length-take (s .args .count) (s .args .codes), s .good .0 .1 .0 .1)

@@ -1,8 +1,8 @@
 -- `head_word` meets its contract. By the two cases of a head.
 -- Assumes nothing.
 use borrow.Author.Needs.{needs}
-use Rattle.translation.proofs.writers.head_word.Statement.{statement}
-use Rattle.translation.proofs.writers.head_word.Tie as tie
+use Rattle.rule_words.proofs.head_word.Statement.{statement}
+use Rattle.rule_words.proofs.head_word.Tie as tie
 
 enum-known-head : tie.Need-enum-known-head
 enum-known-head c = search needs

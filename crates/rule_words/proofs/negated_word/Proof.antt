@@ -2,9 +2,9 @@
 -- Assumes nothing.
 use borrow.Author.Needs.{needs}
 use borrow.Author.Tests.{eq-eqb, ne-eqb}
-use Rattle.translation.specs.Rules.{complement}
-use Rattle.translation.proofs.writers.negated_word.Statement.{statement}
-use Rattle.translation.proofs.writers.negated_word.Tie as tie
+use Rattle.rule_words.specs.RuleForms.{complement}
+use Rattle.rule_words.proofs.negated_word.Statement.{statement}
+use Rattle.rule_words.proofs.negated_word.Tie as tie
 
 array-read-wide : tie.Need-array-read-wide
 array-read-wide c = search needs

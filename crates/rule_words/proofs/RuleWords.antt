@@ -4,22 +4,21 @@ use mathlib.Core.Path.{_≡_, refl, sym, ap, _∙_}
 use mathlib.Core.Logic.{_⊎_, inl, inr, ⊎-elim}
 use mathlib.Core.Bool.{cond, true, false}
 use mathlib.Core.List.{List, [], _∷_, _++_, map}
-use Prim.Native.Nat.{ℕ, zero, suc, _+_, _-_, _*_, _/_, _%_, _≤_, _<_}
+use Prim.Native.Nat.{ℕ, zero, suc, _+_, _-_, _*_, _≤_, _<_}
 use native.Mathlib.Numerals.{add-one}
 use native.Mathlib.Omega.{arith}
 use borrow.Author.Tests.{ltb-true, ltb-false}
 use lib.Dec.{ltb}
-use lib.ListN.{length, take, getD, length-map, length-take, length-append, List·getD-append}
+use lib.ListN.{length, take, getD, length-map, length-take, length-append, List·getD-append, List·getD-eq-default}
 use lib.Seq.{getD-take, getD-append-add}
-use Rattle.search.specs.Search.{range}
 use Rattle.search.proofs.Tests.{true-or-false}
 use Rattle.logic_programs.specs.Words.{headWord, ruleWords, words}
 use Rattle.description.specs.declared.Kind.{Kind}
 use Rattle.description.specs.declared.Kind.the-variants.{Static, Dynamic}
 use Rattle.description.specs.declared.Law.{Law}
 use Rattle.description.specs.Laws.{ifList}
-use Rattle.translation.specs.Rules.{complement, atTime, headAt, choices}
-use Rattle.translation.specs.Internal.{byKind, plainList, ruleFor}
+use Rattle.rule_words.specs.RuleForms.{complement, atTime, headAt, choices}
+use Rattle.rule_words.specs.Internal.{byKind, plainList, ruleFor}
 
 map-at : (f : ℕ → ℕ) (xs : List ℕ) (i : ℕ) → i < length xs → getD (map f xs) i 0 ≡ f (getD xs i 0)
 map-at f [] i h = absurd (omega arith)
@@ -78,6 +77,10 @@ module _ (N : ℕ) (l : Law) (t : ℕ) where
       let e : i ≡ suc (suc (suc (i - 3))) = omega arith in
       ap (λ k. getD (ruleWords (ruleFor N (l .kind) l t)) k 0) e ∙ word-at (suc (suc (suc (i - 3))))
 
+  -- behind the last part
+  pub none-at : (i : ℕ) → 3 + length (ifList l) + length (plainList l) ≤ i → 0 ≡ getD (ruleWords (ruleFor N (l .kind) l t)) i 0
+  none-at i h = sym (List·getD-eq-default (ruleWords (ruleFor N (l .kind) l t)) 0 {n = i} (omega (arith, rule-length)))
+
   module _ {i w : ℕ} where
     pub head-at : i ≡ 0 → {m : ℕ} → m ≡ new → w ≡ headWord (headAt N m (l .head)) → w ≡ getD (ruleWords (ruleFor N (l .kind) l t)) i 0
     head-at e m h = rw e (rw m at h ∙ sym (word-at 0))
@@ -96,44 +99,16 @@ module _ (N : ℕ) (l : Law) (t : ℕ) where
         ∙ sym (part-at i h ∙ List·getD-append negated plain 0 (i - 3) (omega (arith, size))
         ∙ front-at (λ c. complement (atTime N new c)) (l .«if_count») (l .«if_codes») (i - 3) in-list)
 
-    pub plain-at : 3 ≤ i → {n : ℕ} → n ≡ length (ifList l) → n ≤ i - 3 → i < 3 + length (ifList l) + length (plainList l) → {b : ℕ} → b ≡ 2 * (t * N)
+    pub plain-at : 3 ≤ i → {n : ℕ} → n ≡ length (ifList l) → n ≤ i - 3 → i - 3 - n < length (plainList l) → {b : ℕ} → b ≡ 2 * (t * N)
         → w ≡ b + getD (l .«after_codes») (i - 3 - n) 0 → w ≡ getD (ruleWords (ruleFor N (l .kind) l t)) i 0
-    plain-at h {n} is past below b e =
+    plain-at h {n} is past in-list b e =
         let j = i - 3 - n in
         let place : length negated + j ≡ i - 3 = omega (arith, length-map (ifList l) (λ c. complement (atTime N new c))) in
         rw b at e
         ∙ sym (part-at i h ∙ rw place at (getD-append-add negated plain j 0)
-        ∙ front-at (atTime N t) (byKind 0 (l .«after_count») (l .kind)) (l .«after_codes») j (omega arith))
+        ∙ front-at (atTime N t) (byKind 0 (l .«after_count») (l .kind)) (l .«after_codes») j in-list)
 
 -- An atom's choice
-
--- the words of a run of atoms are those of each atom in turn
-pub choices-at : (first count i : ℕ) → i < 8 * count
-    → getD (words (choices (range first count))) i 0 ≡ getD (words (choices ((first + i / 8) ∷ []))) (i % 8) 0
-choices-at first zero i h = absurd (omega arith)
-choices-at first (suc count) i h =
-    ⊎-elim (λ t. here (ltb-true i 8 t)) (λ f. later (ltb-false i 8 f) (choices-at (suc first) count (i - 8))) (true-or-false (ltb i 8))
-  where
-    this : List ℕ
-    this = words (choices (first ∷ []))
-
-    rest : List ℕ
-    rest = words (choices (range (suc first) count))
-
-    here : i < 8 → getD (this ++ rest) i 0 ≡ getD (words (choices ((first + i / 8) ∷ []))) (i % 8) 0
-    here b =
-        let time : first + i / 8 ≡ first = omega arith in
-        let place : i % 8 ≡ i = omega arith in
-        rw (time, place) (List·getD-append this rest 0 i b)
-
-    later : 8 ≤ i
-        → (i - 8 < 8 * count → getD rest (i - 8) 0 ≡ getD (words (choices ((suc first + (i - 8) / 8) ∷ []))) ((i - 8) % 8) 0)
-        → getD (this ++ rest) i 0 ≡ getD (words (choices ((first + i / 8) ∷ []))) (i % 8) 0
-    later b next =
-        let time : suc first + (i - 8) / 8 ≡ first + i / 8 = omega arith in
-        let place : (i - 8) % 8 ≡ i % 8 = omega arith in
-        let behind : 8 + (i - 8) ≡ i = omega arith in
-        rw behind at (getD-append-add this rest (i - 8) 0) ∙ rw (time, place) at (next (omega arith))
 
 -- the word at place i of one atom's choice, where i is 0 or 7, 1 or 5, 3 or 4, or any other
 module _ (atom : ℕ) where

@@ -2,8 +2,8 @@
 -- Assumes nothing.
 use mathlib.Core.Path.{_≡_}
 use borrow.Author.Needs.{needs}
-use Rattle.translation.proofs.lists.negated_count.Statement.{statement}
-use Rattle.translation.proofs.lists.negated_count.Tie as tie
+use Rattle.rule_words.proofs.lists.negated_count.Statement.{statement}
+use Rattle.rule_words.proofs.lists.negated_count.Tie as tie
 
 wide-requires : tie.Need-wide-requires
 wide-requires c κs = search needs

@@ -5,7 +5,7 @@ ghost use mathlib.Core.Path.{_≡_};
 ghost use Prim.Native.Nat.{_+_, _<_, _≤_};
 ghost use lib.ListN.{length, take};
 ghost use Rattle.description.specs.Laws.{ifList};
-ghost use Rattle.translation.specs.Internal.{byKind, plainList};
+ghost use Rattle.rule_words.specs.Internal.{byKind, plainList};
 
 // A code or a count, as a number that fits a byte.
 pub(crate) fn wide(x: u8) -> usize
@@ -26,7 +26,7 @@ fn listed(codes: [u8; 6], count: usize) -> usize
 }
 
 // The number for a law, of one for static laws and one for dynamic laws.
-pub(crate) fn by_kind(law: Law, for_static: usize, for_dynamic: usize) -> usize
+pub fn by_kind(law: Law, for_static: usize, for_dynamic: usize) -> usize
     ensures { λ r. ⌜ r ≡ byKind «for_static» «for_dynamic» (law .kind) ⌝ }
 {
     let kind = law.kind;
@@ -53,7 +53,7 @@ pub(crate) fn plain_count(law: Law) -> usize
 }
 
 // How many words each rule of a law takes.
-pub(crate) fn rule_size(law: Law) -> usize
+pub fn rule_size(law: Law) -> usize
     ensures { λ r. ⌜ (r ≡ 3 + length (ifList law) + length (plainList law)) × (r ≤ 15) ⌝ }
 {
     3 + negated_count(law) + plain_count(law)
