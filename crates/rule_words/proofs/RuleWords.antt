@@ -2,13 +2,13 @@
 -- Assumes nothing.
 use mathlib.Core.Path.{_≡_, refl, sym, ap, _∙_}
 use mathlib.Core.Logic.{_⊎_, inl, inr, ⊎-elim}
-use mathlib.Core.Bool.{cond, true, false}
+use mathlib.Core.Bool.{Bool, cond, true, false, _&&_}
 use mathlib.Core.List.{List, [], _∷_, _++_, map}
 use Prim.Native.Nat.{ℕ, zero, suc, _+_, _-_, _*_, _≤_, _<_}
 use native.Mathlib.Numerals.{add-one}
 use native.Mathlib.Omega.{arith}
-use borrow.Author.Tests.{ltb-true, ltb-false}
-use lib.Dec.{ltb}
+use borrow.Author.Tests.{ltb-true, ltb-false, lt-ltb, le-ltb, le-leb, lt-leb}
+use lib.Dec.{ltb, leb}
 use lib.ListN.{length, take, getD, length-map, length-take, length-append, List·getD-append, List·getD-eq-default}
 use lib.Seq.{getD-take, getD-append-add}
 use Rattle.search.proofs.Tests.{true-or-false}
@@ -29,6 +29,23 @@ map-at f (x ∷ xs) (suc i) h = map-at f xs i (omega arith)
 front-at : (f : ℕ → ℕ) (count : ℕ) (xs : List ℕ) (i : ℕ) → i < length (take count xs) → getD (map f (take count xs)) i 0 ≡ f (getD xs i 0)
 front-at f count xs i h =
     map-at f (take count xs) i h ∙ ap f (getD-take count xs i 0 (omega (arith, length-take count xs)))
+
+-- within the limits, and outside them
+pub rule-within : (n t : ℕ) {w W : ℕ} → n ≤ 32 → t ≤ 30 → w ≡ W → w ≡ cond (leb n 32 && leb t 30) W 0
+rule-within n t h k e = rw (le-leb n 32 h, le-leb t 30 k) e
+
+pub rule-beyond : (n t W : ℕ) → (32 < n) ⊎ (30 < t) → 0 ≡ cond (leb n 32 && leb t 30) W 0
+rule-beyond n t W o = ⊎-elim (λ (h : 32 < n). rw (lt-leb n 32 h)) (λ (h : 30 < t). rw (lt-leb t 30 h) (go (leb n 32))) o
+  where
+    go : (b : Bool) → 0 ≡ cond (b && false) W 0
+    go true = refl
+    go false = refl
+
+pub choice-within : (atom : ℕ) {w W : ℕ} → atom < 1024 → w ≡ W → w ≡ cond (ltb atom 1024) W 0
+choice-within atom h e = rw (lt-ltb atom 1024 h) e
+
+pub choice-beyond : (atom W : ℕ) → 1024 ≤ atom → 0 ≡ cond (ltb atom 1024) W 0
+choice-beyond atom W h = rw (le-ltb atom 1024 h)
 
 pub by-kind-bound : (s d b : ℕ) (k : Kind) → s ≤ b → d ≤ b → byKind s d k ≤ b
 by-kind-bound s d b Static p q = p

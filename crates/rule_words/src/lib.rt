@@ -7,12 +7,11 @@ use crate::lists::wide;
 use description::Head;
 use description::Law;
 ghost use mathlib.Core.Path.{_≡_};
-ghost use mathlib.Core.List.{[], _∷_};
 ghost use Prim.Native.Nat.{_+_, _*_, _<_, _≤_};
 ghost use lib.ListN.{getD};
-ghost use Rattle.logic_programs.specs.Words.{headWord, ruleWords, words};
-ghost use Rattle.rule_words.specs.RuleForms.{complement, headAt, choices};
-ghost use Rattle.rule_words.specs.Internal.{ruleFor};
+ghost use Rattle.logic_programs.specs.Words.{headWord};
+ghost use Rattle.rule_words.specs.RuleForms.{complement, headAt};
+ghost use Rattle.rule_words.specs.Internal.{ruleWord, choiceWord};
 
 pub mod lists;
 
@@ -62,7 +61,7 @@ fn plain_word(law: Law, i: usize, base: usize) -> u16
 // Word i of a law's rule for time t: its head, the counts of its negated and plain parts, the complements of its if-list, its
 // after-list. A dynamic law's head and if-list are at t + 1, and its after-list is at t. Outside the limits it is 0.
 pub fn rule_word(law: Law, n: usize, t: usize, i: usize) -> u16
-    ensures { λ r. ⌜ ((n ≤ 32) × (t ≤ 30) → r ≡ getD (ruleWords (ruleFor n (law .kind) law t)) i 0) ⌝ }
+    ensures { λ r. ⌜ r ≡ ruleWord n law t i ⌝ }
 {
     if n > 32 {
         return 0;
@@ -96,7 +95,7 @@ pub fn rule_word(law: Law, n: usize, t: usize, i: usize) -> u16
 // Word i of the two rules that leave an atom open: not the atom unless it is in the set, then the atom unless its negation is.
 // For an atom outside the limits it is 0.
 pub fn choice_word(atom: usize, i: usize) -> u16
-    ensures { λ r. ⌜ (atom < 1024 → r ≡ getD (words (choices (atom ∷ []))) i 0) ⌝ }
+    ensures { λ r. ⌜ r ≡ choiceWord atom i ⌝ }
 {
     if atom >= 1024 {
         return 0;

@@ -3,10 +3,11 @@ use crate::bytes;
 use search::Found;
 ghost use mathlib.Core.Path.{_≡_};
 ghost use Prim.Native.Nat.{_≤_};
+ghost use lib.ListN.{getD};
 ghost use Rattle.search.specs.Search.{all, placeOf};
 ghost use Rattle.text.specs.Bytes.{isNameByte, same};
 ghost use Rattle.text.specs.Names.{falseBytes, isName, isNew, declaredAt, inSort, literal};
-ghost use Rattle.text.specs.Internal.{nameAt, spelled, PlaceFits};
+ghost use Rattle.text.specs.Internal.{spelled, PlaceFits};
 
 // Where each declared name begins and how long it is, fluents first.
 pub struct Names {
@@ -55,26 +56,31 @@ fn is_name(name: &[u8]) -> bool
     !is_false(name)
 }
 
-// The part of a text where the name at a place was declared. There are at most 32: behind them it is empty.
-fn name_at(text: &[u8], names: Names, i: usize) -> &[u8]
-    ensures { λ r. ⌜ now r ≡ nameAt (now (text .entry)) names i ⌝ }
+// The number at a place, or 0 past the end.
+fn number_at(numbers: &[usize], i: usize) -> usize
+    ensures { λ r. ⌜ r ≡ getD (now (numbers .entry)) i 0 ⌝ }
 {
-    if 32 <= i {
-        return bytes::part(text, 0, 0);
+    if i < numbers.len() {
+        return numbers[i];
     }
-    bytes::part(text, names.starts[i], names.lengths[i])
+    0
 }
 
-// The place of a name among those declared; no bytes are no name.
+// The place of a name among those declared; no bytes are no name. The places of the names are copied once and then lent, since a
+// struct that is handed on by value is copied for each name.
 fn find_name(text: &[u8], names: Names, name: &[u8]) -> Found
     ensures { λ r. ⌜ placeOf r ≡ declaredAt (spelled (now (text .entry)) names) (now (name .entry)) ⌝ }
 {
     if name.len() == 0 {
         return Found::Nothing;
     }
+    let starts = names.starts;
+    let lengths = names.lengths;
     let mut i = 0;
     while i < names.count {
-        let declared = name_at(text, names, i);
+        let start = number_at(&starts, i);
+        let length = number_at(&lengths, i);
+        let declared = bytes::part(text, start, length);
         if bytes::same(name, declared) {
             return Found::At(i);
         }

@@ -1,8 +1,9 @@
 -- `write_choices` meets its contract. The invariant: the words from place i on are left for the table.
 -- Assumes nothing.
 use mathlib.Core.Path.{_≡_, sym, ap, _∙_}
-use Prim.Native.Nat.{ℕ, _*_, _-_, _<_}
+use Prim.Native.Nat.{ℕ, _+_, _*_, _/_, _-_, _<_}
 use native.Mathlib.Omega.{arith}
+use borrow.Author.Tests.{lt-ltb}
 use lib.ListN.{length}
 use Rattle.search.specs.Search.{range}
 use Rattle.search.proofs.Tests.{length-range}
@@ -58,7 +59,7 @@ loop-again c =
     let h = c .before .before in
     let a = h .before .before .args in
     storing-next (h .loop .inv) (omega (arith, room (c .before)))
-    (c .choice-word .ensures (omega arith) ∙ sym (choices-at (a .first) (a .count) (h .loop .i) (omega arith)))
+    (rw (lt-ltb (a .first + h .loop .i / 8) 1024 (omega arith)) at (c .choice-word .ensures) ∙ sym (choices-at (a .first) (a .count) (h .loop .i) (omega arith)))
 
 add-result : tie.Need-add-result Inv-loop μ-loop
 add-result c = let a = c .before .before .before .args in omega (arith, size (a .first) (a .count))

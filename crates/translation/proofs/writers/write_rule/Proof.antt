@@ -2,6 +2,7 @@
 -- Assumes nothing.
 use Prim.Native.Nat.{_-_, _<_}
 use native.Mathlib.Omega.{arith}
+use borrow.Author.Tests.{le-leb}
 use lib.ListN.{length}
 use Rattle.logic_programs.specs.Words.{ruleWords}
 use Rattle.rule_words.specs.Internal.{ruleFor}
@@ -48,7 +49,10 @@ loop-less : tie.Need-loop-less Inv-loop μ-loop
 loop-less c = omega arith
 
 loop-again : tie.Need-loop-again Inv-loop μ-loop
-loop-again c = storing-next (c .before .before .loop .inv) (in-rule (c .before)) (c .rule-word .ensures (omega arith, omega arith))
+loop-again c =
+    let h = c .before .before in
+    let a = h .before .before .before .args in
+    storing-next (h .loop .inv) (in-rule (c .before)) (rw (le-leb (a .n) 32 (omega arith), le-leb (a .t) 30 (omega arith)) at (c .rule-word .ensures))
 
 add-result : tie.Need-add-result Inv-loop μ-loop
 add-result c =
