@@ -4,3 +4,4 @@ pub mod Parity
 pub mod Lists
 pub mod Loops
 pub mod Stored
+pub mod Tables

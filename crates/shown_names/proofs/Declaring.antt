@@ -1,7 +1,7 @@
 -- In a text that is read, line 0 has the horizon and each line behind it declares one name, whose value it is.
 -- Assumes nothing.
 use mathlib.Core.Path.{_≡_, refl, sym, ap, subst, _∙_}
-use mathlib.Core.Bool.{Bool, true, false, cond, true≢false}
+use mathlib.Core.Bool.{Bool, true, false, cond, _||_, true≢false}
 use mathlib.Core.List.{List, [], _∷_, _++_}
 use mathlib.Core.Option.{Option, none, some}
 use Prim.Native.Nat.{ℕ, zero, suc, _+_, min, _<_}
@@ -11,7 +11,9 @@ use borrow.Author.Tests.{eqb-true, ltb-true, ltb-false}
 use lib.Dec.{eqb, ltb}
 use lib.ListN.{length, getD, drop, length-append, List·getD-append}
 use lib.Seq.{getD-append-add}
+use mathlib.Core.Logic.{inl, inr}
 use Rattle.search.specs.Replies.{Reply, refused, answered}
+use Rattle.search.proofs.Tests.{or-iff}
 use Rattle.description.specs.declared.Head.{Head}
 use Rattle.description.specs.declared.Kind.{Kind}
 use Rattle.description.specs.declared.Kind.the-variants.{Static, Dynamic}
@@ -70,23 +72,16 @@ module _ (text : List ℕ) where
   first-due (ifDue l) d rest e a = absurd (true≢false (sym e))
   first-due (afterDue l) d rest e a = absurd (true≢false (sym e))
 
-  fluent-due : (due : Due) (d : Draft) (rest : List ℕ) → allowed due fluentKey ≡ true → AtLine due d rest → rest ≡ drop (startOfLine (suc (length (d .names))) text) text
-  fluent-due horizonDue d rest e a = absurd (true≢false (sym e))
-  fluent-due firstFluentDue d rest e a = a
-  fluent-due fluentDue d rest e a = a
-  fluent-due actionDue d rest e a = a
-  fluent-due lawDue d rest e a = absurd (true≢false (sym e))
-  fluent-due (ifDue l) d rest e a = absurd (true≢false (sym e))
-  fluent-due (afterDue l) d rest e a = absurd (true≢false (sym e))
-
-  action-due : (due : Due) (d : Draft) (rest : List ℕ) → allowed due actionKey ≡ true → AtLine due d rest → rest ≡ drop (startOfLine (suc (length (d .names))) text) text
-  action-due horizonDue d rest e a = absurd (true≢false (sym e))
-  action-due firstFluentDue d rest e a = a
-  action-due fluentDue d rest e a = a
-  action-due actionDue d rest e a = a
-  action-due lawDue d rest e a = absurd (true≢false (sym e))
-  action-due (ifDue l) d rest e a = absurd (true≢false (sym e))
-  action-due (afterDue l) d rest e a = absurd (true≢false (sym e))
+  -- a line that declares a name is the next one behind the names declared
+  name-due : (due : Due) (d : Draft) (rest : List ℕ) → (allowed due fluentKey || allowed due actionKey) ≡ true → AtLine due d rest
+      → rest ≡ drop (startOfLine (suc (length (d .names))) text) text
+  name-due horizonDue d rest e a = absurd (true≢false (sym e))
+  name-due firstFluentDue d rest e a = a
+  name-due fluentDue d rest e a = a
+  name-due actionDue d rest e a = a
+  name-due lawDue d rest e a = absurd (true≢false (sym e))
+  name-due (ifDue l) d rest e a = absurd (true≢false (sym e))
+  name-due (afterDue l) d rest e a = absurd (true≢false (sym e))
 
   -- one line, whose rest is the next one's text
   module _ (due : Due) (d : Draft) (rest : List ℕ) (p : Placed due d rest) (l : Line) (is : firstLine rest ≡ some l) where
@@ -165,9 +160,9 @@ module _ (text : List ℕ) where
         chosen Kept (allowed due (l .key))
         (λ may. chosen Kept (eqb (l .key) horizonKey) (λ e. horizon-kept (horizonOf (l .value)) (first-due due d rest (at-key horizonKey may e) (p .at)))
         (λ _. chosen Kept (eqb (l .key) fluentKey)
-        (λ e. name-kept (ltb (d .fluents) 24) fluentDue (suc (d .fluents)) (λ names laws h. h) (fluent-due due d rest (at-key fluentKey may e) (p .at)))
+        (λ e. name-kept (ltb (d .fluents) 24) fluentDue (suc (d .fluents)) (λ names laws h. h) (name-due due d rest (or-iff (allowed due fluentKey) (allowed due actionKey) .1 (inl (at-key fluentKey may e))) (p .at)))
         (λ _. chosen Kept (eqb (l .key) actionKey)
-        (λ e. name-kept (ltb (length (d .names)) (d .fluents + 8)) actionDue (d .fluents) (λ names laws h. h) (action-due due d rest (at-key actionKey may e) (p .at)))
+        (λ e. name-kept (ltb (length (d .names)) (d .fluents + 8)) actionDue (d .fluents) (λ names laws h. h) (name-due due d rest (or-iff (allowed due fluentKey) (allowed due actionKey) .1 (inr (at-key actionKey may e))) (p .at)))
         (λ _. chosen Kept (eqb (l .key) staticKey) (λ _. law-kept lent Static (l .value))
         (λ _. chosen Kept (eqb (l .key) dynamicKey) (λ _. law-kept lent Dynamic (l .value))
         (λ _. chosen Kept (eqb (l .key) ifKey) (λ _. if-kept (lawIn due) (listOf (d .names) 0 (d .fluents) 6 (l .value)))

@@ -1,11 +1,9 @@
 -- The code's table of keys, 8 bytes a key, has the keys of the definition.
 -- Assumes nothing.
-use mathlib.Core.Path.{_≡_, refl}
+use mathlib.Core.Path.{refl}
 use mathlib.Core.List.{List, [], _∷_}
-use Prim.Native.Nat.{ℕ, zero, suc, _+_, _-_, _*_, _≤_, _<_}
-use native.Mathlib.Omega.{arith}
-use lib.Dec.{lit≤}
-use lib.ListN.{getD, take, drop}
+use Prim.Native.Nat.{ℕ, _<_}
+use Rattle.search.proofs.Tables.{Row, rows}
 use Rattle.text.specs.Lines.{keys}
 
 abbrev pub table : List ℕ
@@ -23,18 +21,5 @@ table =
     ∷ []
 
 -- a key's length, and the bytes behind it
-abbrev Row : ℕ → Type 0
-Row k = (getD table (8 * k) 0 ≤ 7) × (take (8 * k + 1 + getD table (8 * k) 0 - (8 * k + 1)) (drop (8 * k + 1) table) ≡ getD keys k [])
-
-pub row : (k : ℕ) → k < 10 → Row k
-row zero h = (lit≤ tt, refl)
-row (suc zero) h = (lit≤ tt, refl)
-row (suc (suc zero)) h = (lit≤ tt, refl)
-row (suc (suc (suc zero))) h = (lit≤ tt, refl)
-row (suc (suc (suc (suc zero)))) h = (lit≤ tt, refl)
-row (suc (suc (suc (suc (suc zero))))) h = (lit≤ tt, refl)
-row (suc (suc (suc (suc (suc (suc zero)))))) h = (lit≤ tt, refl)
-row (suc (suc (suc (suc (suc (suc (suc zero))))))) h = (lit≤ tt, refl)
-row (suc (suc (suc (suc (suc (suc (suc (suc zero)))))))) h = (lit≤ tt, refl)
-row (suc (suc (suc (suc (suc (suc (suc (suc (suc zero))))))))) h = (lit≤ tt, refl)
-row (suc (suc (suc (suc (suc (suc (suc (suc (suc (suc k)))))))))) h = absurd (omega arith)
+pub row : (k : ℕ) → k < 10 → Row table 8 7 keys k
+row = rows table 8 7 keys 10 refl
