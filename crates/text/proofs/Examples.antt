@@ -6,14 +6,15 @@ use mathlib.Core.List.{List, [], _∷_, map}
 use mathlib.Core.Option.{Option, some}
 use Prim.Native.Nat.{ℕ}
 use Rattle.text.specs.Bytes.{cut}
-use Rattle.text.specs.Lines.{keys, horizonKey, fluentKey, actionKey, staticKey, dynamicKey, ifKey, afterKey, stateKey, actKey, endKey, keyNumber, firstLine}
+use Rattle.text.specs.Lines.{keys, horizonKey, fluentKey, actionKey, staticKey, dynamicKey, ifKey, afterKey, stateKey, actKey, endKey, defaultKey, inertialKey, causesKey, byKey, nonexecutableKey, keyNumber, firstLine}
 use Rattle.text.specs.Places.{lineSize, startOfLine, valueFrom, startOfValue, lineNumber}
 use Rattle.text.specs.Names.{literal}
 use Rattle.text.specs.Lists.{refused, codes, items, listOf}
 
--- horizon, fluent, action, static, dynamic, if, after, state, act, end
+-- horizon, fluent, action, static, dynamic, if, after, state, act, end, default, inertial, causes, by, nonexecutable
 pub keys-numbered : map keyNumber keys
-    ≡ map {B = Option ℕ} some (horizonKey ∷ fluentKey ∷ actionKey ∷ staticKey ∷ dynamicKey ∷ ifKey ∷ afterKey ∷ stateKey ∷ actKey ∷ endKey ∷ [])
+    ≡ map {B = Option ℕ} some (horizonKey ∷ fluentKey ∷ actionKey ∷ staticKey ∷ dynamicKey ∷ ifKey ∷ afterKey ∷ stateKey ∷ actKey ∷ endKey
+    ∷ defaultKey ∷ inertialKey ∷ causesKey ∷ byKey ∷ nonexecutableKey ∷ [])
 unfolding keyNumber
 keys-numbered = refl
 

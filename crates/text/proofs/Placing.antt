@@ -14,7 +14,7 @@ use lib.Seq.{drop-drop}
 use Rattle.search.specs.Search.{first}
 use Rattle.text.specs.declared.lines.LineAt.{LineAt}
 use Rattle.text.specs.Bytes.{newline, equalsSign, Cut, cutAt, cut}
-use Rattle.text.specs.Lines.{keyNumber, Line, keyed, valued, ended, firstLine}
+use Rattle.text.specs.Lines.{noKey, keyNumber, Line, keyed, valued, ended, firstLine}
 use Rattle.text.specs.Places.{sizeUpTo, lineSize, startOfLine, lineNumber}
 use Rattle.text.specs.Internal.{keyIn, lineOf}
 use Rattle.text.proofs.Cutting.{first-inside}
@@ -33,11 +33,11 @@ value-there : (o : Option ℕ) (value rest : List ℕ) (l : Line) → keyed o va
 value-there none value rest l e = let z : _≡_ {A = ℕ} 0 1 = cc in absurd (omega arith)
 value-there (some k) value rest l e = cc
 
-key-there : (k : ℕ) (value rest : List ℕ) (l : Line) → keyed (keyIn k) value rest ≡ some l → k < 10
-key-there k value rest l e = go (ltb k 10) refl e
+key-there : (k : ℕ) (value rest : List ℕ) (l : Line) → keyed (keyIn k) value rest ≡ some l → k < noKey
+key-there k value rest l e = go (ltb k noKey) refl e
   where
-    go : (b : Bool) → ltb k 10 ≡ b → keyed (cond b (some k) none) value rest ≡ some l → k < 10
-    go true t h = ltb-true k 10 t
+    go : (b : Bool) → ltb k noKey ≡ b → keyed (cond b (some k) none) value rest ≡ some l → k < noKey
+    go true t h = ltb-true k noKey t
     go false t h = let z : _≡_ {A = ℕ} 0 1 = cc in absurd (omega arith)
 
 module _ (text : List ℕ) (at : ℕ) (found : LineAt) (is : lineOf text found ≡ firstLine (drop at text)) (l : Line) (e : firstLine (drop at text) ≡ some l) where
@@ -45,7 +45,7 @@ module _ (text : List ℕ) (at : ℕ) (found : LineAt) (is : lineOf text found �
   unfolding lineOf
   line-value = value-there (keyIn (found .key)) (take (found .to - found .from) (drop (found .from) text)) (drop (found .next) text) l (is ∙ e)
 
-  pub line-key : found .key < 10
+  pub line-key : found .key < noKey
   unfolding lineOf
   line-key = key-there (found .key) (take (found .to - found .from) (drop (found .from) text)) (drop (found .next) text) l (is ∙ e)
 

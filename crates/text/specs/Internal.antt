@@ -11,17 +11,17 @@ use Rattle.search.specs.Search.{first, range}
 use Rattle.text.specs.declared.lines.LineAt.{LineAt}
 use Rattle.text.specs.declared.names.Names.{Names}
 use Rattle.text.specs.Bytes.{comma}
-use Rattle.text.specs.Lines.{Line, keyed}
+use Rattle.text.specs.Lines.{noKey, Line, keyed}
 use Rattle.text.specs.Places.{valueFrom}
 use Rattle.text.specs.Lists.{itemsIn}
 
--- a key's number, 10 for none
+-- a key's number, if it is one
 abbrev pub keyIn : ℕ → Option ℕ
-keyIn k = cond (ltb k 10) (some k) none
+keyIn k = cond (ltb k noKey) (some k) none
 
 -- where there is no line
 abbrev pub noLine : ℕ → LineAt
-noLine at = record { key = 10; from = at; to = at; next = at }
+noLine at = record { key = noKey; from = at; to = at; next = at }
 
 -- the line that stands at some places of a text
 unfoldable pub lineOf : List ℕ → LineAt → Option Line
@@ -32,8 +32,8 @@ pub record LineFits (text : List ℕ) (at : ℕ) (l : LineAt) : Type 0 where
   pub ordered : l .from ≤ l .to
   pub inside : l .to ≤ length text
   pub within : l .next ≤ length text
-  pub later : l .key < 10 → at < l .next
-  pub starts : l .key < 10 → l .from ≡ at + valueFrom (drop at text)
+  pub later : l .key < noKey → at < l .next
+  pub starts : l .key < noKey → l .from ≡ at + valueFrom (drop at text)
 
 -- the names that stand at some places of a text
 abbrev pub nameAt : List ℕ → Names → ℕ → List ℕ

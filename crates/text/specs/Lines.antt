@@ -6,7 +6,7 @@ use Prim.Native.Nat.{ℕ}
 use Rattle.search.specs.Search.{first}
 use Rattle.text.specs.Bytes.{newline, equalsSign, same, Cut, cut}
 
--- the ten keys in their order; a key's number is its place in this list
+-- the fifteen keys in their order; a key's number is its place in this list
 abbrev pub keys : List (List ℕ)
 keys =
     -- horizon
@@ -29,6 +29,16 @@ keys =
     ∷ (97 ∷ 99 ∷ 116 ∷ [])
     -- end
     ∷ (101 ∷ 110 ∷ 100 ∷ [])
+    -- default
+    ∷ (100 ∷ 101 ∷ 102 ∷ 97 ∷ 117 ∷ 108 ∷ 116 ∷ [])
+    -- inertial
+    ∷ (105 ∷ 110 ∷ 101 ∷ 114 ∷ 116 ∷ 105 ∷ 97 ∷ 108 ∷ [])
+    -- causes
+    ∷ (99 ∷ 97 ∷ 117 ∷ 115 ∷ 101 ∷ 115 ∷ [])
+    -- by
+    ∷ (98 ∷ 121 ∷ [])
+    -- nonexecutable
+    ∷ (110 ∷ 111 ∷ 110 ∷ 101 ∷ 120 ∷ 101 ∷ 99 ∷ 117 ∷ 116 ∷ 97 ∷ 98 ∷ 108 ∷ 101 ∷ [])
     ∷ []
 
 abbrev pub horizonKey : ℕ
@@ -60,6 +70,25 @@ actKey = 8
 
 abbrev pub endKey : ℕ
 endKey = 9
+
+abbrev pub defaultKey : ℕ
+defaultKey = 10
+
+abbrev pub inertialKey : ℕ
+inertialKey = 11
+
+abbrev pub causesKey : ℕ
+causesKey = 12
+
+abbrev pub byKey : ℕ
+byKey = 13
+
+abbrev pub nonexecutableKey : ℕ
+nonexecutableKey = 14
+
+-- the number of no key
+abbrev pub noKey : ℕ
+noKey = 15
 
 unfoldable pub keyNumber : List ℕ → Option ℕ
 keyNumber bs = first (same bs) 0 keys

@@ -7,12 +7,12 @@ ghost use mathlib.Core.Option.{some};
 ghost use Prim.Native.Nat.{_≤_, _<_};
 ghost use lib.ListN.{length, getD, drop};
 ghost use Rattle.text.specs.Bytes.{same};
-ghost use Rattle.text.specs.Lines.{keys, keyNumber, Line, firstLine};
+ghost use Rattle.text.specs.Lines.{keys, noKey, keyNumber, Line, firstLine};
 ghost use Rattle.text.specs.Places.{lineSize, startOfLine, startOfValue, lineNumber, LiesAt};
 ghost use Rattle.text.specs.Internal.{keyIn, noLine, lineOf, LineFits};
 
-// The ten keys in the order of their numbers, 8 bytes each: the key's length, then its bytes.
-const KEYS: [u8; 80] = [
+// The fifteen keys in the order of their numbers, 14 bytes each: the key's length, then its bytes.
+const KEYS: [u8; 210] = [
     7,
     b'h',
     b'o',
@@ -21,6 +21,12 @@ const KEYS: [u8; 80] = [
     b'z',
     b'o',
     b'n',
+    0,
+    0,
+    0,
+    0,
+    0,
+    0,
     6,
     b'f',
     b'l',
@@ -28,6 +34,12 @@ const KEYS: [u8; 80] = [
     b'e',
     b'n',
     b't',
+    0,
+    0,
+    0,
+    0,
+    0,
+    0,
     0,
     6,
     b'a',
@@ -37,6 +49,12 @@ const KEYS: [u8; 80] = [
     b'o',
     b'n',
     0,
+    0,
+    0,
+    0,
+    0,
+    0,
+    0,
     6,
     b's',
     b't',
@@ -44,6 +62,12 @@ const KEYS: [u8; 80] = [
     b't',
     b'i',
     b'c',
+    0,
+    0,
+    0,
+    0,
+    0,
+    0,
     0,
     7,
     b'd',
@@ -53,9 +77,21 @@ const KEYS: [u8; 80] = [
     b'm',
     b'i',
     b'c',
+    0,
+    0,
+    0,
+    0,
+    0,
+    0,
     2,
     b'i',
     b'f',
+    0,
+    0,
+    0,
+    0,
+    0,
+    0,
     0,
     0,
     0,
@@ -69,6 +105,12 @@ const KEYS: [u8; 80] = [
     b'r',
     0,
     0,
+    0,
+    0,
+    0,
+    0,
+    0,
+    0,
     5,
     b's',
     b't',
@@ -77,10 +119,22 @@ const KEYS: [u8; 80] = [
     b'e',
     0,
     0,
+    0,
+    0,
+    0,
+    0,
+    0,
+    0,
     3,
     b'a',
     b'c',
     b't',
+    0,
+    0,
+    0,
+    0,
+    0,
+    0,
     0,
     0,
     0,
@@ -93,6 +147,82 @@ const KEYS: [u8; 80] = [
     0,
     0,
     0,
+    0,
+    0,
+    0,
+    0,
+    0,
+    0,
+    7,
+    b'd',
+    b'e',
+    b'f',
+    b'a',
+    b'u',
+    b'l',
+    b't',
+    0,
+    0,
+    0,
+    0,
+    0,
+    0,
+    8,
+    b'i',
+    b'n',
+    b'e',
+    b'r',
+    b't',
+    b'i',
+    b'a',
+    b'l',
+    0,
+    0,
+    0,
+    0,
+    0,
+    6,
+    b'c',
+    b'a',
+    b'u',
+    b's',
+    b'e',
+    b's',
+    0,
+    0,
+    0,
+    0,
+    0,
+    0,
+    0,
+    2,
+    b'b',
+    b'y',
+    0,
+    0,
+    0,
+    0,
+    0,
+    0,
+    0,
+    0,
+    0,
+    0,
+    0,
+    13,
+    b'n',
+    b'o',
+    b'n',
+    b'e',
+    b'x',
+    b'e',
+    b'c',
+    b'u',
+    b't',
+    b'a',
+    b'b',
+    b'l',
+    b'e',
 ];
 
 // A key's number is its place in the table; NO_KEY stands for no key.
@@ -116,7 +246,17 @@ pub const ACT: usize = 8;
 
 pub const END: usize = 9;
 
-pub const NO_KEY: usize = 10;
+pub const DEFAULT: usize = 10;
+
+pub const INERTIAL: usize = 11;
+
+pub const CAUSES: usize = 12;
+
+pub const BY: usize = 13;
+
+pub const NONEXECUTABLE: usize = 14;
+
+pub const NO_KEY: usize = 15;
 
 // A line: its key's number (NO_KEY where the line or the key is lacking), where its value begins and ends, and where the next line begins.
 pub struct LineAt {
@@ -128,12 +268,12 @@ pub struct LineAt {
 
 // Whether some bytes are the key of a number.
 fn is_key(front: &[u8], k: usize) -> bool
-    requires { ⌜ k < 10 ⌝ }
+    requires { ⌜ k < noKey ⌝ }
     ensures { λ r. ⌜ r ≡ same (now (front .entry)) (getD keys k []) ⌝ }
 {
     let table = KEYS;
-    let start = 8 * k + 1;
-    let end = start + (table[8 * k] as usize);
+    let start = 14 * k + 1;
+    let end = start + (table[14 * k] as usize);
     bytes::same(front, &table[start..end])
 }
 
@@ -142,7 +282,7 @@ fn key_number(front: &[u8]) -> usize
     ensures { λ r. ⌜ keyIn r ≡ keyNumber (now (front .entry)) ⌝ }
 {
     let mut k = 0;
-    while k < 10 {
+    while k < NO_KEY {
         if is_key(front, k) {
             return k;
         }

@@ -9,15 +9,15 @@ use lib.ListN.{drop}
 use Rattle.search.specs.Search.{first}
 use Rattle.search.proofs.Loops.{first-stop, first-go, first-done}
 use Rattle.text.specs.Bytes.{same}
-use Rattle.text.specs.Lines.{keys, keyNumber}
+use Rattle.text.specs.Lines.{keys, noKey, keyNumber}
 use Rattle.text.proofs.lines.key_number.Statement.{statement}
 use Rattle.text.proofs.lines.key_number.Tie as tie
 
 abbrev Inv-loop : tie.InvT-loop
-Inv-loop front k₀ k = (k ≤ 10) × (first (same front) k (drop k keys) ≡ keyNumber front)
+Inv-loop front k₀ k = (k ≤ noKey) × (first (same front) k (drop k keys) ≡ keyNumber front)
 
 abbrev μ-loop : tie.MeasureT-loop
-μ-loop front k₀ k = 10 - k
+μ-loop front k₀ k = noKey - k
 
 loop-holds : tie.Need-loop-holds Inv-loop μ-loop
 unfolding keyNumber
