@@ -4,7 +4,7 @@ use mathlib.Core.Path.{_≡_, refl, sym, _∙_, ap}
 use mathlib.Core.Bool.{Bool, true, false, cond, _&&_, _||_}
 use mathlib.Core.List.{List, [], _∷_}
 use mathlib.Core.Option.{Option, none, some}
-use Prim.Native.Nat.{ℕ, zero, suc, _+_, _-_, _≤_, _<_}
+use Prim.Native.Nat.{ℕ, zero, suc, _+_, _-_, _≤_, _<_, min}
 use native.Mathlib.Omega.{arith}
 use native.Mathlib.Numerals.{add-one}
 use borrow.Author.Tests.{le-ltb, ltb-true, ltb-false, eqb-true, eq-eqb, ne-eqb}
@@ -14,8 +14,8 @@ use Rattle.search.specs.Search.{first}
 use Rattle.search.proofs.Tests.{and-iff, not-both}
 use Rattle.description.specs.declared.Law.{Law}
 use Rattle.text.specs.Bytes.{newline, equalsSign, Cut, cutAt, cut}
-use Rattle.text.specs.Lines.{Line, keyed, valued, ended, keyNumber, firstLine}
-use Rattle.description_reader.specs.LineSteps.{Due, horizonDue, firstFluentDue, fluentDue, actionDue, lawDue, ifDue, afterDue, Draft, allowed}
+use Rattle.text.specs.Lines.{noKey, Line, keyed, valued, ended, keyNumber, firstLine}
+use Rattle.description_reader.specs.LineSteps.{Due, horizonDue, firstFluentDue, fluentDue, actionDue, lawDue, ifDue, afterDue, byDue, Draft, startsLaw, allowed, roomFor, anyList}
 use Rattle.description_reader.specs.LineSteps as step
 use Rattle.description_reader.specs.LineSteps.{Step, next, finish, lineStep}
 use Rattle.search.specs.Replies.{Reply, refused}
@@ -30,6 +30,7 @@ use Rattle.description_reader.specs.Internal.{dueAt, draftOf, stepOf, st
 use Rattle.text.proofs.Cutting.{first-inside}
 use Rattle.text.proofs.Spelling.{spelled-length}
 use Rattle.text.proofs.Items.{items-start, items-end, items-none}
+use Rattle.description_reader.proofs.Stepping.{room-here}
 
 -- what is behind a line is shorter than the text
 keyed-rest : (o : Option ℕ) (value rest : List ℕ) (l : Line) → keyed o value rest ≡ some l → l .rest ≡ rest
@@ -74,40 +75,45 @@ lines-enough (suc k) (suc m) lent line due d text h g =
     (λ l e due′ d′. lines-enough k m lent (suc line) due′ d′ (l .rest) (omega (arith, shorter text l e)) (omega (arith, shorter text l e)))
 
 -- a key that is none is allowed nowhere
-module _ (k : ℕ) (h : 10 ≤ k) where
-  not-key : (j : ℕ) → j < 10 → eqb k j ≡ false
+module _ (k : ℕ) (h : noKey ≤ k) where
+  not-key : (j : ℕ) → j < noKey → eqb k j ≡ false
   not-key j b = ne-eqb k j (λ e. absurd (omega arith))
+
+  starts-none : startsLaw k ≡ false
+  starts-none =
+      rw (not-key 3 (omega arith), not-key 4 (omega arith), not-key 10 (omega arith), not-key 11 (omega arith), not-key 12 (omega arith), not-key 14 (omega arith))
 
   allowed-none : (due : Due) → allowed due k ≡ false
   allowed-none horizonDue = not-key 0 (omega arith)
   allowed-none firstFluentDue = not-key 1 (omega arith)
-  allowed-none fluentDue = rw (not-key 1 (omega arith), not-key 2 (omega arith), not-key 3 (omega arith), not-key 4 (omega arith), not-key 9 (omega arith))
-  allowed-none actionDue = rw (not-key 2 (omega arith), not-key 3 (omega arith), not-key 4 (omega arith), not-key 9 (omega arith))
-  allowed-none lawDue = rw (not-key 3 (omega arith), not-key 4 (omega arith), not-key 9 (omega arith))
+  allowed-none fluentDue = rw (starts-none, not-key 1 (omega arith), not-key 2 (omega arith), not-key 9 (omega arith))
+  allowed-none actionDue = rw (starts-none, not-key 2 (omega arith), not-key 9 (omega arith))
+  allowed-none lawDue = rw (starts-none, not-key 9 (omega arith))
   allowed-none (ifDue l) = not-key 5 (omega arith)
   allowed-none (afterDue l) = not-key 6 (omega arith)
+  allowed-none (byDue l) = not-key 13 (omega arith)
 
   none-step : (lent : ℕ) (due : Due) (d : Draft) (value : List ℕ) → lineStep lent due d k value ≡ step.refused 2
   unfolding lineStep
   none-step lent due d value = rw (allowed-none due)
 
 -- the list of a line as the loop over its items reads it: nothing where the line has no list to read
-abbrev pub lineList : List (List ℕ) → ℕ → Due → ℕ → List ℕ → Listed
-lineList names high due key list = listFrom names 0 high 6 [] (itemsAt list (itemsFrom due key (length list)))
+abbrev pub lineList : List (List ℕ) → ℕ → Due → ℕ → Bool → List ℕ → Listed
+lineList names high due key room list = listFrom names 0 high 6 [] (itemsAt list (itemsFrom due key room (length list)))
 
-module _ (names : List (List ℕ)) (high : ℕ) (due : Due) (key : ℕ) (list : List ℕ) where
-  list-sized : (b : Bool) → ltb 0 (length list) ≡ b → (allowed due key && isListKey key) ≡ true
-      → lineList names high due key list ≡ listOf names 0 high 6 list
+module _ (names : List (List ℕ)) (high : ℕ) (due : Due) (key : ℕ) (room : Bool) (list : List ℕ) where
+  list-sized : (b : Bool) → ltb 0 (length list) ≡ b → (allowed due key && isListKey key room) ≡ true
+      → lineList names high due key room list ≡ listOf names 0 high 6 list
   unfolding itemsFrom listOf
   list-sized true e is = rw (e, is, items-start list (ltb-true 0 (length list) e))
   list-sized false e is =
       let past : itemsAt list (length list + 1) ≡ [] = items-end list (length list + 1) (omega arith) in
       rw (e, past, items-none list (ltb-false 0 (length list) e))
 
-  list-read : (allowed due key && isListKey key) ≡ true → lineList names high due key list ≡ listOf names 0 high 6 list
-  list-read is = list-sized (ltb 0 (length list)) refl is
+  list-read : allowed due key ≡ true → isListKey key room ≡ true → lineList names high due key room list ≡ listOf names 0 high 6 list
+  list-read may is = list-sized (ltb 0 (length list)) refl (and-iff (allowed due key) (isListKey key room) .1 (may, is))
 
-  none-sized : (b : Bool) → ltb 0 (length list) ≡ b → (allowed due key && isListKey key) ≡ false → lineList names high due key list ≡ codes []
+  none-sized : (b : Bool) → ltb 0 (length list) ≡ b → (allowed due key && isListKey key room) ≡ false → lineList names high due key room list ≡ codes []
   unfolding itemsFrom
   none-sized true e is =
       let past : itemsAt list (length list + 1) ≡ [] = items-end list (length list + 1) (omega arith) in
@@ -116,35 +122,71 @@ module _ (names : List (List ℕ)) (high : ℕ) (due : Due) (key : ℕ) (list : 
       let past : itemsAt list (length list + 1) ≡ [] = items-end list (length list + 1) (omega arith) in
       rw (e, past)
 
-  list-none : (allowed due key && isListKey key) ≡ false → lineList names high due key list ≡ codes []
+  list-none : (allowed due key && isListKey key room) ≡ false → lineList names high due key room list ≡ codes []
   list-none is = none-sized (ltb 0 (length list)) refl is
 
+-- a choice by a test, whichever way it goes
+by-test : (P : Type 0) (b : Bool) → (b ≡ true → P) → (b ≡ false → P) → P
+by-test P true t f = t refl
+by-test P false t f = f refl
+
 -- a line's step with its list read is the line's step
+module _ (text : List ℕ) (lent : ℕ) (due : Due) (r : Reading) (key : ℕ) (list : List ℕ) (may : allowed due key ≡ true) where
+  abbrev d : Draft
+  d = draftOf text r
+
+  abbrev listed : Listed
+  listed = lineList (spelled text (r .names)) (highFor key r) due key (roomFor lent d) list
+
+  abbrev Same : Type 0
+  Same = stepWith lent due d key list listed ≡ lineStep lent due d key list
+
+  -- the names of a list of either sort
+  any-listed : (isListKey key (roomFor lent d)) ≡ true → eqb key 5 ≡ false → listed ≡ anyList d list
+  unfolding highFor
+  any-listed is n = rw (list-read (spelled text (r .names)) (highFor key r) due key (roomFor lent d) list may is, n, spelled-length)
+
+  same-nonexecutable : eqb key 14 ≡ true → (b : Bool) → roomFor lent d ≡ b → Same
+  unfolding stepWith lineStep
+  same-nonexecutable e true room =
+      let k = eqb-true key 14 e in
+      rw (any-listed (rw (room, k)) (rw k), may, k)
+  same-nonexecutable e false room = let k = eqb-true key 14 e in rw (may, k, room)
+
+  same-by : eqb key 13 ≡ true → Same
+  unfolding stepWith lineStep
+  same-by e = let k = eqb-true key 13 e in rw (any-listed (rw k) (rw k), may, k)
+
+  same-after : eqb key 6 ≡ true → Same
+  unfolding stepWith lineStep
+  same-after e = let k = eqb-true key 6 e in rw (any-listed (rw k) (rw k), may, k)
+
+  same-if : eqb key 5 ≡ true → Same
+  unfolding stepWith lineStep highFor
+  same-if e =
+      let k = eqb-true key 5 e in
+      rw (list-read (spelled text (r .names)) (highFor key r) due key (roomFor lent d) list may (rw k), may, k)
+
+  same-other : eqb key 5 ≡ false → eqb key 6 ≡ false → eqb key 13 ≡ false → eqb key 14 ≡ false → Same
+  unfolding stepWith lineStep
+  same-other i a b n = rw (may, i, a, b, n)
+
+  same-step : Same
+  same-step =
+      by-test Same (eqb key 5) same-if
+      (λ i. by-test Same (eqb key 6) same-after
+      (λ a. by-test Same (eqb key 13) same-by
+      (λ b. by-test Same (eqb key 14) (λ e. same-nonexecutable e (roomFor lent d) refl) (λ n. same-other i a b n))))
+
 module _ (text : List ℕ) (lent : ℕ) (due : Due) (r : Reading) (key : ℕ) (list : List ℕ) where
   abbrev Whole : Type 0
   Whole =
-      stepWith lent due (draftOf text r) key list (lineList (spelled text (r .names)) (highFor key r) due key list)
+      stepWith lent due (draftOf text r) key list (lineList (spelled text (r .names)) (highFor key r) due key (roomFor lent (draftOf text r)) list)
       ≡ lineStep lent due (draftOf text r) key list
-
-  step-after : (b : Bool) → eqb key 6 ≡ b → eqb key 5 ≡ false → allowed due key ≡ true → Whole
-  unfolding stepWith lineStep highFor
-  step-after true e n a =
-      let k : key ≡ 6 = eqb-true key 6 e in
-      let is : (allowed due key && isListKey key) ≡ true = rw (a, n, e) in
-      rw (list-read (spelled text (r .names)) (highFor key r) due key list is, a, k, spelled-length)
-  step-after false e n a = rw (a, n, e)
-
-  step-if : (b : Bool) → eqb key 5 ≡ b → allowed due key ≡ true → Whole
-  unfolding stepWith lineStep highFor
-  step-if true e a =
-      let k : key ≡ 5 = eqb-true key 5 e in
-      let is : (allowed due key && isListKey key) ≡ true = rw (a, e) in
-      rw (list-read (spelled text (r .names)) (highFor key r) due key list is, a, k)
-  step-if false e a = step-after (eqb key 6) refl e a
 
   step-by : (b : Bool) → allowed due key ≡ b → Whole
   unfolding stepWith lineStep
-  step-by true e = step-if (eqb key 5) refl e
+  step-by true e = same-step text lent due r key list e
   step-by false e = rw e
 
   pub step-whole : Whole
@@ -152,25 +194,30 @@ module _ (text : List ℕ) (lent : ℕ) (due : Due) (r : Reading) (key : ℕ) (l
 
 -- a list that is refused refuses its line
 module _ (lent : ℕ) (due : Due) (d : Draft) (key : ℕ) (list : List ℕ) (names : List (List ℕ)) (high k : ℕ)
-    (no : lineList names high due key list ≡ lists.refused k) where
-  with-key : (b : Bool) → eqb key 5 ≡ b → (allowed due key && isListKey key) ≡ true
-      → stepWith lent due d key list (lists.refused k) ≡ step.refused k
-  unfolding stepWith
-  with-key true e is = rw (and-iff (allowed due key) (isListKey key) .0 is .0, e)
-  with-key false e is =
-      let t = and-iff (allowed due key) (isListKey key) .0 is in
-      let six : eqb key 6 ≡ true = rw e at (t .1) in
-      rw (t .0, e, six)
+    (no : lineList names high due key (roomFor lent d) list ≡ lists.refused k) where
+  abbrev Refuses : Type 0
+  Refuses = stepWith lent due d key list (lists.refused k) ≡ step.refused k
 
-  with-list : (b : Bool) → (allowed due key && isListKey key) ≡ b → stepWith lent due d key list (lists.refused k) ≡ step.refused k
-  with-list true e = with-key (eqb key 5) refl e
+  with-key : allowed due key ≡ true → isListKey key (roomFor lent d) ≡ true → Refuses
+  unfolding stepWith
+  with-key may is =
+      by-test Refuses (eqb key 5) (λ i. rw (may, i))
+      (λ i. by-test Refuses (eqb key 6) (λ a. rw (may, i, a))
+      (λ a. by-test Refuses (eqb key 13) (λ b. rw (may, i, a, b))
+      (λ b.
+      let last : (eqb key 14 && roomFor lent d) ≡ true = rw (i, a, b) at is in
+      let both = and-iff (eqb key 14) (roomFor lent d) .0 last in
+      rw (may, i, a, b, both .0, both .1))))
+
+  with-list : (b : Bool) → (allowed due key && isListKey key (roomFor lent d)) ≡ b → Refuses
+  with-list true e = let t = and-iff (allowed due key) (isListKey key (roomFor lent d)) .0 e in with-key (t .0) (t .1)
   with-list false e =
-      let none = list-none names high due key list e in
+      let none = list-none names high due key (roomFor lent d) list e in
       let z : _≡_ {A = ℕ} 0 1 = cc in
       absurd (omega arith)
 
-  step-refused : stepWith lent due d key list (lineList names high due key list) ≡ step.refused k
-  step-refused = rw no (with-list (allowed due key && isListKey key) refl)
+  step-refused : stepWith lent due d key list (lineList names high due key (roomFor lent d) list) ≡ step.refused k
+  step-refused = rw no (with-list (allowed due key && isListKey key (roomFor lent d)) refl)
 
 -- the lines left from a place on
 abbrev pub leftAt : List ℕ → ℕ → State → ℕ → ℕ → Reply Taken
@@ -185,16 +232,16 @@ abbrev pub Onward : List ℕ → ℕ → ℕ → ℕ → Step → ℕ → Reply 
 Onward text lent at line s behind = afterStep s line (drop behind text) (λ due d rest. linesFrom (length (drop at text)) lent (suc line) due d rest)
 
 module _ (text : List ℕ) (lent : ℕ) (s : State) (at line : ℕ) (l : LineAt) (is : lineOf text l ≡ firstLine (drop at text)) where
-  keyed-turn : (b : Bool) → ltb (l .key) 10 ≡ b
+  keyed-turn : (b : Bool) → ltb (l .key) noKey ≡ b
       → leftAt text lent s at line ≡ Onward text lent at line (lineStep lent (dueAt s) (draftOf text (s .reading)) (l .key) (take (l .to - l .from) (drop (l .from) text))) (l .next)
   unfolding lineOf
   keyed-turn true e = rw (← is, e)
   keyed-turn false e =
-      rw (none-step (l .key) (ltb-false (l .key) 10 e) lent (dueAt s) (draftOf text (s .reading)) (take (l .to - l .from) (drop (l .from) text)), ← is, e)
+      rw (none-step (l .key) (ltb-false (l .key) noKey e) lent (dueAt s) (draftOf text (s .reading)) (take (l .to - l .from) (drop (l .from) text)), ← is, e)
 
   pub line-turn : leftAt text lent s at line
       ≡ Onward text lent at line (lineStep lent (dueAt s) (draftOf text (s .reading)) (l .key) (take (l .to - l .from) (drop (l .from) text))) (l .next)
-  line-turn = keyed-turn (ltb (l .key) 10) refl
+  line-turn = keyed-turn (ltb (l .key) noKey) refl
 
 -- an ending that is refused, and one where the reader stops
 outcome-by : (text : List ℕ) (s : State) (line at k : ℕ) (b : Bool) → eqb (s .refused) 0 ≡ b → stepOf text s ≡ step.refused k
@@ -242,13 +289,13 @@ module _ (text : List ℕ) (s : State) (on : (ltb 0 (s .refused) || s .ended) �
   unfolding stepOf
   goes-step = rw (eq-eqb (s .refused) 0 goes-refused, or-false (ltb 0 (s .refused)) (s .ended) on .1)
 
-  pub goes-key : (lent : ℕ) (due : Due) (d : Draft) (key : ℕ) (value : List ℕ) → stepOf text s ≡ lineStep lent due d key value → key < 10
-  goes-key lent due d key value e = go (ltb key 10) refl
+  pub goes-key : (lent : ℕ) (due : Due) (d : Draft) (key : ℕ) (value : List ℕ) → stepOf text s ≡ lineStep lent due d key value → key < noKey
+  goes-key lent due d key value e = go (ltb key noKey) refl
     where
-      go : (b : Bool) → ltb key 10 ≡ b → key < 10
-      go true f = ltb-true key 10 f
+      go : (b : Bool) → ltb key noKey ≡ b → key < noKey
+      go true f = ltb-true key noKey f
       go false f =
-          let r = none-step key (ltb-false key 10 f) lent due d value in
+          let r = none-step key (ltb-false key noKey f) lent due d value in
           let g = goes-step in
           let z : _≡_ {A = ℕ} 0 1 = cc in
           absurd (omega arith)
@@ -261,13 +308,14 @@ module _ (text : List ℕ) (s : State) (on : (ltb 0 (s .refused) || s .ended) �
       (omega (arith, length-drop at text, length-drop behind text)) (omega arith))
 
 -- the list of a line
-abbrev pub listHere : List ℕ → State → LineAt → Listed
-listHere text s l =
-    lineList (spelled text (s .reading .names)) (highFor (l .key) (s .reading)) (dueAt s) (l .key) (take (l .to - l .from) (drop (l .from) text))
+abbrev pub listHere : List ℕ → ℕ → State → LineAt → Listed
+listHere text lent s l =
+    lineList (spelled text (s .reading .names)) (highFor (l .key) (s .reading)) (dueAt s) (l .key) (roomFor lent (draftOf text (s .reading)))
+    (take (l .to - l .from) (drop (l .from) text))
 
 -- the line at a place, its list read or refused
 module _ (text : List ℕ) (lent : ℕ) (s : State) (at line : ℕ) (l : LineAt) (is : lineOf text l ≡ firstLine (drop at text)) where
-  pub refused-left : (k : ℕ) → listHere text s l ≡ lists.refused k → leftAt text lent s at line ≡ refused k line
+  pub refused-left : (k : ℕ) → listHere text lent s l ≡ lists.refused k → leftAt text lent s at line ≡ refused k line
   refused-left k fails =
       let value = take (l .to - l .from) (drop (l .from) text) in
       line-turn text lent s at line l is
@@ -277,7 +325,7 @@ module _ (text : List ℕ) (lent : ℕ) (s : State) (at line : ℕ) (l : LineAt)
 
   module _ (r : State) (cs : List ℕ)
       (steps : stepOf text r ≡ stepWith lent (dueAt s) (draftOf text (s .reading)) (l .key) (take (l .to - l .from) (drop (l .from) text)) (codes cs))
-      (whole : codes cs ≡ listHere text s l) where
+      (whole : codes cs ≡ listHere text lent s l) where
     pub stepped : stepOf text r ≡ lineStep lent (dueAt s) (draftOf text (s .reading)) (l .key) (take (l .to - l .from) (drop (l .from) text))
     stepped =
         let value = take (l .to - l .from) (drop (l .from) text) in
@@ -296,15 +344,15 @@ part-stands (suc n) (x ∷ xs) = ap (λ ys. x ∷ ys) (part-stands n xs)
 -- bounds of a line's list
 pub high-32 : {due : Due} (key : ℕ) (r : Reading) → Sound due r → highFor key r ≤ 32
 unfolding highFor
-high-32 key r s = go (eqb key 6)
+high-32 key r s = go (eqb key 5)
   where
-    go : (b : Bool) → cond b (r .names .count) (r .fluents) ≤ 32
-    go true = omega (arith, s .few, s .actions)
-    go false = omega (arith, s .few)
+    go : (b : Bool) → cond b (r .fluents) (r .names .count) ≤ 32
+    go true = omega (arith, s .few)
+    go false = omega (arith, s .few, s .actions)
 
-pub from-bound : (due : Due) (key size : ℕ) → itemsFrom due key size ≤ size + 1
+pub from-bound : (due : Due) (key : ℕ) (room : Bool) (size : ℕ) → itemsFrom due key room size ≤ size + 1
 unfolding itemsFrom
-from-bound due key size = go (ltb 0 size && (allowed due key && isListKey key))
+from-bound due key room size = go (ltb 0 size && (allowed due key && isListKey key room))
   where
     go : (b : Bool) → cond b 0 (size + 1) ≤ size + 1
     go true = omega arith
@@ -313,7 +361,7 @@ from-bound due key size = go (ltb 0 size && (allowed due key && isListKey key))
 pub blank-sound : (laws : List Law) → length laws ≡ 64 → Sound horizonDue (blankState laws .reading)
 blank-sound laws h = record { time = omega arith; few = omega arith; declared = omega arith; actions = omega arith; room = omega arith; held = h }
 
-pub list-here : (text : List ℕ) (s : State) (l : LineAt) (high i : ℕ) → high ≡ highFor (l .key) (s .reading)
-    → i ≡ itemsFrom (dueAt s) (l .key) (length (take (l .to - l .from) (drop (l .from) text)))
-    → listFrom (spelled text (s .reading .names)) 0 high 6 [] (itemsAt (take (l .to - l .from) (drop (l .from) text)) i) ≡ listHere text s l
-list-here text s l high i e f = rw (e, f)
+pub list-here : (text : List ℕ) (lent : ℕ) (s : State) (l : LineAt) (high i : ℕ) → Sound (dueAt s) (s .reading) → high ≡ highFor (l .key) (s .reading)
+    → i ≡ itemsFrom (dueAt s) (l .key) (ltb (s .reading .run .count) (min 64 lent)) (length (take (l .to - l .from) (drop (l .from) text)))
+    → listFrom (spelled text (s .reading .names)) 0 high 6 [] (itemsAt (take (l .to - l .from) (drop (l .from) text)) i) ≡ listHere text lent s l
+list-here text lent s l high i sound e f = rw (e, f, room-here text lent (s .reading) sound)

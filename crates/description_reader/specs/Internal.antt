@@ -1,10 +1,10 @@
 -- Internal: what the crate's own functions promise each other. No public promise rests on it; a reader may pass it over.
 -- Assumes nothing.
 use mathlib.Core.Path.{_≡_}
-use mathlib.Core.Bool.{Bool, false, cond, not, _&&_, _||_}
+use mathlib.Core.Bool.{Bool, false, cond, _&&_, _||_}
 use mathlib.Core.List.{List, []}
-use mathlib.Core.Option.{Option, none}
-use Prim.Native.Nat.{ℕ, _+_, _-_, _*_, _≤_, _<_}
+use mathlib.Core.Option.{Option}
+use Prim.Native.Nat.{ℕ, _+_, _≤_, _<_}
 use lib.Dec.{eqb, ltb}
 use lib.ListN.{length, take, drop, replicate}
 use Rattle.description.specs.declared.Law.{Law}
@@ -15,15 +15,18 @@ use Rattle.description_reader.specs.declared.descriptions.Ending.{Ending
 use Rattle.description_reader.specs.declared.states.Due as code
 use Rattle.description_reader.specs.declared.states.Due.the-variants as code-due
 use Rattle.description_reader.specs.declared.codes.Codes.{Codes}
-use Rattle.text.specs.Bytes.{isDigit}
-use Rattle.text.specs.Lines.{ifKey, afterKey}
+use Rattle.text.specs.Lines.{horizonKey, fluentKey, actionKey, staticKey, dynamicKey, ifKey, afterKey}
+use Rattle.text.specs.Lines.{defaultKey, inertialKey, causesKey, byKey, nonexecutableKey}
 use Rattle.text.specs.Lists as lists
 use Rattle.text.specs.Lists.{Listed, codes, added}
 use Rattle.text.specs.Internal.{spelled}
-use Rattle.description_reader.specs.LineSteps.{Due, horizonDue, firstFluentDue, fluentDue, actionDue, lawDue, ifDue, afterDue, Draft, allowed}
+use Rattle.description_reader.specs.LineSteps.{Due, horizonDue, firstFluentDue, fluentDue, actionDue, lawDue, ifDue, afterDue, byDue, Draft, allowed}
 use Rattle.description_reader.specs.LineSteps as step
-use Rattle.description_reader.specs.LineSteps.{Step, next, finish, inHorizon, ifLine, afterLine, lawIn, byKey}
+use Rattle.description_reader.specs.LineSteps.{Step, next, finish, horizonLine, fluentLine, actionLine, lawLine, ifLine, afterLine, literalLine, wholeByList, nonexecutableLine, endLine, lawIn}
+use Rattle.line_values.specs.HorizonText.{horizonOf}
+use Rattle.line_values.specs.ShortLaws.{defaultLaw, inertialLaw, causesLaw}
 use Rattle.description.specs.declared.Kind.{Kind}
+use Rattle.description.specs.declared.Kind.the-variants.{Static, Dynamic}
 use Rattle.description.specs.Laws.{padded, lawOf, noLaw}
 use Rattle.description_reader.specs.declared.steps.HeadAt.{HeadAt}
 use Rattle.description_reader.specs.declared.steps.HeadAt.the-variants.{Refused, Read}
@@ -45,9 +48,6 @@ listedOf l = cond (eqb (l .refused) 0) (codes (take (l .count) (l .codes))) (lis
 unfoldable pub oneMore : List ℕ → Option ℕ → Listed
 oneMore done code = cond (ltb (length done) 6) (added done code codes) (lists.refused 5)
 
-abbrev pub twoDigits : ℕ → ℕ → Option ℕ
-twoDigits a b = cond (isDigit a && isDigit b && not (eqb a 48)) (inHorizon (10 * (a - 48) + (b - 48))) none
-
 -- what is due, where the law is the one that has begun
 abbrev pub dueOf : code.Due → Law → Due
 dueOf code-due.Horizon l = horizonDue
@@ -57,6 +57,7 @@ dueOf code-due.Action l = actionDue
 dueOf code-due.NewLaw l = lawDue
 dueOf code-due.If l = ifDue l
 dueOf code-due.After l = afterDue l
+dueOf code-due.By l = byDue l
 
 abbrev pub dueAt : State → Due
 dueAt s = dueOf (s .due) (s .law)
@@ -86,6 +87,7 @@ HasRoom actionDue n = n ≤ 64
 HasRoom lawDue n = n ≤ 64
 HasRoom (ifDue l) n = n < 64
 HasRoom (afterDue l) n = n < 64
+HasRoom (byDue l) n = n < 64
 
 -- the counts that a reading keeps to
 pub record Sound (due : Due) (r : Reading) : Type 0 where
@@ -109,11 +111,29 @@ pub record Goes (s r : State) : Type 0 where
 abbrev pub hasPlace : Bool → ℕ → ℕ → Bool
 hasPlace action fluents names = cond action (ltb names (fluents + 8)) (ltb fluents 24)
 
--- a line's step where its list, if it is an if- or after-list, is read already
+-- a line that has no list and whose key is allowed, by its key
+abbrev pub shortLine : ℕ → Draft → ℕ → List ℕ → Step
+shortLine lent d key value =
+    cond (eqb key defaultKey) (literalLine lent d defaultLaw value)
+    (cond (eqb key inertialKey) (literalLine lent d inertialLaw value)
+    (cond (eqb key causesKey) (lawLine lent byDue d Dynamic value) (endLine d value)))
+
+abbrev pub otherLine : ℕ → Draft → ℕ → List ℕ → Step
+otherLine lent d key value =
+    cond (eqb key horizonKey) (horizonLine d (horizonOf value))
+    (cond (eqb key fluentKey) (fluentLine d value)
+    (cond (eqb key actionKey) (actionLine d value)
+    (cond (eqb key staticKey) (lawLine lent ifDue d Static value)
+    (cond (eqb key dynamicKey) (lawLine lent ifDue d Dynamic value) (shortLine lent d key value)))))
+
+-- a line's step where its list, if it has one, is read already
 unfoldable pub stepWith : ℕ → Due → Draft → ℕ → List ℕ → Listed → Step
 stepWith lent due d key value list =
     cond (allowed due key)
-    (cond (eqb key ifKey) (ifLine d (lawIn due) list) (cond (eqb key afterKey) (afterLine d (lawIn due) list) (byKey lent due d key value)))
+    (cond (eqb key ifKey) (ifLine d (lawIn due) list)
+    (cond (eqb key afterKey) (afterLine d (lawIn due) list)
+    (cond (eqb key byKey) (wholeByList d (causesLaw (lawIn due .head)) list)
+    (cond (eqb key nonexecutableKey) (nonexecutableLine lent d list) (otherLine lent d key value)))))
     (step.refused 2)
 
 -- a value that stands at a place of a text
@@ -121,9 +141,9 @@ abbrev pub StandsAt : List ℕ → ℕ → List ℕ → Type 0
 StandsAt text from value = value ≡ take (length value) (drop from text)
 
 -- what a law's first line comes to, by what was read of its head
-abbrev pub begunWith : Draft → Kind → HeadAt → Step
-begunWith d kind (Refused k) = step.refused k
-begunWith d kind (Read h) = next (ifDue (lawOf kind h [] [])) d
+abbrev pub begunWith : (Law → Due) → Draft → Kind → HeadAt → Step
+begunWith due d kind (Refused k) = step.refused k
+begunWith due d kind (Read h) = next (due (lawOf kind h [] [])) d
 
 -- a refusal has a number, and a law that begins has a place in the run
 abbrev pub HeadFits : ℕ → HeadAt → Type 0
@@ -155,15 +175,16 @@ blankState laws =
           };
     }
 
-abbrev pub isListKey : ℕ → Bool
-isListKey key = eqb key ifKey || eqb key afterKey
+-- whether a line has a list to be read: a law that is a list has none where there is no room for the law
+abbrev pub isListKey : ℕ → Bool → Bool
+isListKey key room = eqb key ifKey || eqb key afterKey || eqb key byKey || (eqb key nonexecutableKey && room)
 
 -- where a line's items begin: behind the end where there are none to read
-unfoldable pub itemsFrom : Due → ℕ → ℕ → ℕ
-itemsFrom due key size = cond (ltb 0 size && (allowed due key && isListKey key)) 0 (size + 1)
+unfoldable pub itemsFrom : Due → ℕ → Bool → ℕ → ℕ
+itemsFrom due key room size = cond (ltb 0 size && (allowed due key && isListKey key room)) 0 (size + 1)
 
 unfoldable pub highFor : ℕ → Reading → ℕ
-highFor key r = cond (eqb key afterKey) (r .names .count) (r .fluents)
+highFor key r = cond (eqb key ifKey) (r .fluents) (r .names .count)
 
 -- what the reader's ending stands for
 unfoldable pub takenOf : List ℕ → Ending → Reply Taken

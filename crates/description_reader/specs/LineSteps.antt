@@ -1,10 +1,10 @@
--- What one line of a description does (01, "Text" and "Where a call can be turned down").
+-- What one line of a description does (01, "Text" and "Where a call can be turned down"; 02, §1).
 -- Assumes nothing.
-use mathlib.Core.Bool.{Bool, not, cond, _&&_, _||_}
+use mathlib.Core.Bool.{Bool, cond, _||_}
 use mathlib.Core.List.{List, [], _∷_, _++_}
 use mathlib.Core.Option.{Option, none, some}
-use Prim.Native.Nat.{ℕ, suc, _+_, _-_, _*_, min}
-use lib.Dec.{eqb, ltb, leb}
+use Prim.Native.Nat.{ℕ, suc, _+_, min}
+use lib.Dec.{eqb, ltb}
 use lib.ListN.{length}
 use Rattle.description.specs.declared.Head.{Head}
 use Rattle.description.specs.declared.Head.the-variants.{Lit, False}
@@ -12,17 +12,20 @@ use Rattle.description.specs.declared.Kind.{Kind}
 use Rattle.description.specs.declared.Kind.the-variants.{Static, Dynamic}
 use Rattle.description.specs.declared.Law.{Law}
 use Rattle.description.specs.Laws.{padded, lawOf, noLaw}
-use Rattle.text.specs.Bytes.{isDigit, same}
+use Rattle.text.specs.Bytes.{same}
 use Rattle.text.specs.Lines.{horizonKey, fluentKey, actionKey, staticKey, dynamicKey, ifKey, afterKey, endKey}
+use Rattle.text.specs.Lines.{defaultKey, inertialKey, causesKey, byKey, nonexecutableKey}
 use Rattle.text.specs.Names.{falseBytes, isNew, literal}
 use Rattle.text.specs.Lists as lists
 use Rattle.text.specs.Lists.{Listed, codes, listOf}
+use Rattle.line_values.specs.HorizonText.{horizonOf}
+use Rattle.line_values.specs.ShortLaws.{defaultLaw, inertialLaw, causesLaw, nonexecutableLaw}
 
 -- what is due: the horizon, the first fluent, a further fluent or what follows, an action or what follows, a law or the end,
--- the if-list of a law that has begun, its after-list
+-- the if-list of a law that has begun, its after-list, the list of what causes its head
 pub data Due : Type 0 where
   horizonDue firstFluentDue fluentDue actionDue lawDue : Due
-  ifDue afterDue : Law → Due
+  ifDue afterDue byDue : Law → Due
 
 -- what has been read: the horizon, how many of the names are fluents, the names (fluents first), and the laws
 pub record Draft : Type 0 where
@@ -31,31 +34,27 @@ pub record Draft : Type 0 where
   pub names : List (List ℕ)
   pub laws : List Law
 
+-- a law starts with one of these, in full or short
+abbrev pub startsLaw : ℕ → Bool
+startsLaw k =
+    eqb k staticKey || eqb k dynamicKey || eqb k defaultKey || eqb k inertialKey || eqb k causesKey || eqb k nonexecutableKey
+
 -- the keys that may stand where something is due
 abbrev pub allowed : Due → ℕ → Bool
 allowed horizonDue k = eqb k horizonKey
 allowed firstFluentDue k = eqb k fluentKey
-allowed fluentDue k = eqb k fluentKey || eqb k actionKey || eqb k staticKey || eqb k dynamicKey || eqb k endKey
-allowed actionDue k = eqb k actionKey || eqb k staticKey || eqb k dynamicKey || eqb k endKey
-allowed lawDue k = eqb k staticKey || eqb k dynamicKey || eqb k endKey
+allowed fluentDue k = eqb k fluentKey || eqb k actionKey || startsLaw k || eqb k endKey
+allowed actionDue k = eqb k actionKey || startsLaw k || eqb k endKey
+allowed lawDue k = startsLaw k || eqb k endKey
 allowed (ifDue l) k = eqb k ifKey
 allowed (afterDue l) k = eqb k afterKey
+allowed (byDue l) k = eqb k byKey
 
 -- what a line comes to: a refusal's number, what is due next, or the end of the description
 pub data Step : Type 0 where
   refused : ℕ → Step
   next : Due → Draft → Step
   finish : Draft → Step
-
-abbrev pub inHorizon : ℕ → Option ℕ
-inHorizon T = cond (leb 1 T && leb T 30) (some T) none
-
--- 1 to 30 without a leading zero
-unfoldable pub horizonOf : List ℕ → Option ℕ
-horizonOf [] = none
-horizonOf (a ∷ []) = cond (isDigit a) (inHorizon (a - 48)) none
-horizonOf (a ∷ b ∷ []) = cond (isDigit a && isDigit b && not (eqb a 48)) (inHorizon (10 * (a - 48) + (b - 48))) none
-horizonOf (a ∷ b ∷ c ∷ bs) = none
 
 abbrev pub horizonLine : Draft → Option ℕ → Step
 horizonLine d none = refused 3
@@ -85,14 +84,18 @@ litHead (some c) = some (Lit c)
 unfoldable pub headOf : List (List ℕ) → ℕ → List ℕ → Option Head
 headOf names fluents value = cond (same value falseBytes) (some False) (litHead (literal names 0 fluents value))
 
-abbrev pub begun : Draft → Kind → Option Head → Step
-begun d kind none = refused 6
-begun d kind (some h) = next (ifDue (lawOf kind h [] [])) d
+-- a law begins, and the list that follows its head is due
+abbrev pub begun : (Law → Due) → Draft → Kind → Option Head → Step
+begun due d kind none = refused 6
+begun due d kind (some h) = next (due (lawOf kind h [] [])) d
 
--- a new law, of at most 64 and of those lent: 5 before its head's spelling
-abbrev pub lawLine : ℕ → Draft → Kind → List ℕ → Step
-lawLine lent d kind value =
-    cond (ltb (length (d .laws)) (min 64 lent)) (begun d kind (headOf (d .names) (d .fluents) value)) (refused 5)
+-- there is a place for a new law, of at most 64 and of those lent
+abbrev pub roomFor : ℕ → Draft → Bool
+roomFor lent d = ltb (length (d .laws)) (min 64 lent)
+
+-- a new law: 5 before its head's spelling
+abbrev pub lawLine : ℕ → (Law → Due) → Draft → Kind → List ℕ → Step
+lawLine lent due d kind value = cond (roomFor lent d) (begun due d kind (headOf (d .names) (d .fluents) value)) (refused 5)
 
 -- a law is whole behind its if-list if it is static, else behind its after-list
 abbrev pub whole : Draft → Law → Draft
@@ -121,6 +124,23 @@ abbrev pub afterLine : Draft → Law → Listed → Step
 afterLine d l (lists.refused k) = refused k
 afterLine d l (codes cs) = next lawDue (whole d (withAfter l cs))
 
+-- the short laws, each whole behind its last line: of a fluent literal, or of a list
+abbrev pub wholeByLiteral : Draft → (ℕ → Law) → Option ℕ → Step
+wholeByLiteral d law none = refused 6
+wholeByLiteral d law (some c) = next lawDue (whole d (law c))
+
+abbrev pub wholeByList : Draft → (List ℕ → Law) → Listed → Step
+wholeByList d law (lists.refused k) = refused k
+wholeByList d law (codes cs) = next lawDue (whole d (law cs))
+
+-- a new law of a fluent literal: 5 before its spelling
+abbrev pub literalLine : ℕ → Draft → (ℕ → Law) → List ℕ → Step
+literalLine lent d law value = cond (roomFor lent d) (wholeByLiteral d law (literal (d .names) 0 (d .fluents) value)) (refused 5)
+
+-- a new law of a list: 5 before the list's items
+abbrev pub nonexecutableLine : ℕ → Draft → Listed → Step
+nonexecutableLine lent d list = cond (roomFor lent d) (wholeByList d nonexecutableLaw list) (refused 5)
+
 abbrev pub endLine : Draft → List ℕ → Step
 endLine d [] = finish d
 endLine d (b ∷ bs) = refused 2
@@ -134,17 +154,30 @@ lawIn actionDue = noLaw
 lawIn lawDue = noLaw
 lawIn (ifDue l) = l
 lawIn (afterDue l) = l
+lawIn (byDue l) = l
 
--- a line whose key is allowed, by its key; a fluent literal's place is below the number of fluents
-abbrev pub byKey : ℕ → Due → Draft → ℕ → List ℕ → Step
-byKey lent due d key value =
+-- a list of fluent literals, and one of literals of either sort: a fluent literal's place is below the number of fluents
+abbrev pub fluentList : Draft → List ℕ → Listed
+fluentList d value = listOf (d .names) 0 (d .fluents) 6 value
+
+abbrev pub anyList : Draft → List ℕ → Listed
+anyList d value = listOf (d .names) 0 (length (d .names)) 6 value
+
+-- a line whose key is allowed, by its key
+abbrev pub keyLine : ℕ → Due → Draft → ℕ → List ℕ → Step
+keyLine lent due d key value =
     cond (eqb key horizonKey) (horizonLine d (horizonOf value))
     (cond (eqb key fluentKey) (fluentLine d value)
     (cond (eqb key actionKey) (actionLine d value)
-    (cond (eqb key staticKey) (lawLine lent d Static value)
-    (cond (eqb key dynamicKey) (lawLine lent d Dynamic value)
-    (cond (eqb key ifKey) (ifLine d (lawIn due) (listOf (d .names) 0 (d .fluents) 6 value))
-    (cond (eqb key afterKey) (afterLine d (lawIn due) (listOf (d .names) 0 (length (d .names)) 6 value)) (endLine d value)))))))
+    (cond (eqb key staticKey) (lawLine lent ifDue d Static value)
+    (cond (eqb key dynamicKey) (lawLine lent ifDue d Dynamic value)
+    (cond (eqb key ifKey) (ifLine d (lawIn due) (fluentList d value))
+    (cond (eqb key afterKey) (afterLine d (lawIn due) (anyList d value))
+    (cond (eqb key defaultKey) (literalLine lent d defaultLaw value)
+    (cond (eqb key inertialKey) (literalLine lent d inertialLaw value)
+    (cond (eqb key causesKey) (lawLine lent byDue d Dynamic value)
+    (cond (eqb key byKey) (wholeByList d (causesLaw (lawIn due .head)) (anyList d value))
+    (cond (eqb key nonexecutableKey) (nonexecutableLine lent d (anyList d value)) (endLine d value))))))))))))
 
 unfoldable pub lineStep : ℕ → Due → Draft → ℕ → List ℕ → Step
-lineStep lent due d key value = cond (allowed due key) (byKey lent due d key value) (refused 2)
+lineStep lent due d key value = cond (allowed due key) (keyLine lent due d key value) (refused 2)

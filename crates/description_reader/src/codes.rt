@@ -1,7 +1,7 @@
 // The codes of a law's list, gathered item by item.
+use line_values::orders;
 use search::Found;
 ghost use mathlib.Core.Path.{_≡_};
-ghost use mathlib.Core.Bool.{cond};
 ghost use lib.ListN.{take};
 ghost use Rattle.search.specs.Search.{placeOf};
 ghost use Rattle.text.specs.Internal.{CodeFits};
@@ -24,19 +24,6 @@ pub(crate) fn no_codes() -> Codes
     }
 }
 
-// The refusal at an item, 0 for none: 5 of a seventh, before its spelling, then 6 of one that is no literal of the allowed sort.
-fn refusal(seventh: bool, unknown: bool) -> u8
-    ensures { λ r. ⌜ r ≡ cond seventh 5 (cond unknown 6 0) ⌝ }
-{
-    if seventh {
-        return 5;
-    }
-    if unknown {
-        return 6;
-    }
-    0
-}
-
 // The codes and one more item.
 pub(crate) fn with_item(list: Codes, code: Found) -> Codes
     requires { ⌜ Padded list × CodeFits (placeOf code) ⌝ }
@@ -50,10 +37,10 @@ pub(crate) fn with_item(list: Codes, code: Found) -> Codes
         return Codes {
             codes,
             count,
-            refused: refusal(seventh, true),
+            refused: orders::refusal(seventh, true),
         };
     };
-    let refused = refusal(seventh, false);
+    let refused = orders::refusal(seventh, false);
     if 0 < refused {
         return Codes {
             codes,

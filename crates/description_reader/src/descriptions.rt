@@ -9,15 +9,17 @@ use crate::steps;
 use description::Head;
 use description::Kind;
 use description::Law;
+use line_values::law_forms;
 use text::lines;
 use text::lists;
 use text::names::Names;
 ghost use mathlib.Core.Path.{_≡_};
-ghost use Prim.Native.Nat.{_≤_, _<_};
+ghost use Prim.Native.Nat.{_≤_, _<_, min};
+ghost use lib.Dec.{ltb};
 ghost use lib.ListN.{length};
 ghost use Rattle.description.specs.declared.Law.{Law};
 ghost use Rattle.description_reader.specs.Descriptions.{described};
-ghost use Rattle.description_reader.specs.Internal.{dueOf, blankState, itemsFrom, highFor, takenOf, Ended, Limits};
+ghost use Rattle.description_reader.specs.Internal.{dueOf, blankState, isListKey, itemsFrom, highFor, takenOf, Ended, Limits};
 
 // Where the reader stopped: its state, the line, and the place behind the line.
 pub struct Ending {
@@ -36,7 +38,7 @@ fn begun(laws: [Law; 64]) -> State
         count: 0,
     };
     let run = Run { laws, count: 0 };
-    let law = steps::new_law(Kind::Static, Head::Lit(0));
+    let law = law_forms::new_law(Kind::Static, Head::Lit(0));
     let reading = Reading {
         horizon: 0,
         fluents: 0,
@@ -52,10 +54,29 @@ fn begun(laws: [Law; 64]) -> State
     }
 }
 
+// Whether a line has a list to be read: a law that is a list has none where there is no room for the law.
+fn has_list(key: usize, count: usize, lent: usize) -> bool
+    ensures { λ r. ⌜ r ≡ isListKey key (ltb count (min 64 lent)) ⌝ }
+{
+    if key == lines::IF {
+        return true;
+    }
+    if key == lines::AFTER {
+        return true;
+    }
+    if key == lines::BY {
+        return true;
+    }
+    if key == lines::NONEXECUTABLE {
+        return states::has_room(count, lent);
+    }
+    false
+}
+
 // Where the items of a line's list begin: behind the end where the line has none to be read.
-fn first_item(due: Due, key: usize, size: usize) -> usize
+fn first_item(due: Due, key: usize, size: usize, count: usize, lent: usize) -> usize
     requires { ⌜ size < 9223372036854775808 ⌝ }
-    ensures { λ r. ⌜ ((law : Law) → r ≡ itemsFrom (dueOf due law) key size) ⌝ }
+    ensures { λ r. ⌜ ((law : Law) → r ≡ itemsFrom (dueOf due law) key (ltb count (min 64 lent)) size) ⌝ }
 {
     if size == 0 {
         return size + 1;
@@ -63,24 +84,21 @@ fn first_item(due: Due, key: usize, size: usize) -> usize
     if !states::is_allowed(due, key) {
         return size + 1;
     }
-    if key == lines::IF {
-        return 0;
+    if !has_list(key, count, lent) {
+        return size + 1;
     }
-    if key == lines::AFTER {
-        return 0;
-    }
-    size + 1
+    0
 }
 
-// Up to which place the names of a line's list go: the fluents in an if-list, all names in an after-list.
+// Up to which place the names of a line's list go: the fluents in an if-list, all names in the others.
 fn sort_end(reading: Reading, key: usize) -> usize
     ensures { λ r. ⌜ r ≡ highFor key reading ⌝ }
 {
     let names = reading.names;
-    if key == lines::AFTER {
-        return names.count;
+    if key == lines::IF {
+        return reading.fluents;
     }
-    reading.fluents
+    names.count
 }
 
 // Reads line by line to the end line or to the first bad line; laws are counted up to those lent.
@@ -100,9 +118,10 @@ fn read_lines(text: &[u8], laws: [Law; 64], lent: usize) -> Ending
         let due = state.due;
         let reading = state.reading;
         let names = reading.names;
+        let run = reading.run;
         let high = sort_end(reading, l.key);
         let mut gathered = codes::no_codes();
-        let mut i = first_item(due, l.key, list.len());
+        let mut i = first_item(due, l.key, list.len(), run.count, lent);
         while i <= list.len() {
             let item = lists::next_item(list, i, text, names, 0, high);
             let code = item.code;
@@ -141,7 +160,7 @@ pub(crate) fn read(text: &[u8], laws: [Law; 64], lent: usize) -> Ending
 
 // Laws that nobody looks at.
 fn no_laws() -> [Law; 64] {
-    let law = steps::new_law(Kind::Static, Head::Lit(0));
+    let law = law_forms::new_law(Kind::Static, Head::Lit(0));
     [law; 64]
 }
 

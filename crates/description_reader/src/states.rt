@@ -1,18 +1,15 @@
-// What the description reader knows as it goes, which keys are allowed where, and the horizon.
+// What the description reader knows as it goes, which keys are allowed where, and whether there is room for a law.
 use crate::Run;
 use description::Law;
-use search::Found;
-use text::bytes;
 use text::lines;
 use text::names::Names;
 ghost use mathlib.Core.Path.{_≡_};
-ghost use Prim.Native.Nat.{_-_, _<_};
+ghost use Prim.Native.Nat.{min};
 ghost use mathlib.Core.Bool.{_||_};
 ghost use lib.Dec.{ltb};
-ghost use Rattle.search.specs.Search.{placeOf};
 ghost use Rattle.description.specs.declared.Law.{Law};
-ghost use Rattle.description_reader.specs.LineSteps.{lawDue, inHorizon, horizonOf, allowed};
-ghost use Rattle.description_reader.specs.Internal.{dueOf, twoDigits};
+ghost use Rattle.description_reader.specs.LineSteps.{lawDue, startsLaw, allowed};
+ghost use Rattle.description_reader.specs.Internal.{dueOf};
 
 // What is due.
 pub enum Due {
@@ -23,6 +20,7 @@ pub enum Due {
     NewLaw,
     If,
     After,
+    By,
 }
 
 // What has been read: the horizon, how many of the names are fluents, the names, and the laws.
@@ -43,68 +41,43 @@ pub struct State {
     pub reading: Reading,
 }
 
-// 1 to 30.
-fn in_horizon(t: usize) -> Found
-    ensures { λ r. ⌜ placeOf r ≡ inHorizon t ⌝ }
+// Whether there is a place for a new law, of at most 64 and of those lent.
+pub(crate) fn has_room(count: usize, lent: usize) -> bool
+    ensures { λ r. ⌜ r ≡ ltb count (min 64 lent) ⌝ }
 {
-    if t < 1 {
-        return Found::Nothing;
+    if 64 <= count {
+        return false;
     }
-    if 30 < t {
-        return Found::Nothing;
-    }
-    Found::At(t)
+    count < lent
 }
 
-// What a digit's byte stands for.
-fn digit(b: u8) -> usize
-    ensures { λ r. ⌜ (r ≡ b - 48) × (r < 256) ⌝ }
-{
-    if b < 48 {
-        return 0;
-    }
-    (b as usize) - 48
-}
-
-// The horizon: one digit, or two of which the first is no zero.
-pub(crate) fn horizon_of(value: &[u8]) -> Found
-    ensures { λ r. ⌜ placeOf r ≡ horizonOf (now (value .entry)) ⌝ }
-{
-    if value.len() == 1 {
-        let a = value[0];
-        if !bytes::is_digit(a) {
-            return Found::Nothing;
-        }
-        return in_horizon(digit(a));
-    }
-    if value.len() == 2 {
-        return two_digits(value[0], value[1]);
-    }
-    Found::Nothing
-}
-
-fn two_digits(a: u8, b: u8) -> Found
-    ensures { λ r. ⌜ placeOf r ≡ twoDigits a b ⌝ }
-{
-    if !bytes::is_digit(a) {
-        return Found::Nothing;
-    }
-    if !bytes::is_digit(b) {
-        return Found::Nothing;
-    }
-    if a == 48 {
-        return Found::Nothing;
-    }
-    in_horizon(10 * digit(a) + digit(b))
-}
-
-fn begins_law(key: usize) -> bool
-    ensures { λ r. ⌜ r ≡ allowed lawDue key ⌝ }
+// Whether a law starts with a key, in full or short.
+fn starts_law(key: usize) -> bool
+    ensures { λ r. ⌜ r ≡ startsLaw key ⌝ }
 {
     if key == lines::STATIC {
         return true;
     }
     if key == lines::DYNAMIC {
+        return true;
+    }
+    if key == lines::DEFAULT {
+        return true;
+    }
+    if key == lines::INERTIAL {
+        return true;
+    }
+    if key == lines::CAUSES {
+        return true;
+    }
+    key == lines::NONEXECUTABLE
+}
+
+// A law or the end line.
+fn is_law_or_end(key: usize) -> bool
+    ensures { λ r. ⌜ r ≡ allowed lawDue key ⌝ }
+{
+    if starts_law(key) {
         return true;
     }
     key == lines::END
@@ -124,17 +97,18 @@ pub(crate) fn is_allowed(due: Due, key: usize) -> bool
             if key == lines::ACTION {
                 return true;
             }
-            begins_law(key)
+            is_law_or_end(key)
         }
         Due::Action => {
             if key == lines::ACTION {
                 return true;
             }
-            begins_law(key)
+            is_law_or_end(key)
         }
-        Due::NewLaw => begins_law(key),
+        Due::NewLaw => is_law_or_end(key),
         Due::If => key == lines::IF,
         Due::After => key == lines::AFTER,
+        Due::By => key == lines::BY,
     }
 }
 

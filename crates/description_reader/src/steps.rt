@@ -8,6 +8,9 @@ use crate::states::State;
 use description::Head;
 use description::Kind;
 use description::Law;
+use line_values::horizons;
+use line_values::law_forms;
+use line_values::orders;
 use search::Found;
 use text::lines;
 use text::names;
@@ -18,14 +21,16 @@ ghost use mathlib.Core.List.{List, [], _∷_, _++_};
 ghost use Prim.Native.Nat.{ℕ, suc, _+_, _≤_, _<_, min};
 ghost use lib.Dec.{ltb};
 ghost use Rattle.description.specs.declared.Kind.{Kind};
+ghost use Rattle.description.specs.declared.Law.{Law};
 ghost use lib.ListN.{length, take, drop};
 ghost use Rattle.text.specs.Lists.{codes};
 ghost use Rattle.text.specs.Internal.{spelled};
+ghost use Rattle.line_values.specs.HorizonText.{horizonOf};
+ghost use Rattle.line_values.specs.ShortLaws.{literalLaw, causesLaw};
 ghost use Rattle.description_reader.specs.LineSteps as step;
-ghost use Rattle.description_reader.specs.LineSteps.{actionDue, fluentDue, horizonOf, horizonLine, nameLine, lawLine};
-ghost use Rattle.description_reader.specs.LineSteps.{Draft, begun, headOf, whole, ifLine, afterLine, endLine, byKey};
-ghost use Rattle.description.specs.Laws.{lawOf};
-ghost use Rattle.description_reader.specs.Internal.{dueAt, draftOf, stepOf, stepWith, hasPlace, Sound, Goes, Padded, Pushed, StandsAt, begunWith, HeadFits};
+ghost use Rattle.description_reader.specs.LineSteps.{actionDue, fluentDue, lawDue, ifDue, byDue, next, horizonLine, nameLine, lawLine};
+ghost use Rattle.description_reader.specs.LineSteps.{Draft, begun, headOf, whole, ifLine, afterLine, wholeByList, literalLine, nonexecutableLine, endLine};
+ghost use Rattle.description_reader.specs.Internal.{dueOf, dueAt, draftOf, stepOf, stepWith, otherLine, shortLine, hasPlace, Sound, Goes, Padded, Pushed, StandsAt, begunWith, HeadFits};
 
 // A line that is refused.
 pub(crate) fn refused(state: State, number: u8) -> State
@@ -43,7 +48,7 @@ fn horizon_line(value: &[u8], state: State) -> State
     ensures { λ r. ⌜ ((text : List ℕ) → stepOf text r ≡ horizonLine (draftOf text (state .reading)) (horizonOf (now (value .entry)))) ⌝ }
     ensures { λ r. ⌜ Goes state r ⌝ }
 {
-    let Found::At(t) = states::horizon_of(value) else {
+    let Found::At(t) = horizons::horizon_of(value) else {
         return refused(state, 3);
     };
     let law = state.law;
@@ -121,19 +126,6 @@ fn name_line(text: &[u8], from: usize, value: &[u8], state: State, action: bool)
     }
 }
 
-pub(crate) fn new_law(kind: Kind, head: Head) -> Law
-    ensures { λ r. ⌜ r ≡ lawOf kind head [] [] ⌝ }
-{
-    Law {
-        kind,
-        head,
-        if_count: 0,
-        if_codes: [0; 6],
-        after_count: 0,
-        after_codes: [0; 6],
-    }
-}
-
 // What a law's first line comes to: a refusal's number, or the head.
 pub(crate) enum HeadAt {
     Refused(u8),
@@ -150,13 +142,10 @@ fn law_head(
     lent: usize,
 ) -> HeadAt
     requires { ⌜ fluents ≤ 24 ⌝ }
-    ensures { λ r. ⌜ ((d : Draft) (kind : Kind) → begunWith d kind r ≡ cond (ltb count (min 64 lent)) (begun d kind (headOf (spelled (now (text .entry)) names) fluents (now (value .entry)))) (step.refused 5)) ⌝ }
+    ensures { λ r. ⌜ ((due : Law → step.Due) (d : Draft) (kind : Kind) → begunWith due d kind r ≡ cond (ltb count (min 64 lent)) (begun due d kind (headOf (spelled (now (text .entry)) names) fluents (now (value .entry)))) (step.refused 5)) ⌝ }
     ensures { λ r. ⌜ HeadFits count r ⌝ }
 {
-    if 64 <= count {
-        return HeadAt::Refused(5);
-    }
-    if lent <= count {
+    if !states::has_room(count, lent) {
         return HeadAt::Refused(5);
     }
     if names::is_false(value) {
@@ -168,10 +157,10 @@ fn law_head(
     HeadAt::Read(Head::Lit(code as u8))
 }
 
-// A law begins: its if-list is due.
-fn law_line(text: &[u8], value: &[u8], state: State, kind: Kind, lent: usize) -> State
+// A law begins: its if-list is due, or what causes its head.
+fn law_line(text: &[u8], value: &[u8], state: State, kind: Kind, short: bool, lent: usize) -> State
     requires { ⌜ Sound (dueAt state) (state .reading) ⌝ }
-    ensures { λ r. ⌜ stepOf (now (text .entry)) r ≡ lawLine lent (draftOf (now (text .entry)) (state .reading)) kind (now (value .entry)) ⌝ }
+    ensures { λ r. ⌜ stepOf (now (text .entry)) r ≡ lawLine lent (cond short byDue ifDue) (draftOf (now (text .entry)) (state .reading)) kind (now (value .entry)) ⌝ }
     ensures { λ r. ⌜ Goes state r ⌝ }
 {
     let reading = state.reading;
@@ -183,14 +172,24 @@ fn law_line(text: &[u8], value: &[u8], state: State, kind: Kind, lent: usize) ->
         HeadAt::Read(head) => State {
             refused: 0,
             ended: false,
-            due: Due::If,
-            law: new_law(kind, head),
+            due: list_due(short),
+            law: law_forms::new_law(kind, head),
             reading,
         },
     }
 }
 
-// The law is whole: it joins those read.
+// Which list follows a head.
+fn list_due(short: bool) -> Due
+    ensures { λ r. ⌜ ((law : Law) → dueOf r law ≡ cond short byDue ifDue law) ⌝ }
+{
+    if short {
+        return Due::By;
+    }
+    Due::If
+}
+
+// The law joins those read.
 fn with_law(reading: Reading, law: Law) -> Reading
     requires { ⌜ (reading .run .count < 64) × (length (reading .run .laws) ≡ 64) ⌝ }
     ensures { λ r. ⌜ ((text : List ℕ) → draftOf text r ≡ whole (draftOf text reading) law) ⌝ }
@@ -209,6 +208,22 @@ fn with_law(reading: Reading, law: Law) -> Reading
     next
 }
 
+// A law is whole: it joins those read, and a law or the end is due.
+fn whole_law(state: State, law: Law) -> State
+    requires { ⌜ (state .reading .run .count < 64) × Sound (dueAt state) (state .reading) ⌝ }
+    ensures { λ r. ⌜ ((text : List ℕ) → stepOf text r ≡ next lawDue (whole (draftOf text (state .reading)) law)) ⌝ }
+    ensures { λ r. ⌜ Goes state r ⌝ }
+{
+    let reading = state.reading;
+    State {
+        refused: 0,
+        ended: false,
+        due: Due::NewLaw,
+        law,
+        reading: with_law(reading, law),
+    }
+}
+
 // The if-list: a static law is whole behind it, a dynamic one wants its after-list.
 fn if_line(state: State, list: Codes) -> State
     requires { ⌜ (state .reading .run .count < 64) × Sound (dueAt state) (state .reading) × Padded list ⌝ }
@@ -224,13 +239,7 @@ fn if_line(state: State, list: Codes) -> State
     law.after_count = 0;
     law.after_codes = [0; 6];
     match kind {
-        Kind::Static => State {
-            refused: 0,
-            ended: false,
-            due: Due::NewLaw,
-            law,
-            reading: with_law(reading, law),
-        },
+        Kind::Static => whole_law(state, law),
         Kind::Dynamic => State {
             refused: 0,
             ended: false,
@@ -246,18 +255,58 @@ fn after_line(state: State, list: Codes) -> State
     ensures { λ r. ⌜ ((text : List ℕ) → stepOf text r ≡ afterLine (draftOf text (state .reading)) (state .law) (codes (take (list .count) (list .codes)))) ⌝ }
     ensures { λ r. ⌜ Goes state r ⌝ }
 {
-    let reading = state.reading;
     let mut law = state.law;
     let after_codes = list.codes;
     law.after_count = list.count as u8;
     law.after_codes = after_codes;
-    State {
-        refused: 0,
-        ended: false,
-        due: Due::NewLaw,
-        law,
-        reading: with_law(reading, law),
+    whole_law(state, law)
+}
+
+// The list of what causes a head.
+fn by_line(state: State, list: Codes) -> State
+    requires { ⌜ (state .reading .run .count < 64) × Sound (dueAt state) (state .reading) × Padded list ⌝ }
+    ensures { λ r. ⌜ ((text : List ℕ) → stepOf text r ≡ wholeByList (draftOf text (state .reading)) (causesLaw (state .law .head)) (codes (take (list .count) (list .codes)))) ⌝ }
+    ensures { λ r. ⌜ Goes state r ⌝ }
+{
+    let law = state.law;
+    let head = law.head;
+    let codes = list.codes;
+    whole_law(state, law_forms::causes_law(head, list.count as u8, codes))
+}
+
+// A law that is a list: 5 where there is no room for it.
+fn nonexecutable_line(state: State, list: Codes, lent: usize) -> State
+    requires { ⌜ Sound (dueAt state) (state .reading) × Padded list ⌝ }
+    ensures { λ r. ⌜ ((text : List ℕ) → stepOf text r ≡ nonexecutableLine lent (draftOf text (state .reading)) (codes (take (list .count) (list .codes)))) ⌝ }
+    ensures { λ r. ⌜ Goes state r ⌝ }
+{
+    let reading = state.reading;
+    let run = reading.run;
+    if !states::has_room(run.count, lent) {
+        return refused(state, 5);
     }
+    let codes = list.codes;
+    whole_law(state, law_forms::nonexecutable_law(list.count as u8, codes))
+}
+
+// A law of one fluent literal: 5 where there is no room for it, before its spelling, then 6.
+fn literal_line(text: &[u8], value: &[u8], state: State, kind: Kind, lent: usize) -> State
+    requires { ⌜ Sound (dueAt state) (state .reading) ⌝ }
+    ensures { λ r. ⌜ stepOf (now (text .entry)) r ≡ literalLine lent (draftOf (now (text .entry)) (state .reading)) (literalLaw kind) (now (value .entry)) ⌝ }
+    ensures { λ r. ⌜ Goes state r ⌝ }
+{
+    let reading = state.reading;
+    let names = reading.names;
+    let run = reading.run;
+    let full = !states::has_room(run.count, lent);
+    let Found::At(code) = names::literal(text, names, value, 0, reading.fluents) else {
+        return refused(state, orders::refusal(full, true));
+    };
+    let number = orders::refusal(full, false);
+    if 0 < number {
+        return refused(state, number);
+    }
+    whole_law(state, law_forms::literal_law(kind, code as u8))
 }
 
 fn end_line(value: &[u8], state: State) -> State
@@ -274,6 +323,24 @@ fn end_line(value: &[u8], state: State) -> State
     next
 }
 
+// A short law that is no list, or the end line, whose key is allowed.
+fn short_line(text: &[u8], value: &[u8], key: usize, state: State, lent: usize) -> State
+    requires { ⌜ Sound (dueAt state) (state .reading) ⌝ }
+    ensures { λ r. ⌜ stepOf (now (text .entry)) r ≡ shortLine lent (draftOf (now (text .entry)) (state .reading)) key (now (value .entry)) ⌝ }
+    ensures { λ r. ⌜ Goes state r ⌝ }
+{
+    if key == lines::DEFAULT {
+        return literal_line(text, value, state, Kind::Static, lent);
+    }
+    if key == lines::INERTIAL {
+        return literal_line(text, value, state, Kind::Dynamic, lent);
+    }
+    if key == lines::CAUSES {
+        return law_line(text, value, state, Kind::Dynamic, true, lent);
+    }
+    end_line(value, state)
+}
+
 // A line of any key but the lists', whose key is allowed.
 fn other_line(
     text: &[u8],
@@ -284,8 +351,7 @@ fn other_line(
     lent: usize,
 ) -> State
     requires { ⌜ StandsAt (now text) from (now value) × Sound (dueAt state) (state .reading) ⌝ }
-    requires { ⌜ ((key ≡ 5 → ⊥) × (key ≡ 6 → ⊥)) ⌝ }
-    ensures { λ r. ⌜ stepOf (now (text .entry)) r ≡ byKey lent (dueAt state) (draftOf (now (text .entry)) (state .reading)) key (now (value .entry)) ⌝ }
+    ensures { λ r. ⌜ stepOf (now (text .entry)) r ≡ otherLine lent (draftOf (now (text .entry)) (state .reading)) key (now (value .entry)) ⌝ }
     ensures { λ r. ⌜ Goes state r ⌝ }
 {
     if key == lines::HORIZON {
@@ -298,12 +364,12 @@ fn other_line(
         return name_line(text, from, value, state, true);
     }
     if key == lines::STATIC {
-        return law_line(text, value, state, Kind::Static, lent);
+        return law_line(text, value, state, Kind::Static, false, lent);
     }
     if key == lines::DYNAMIC {
-        return law_line(text, value, state, Kind::Dynamic, lent);
+        return law_line(text, value, state, Kind::Dynamic, false, lent);
     }
-    end_line(value, state)
+    short_line(text, value, key, state, lent)
 }
 
 // A line, its value at a place of the text; its list, if it has one, is read already.
@@ -329,6 +395,12 @@ pub(crate) fn line_step(
     }
     if key == lines::AFTER {
         return after_line(state, list);
+    }
+    if key == lines::BY {
+        return by_line(state, list);
+    }
+    if key == lines::NONEXECUTABLE {
+        return nonexecutable_line(state, list, lent);
     }
     other_line(text, from, value, key, state, lent)
 }

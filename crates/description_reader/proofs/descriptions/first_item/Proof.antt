@@ -1,7 +1,7 @@
 -- `descriptions::first_item` meets its contract.
 -- Assumes nothing.
 use native.Mathlib.Omega.{arith}
-use borrow.Author.Tests.{eq-eqb, ne-eqb, lt-ltb, le-ltb, not-true, not-false}
+use borrow.Author.Tests.{lt-ltb, le-ltb, not-true, not-false}
 use Rattle.description_reader.specs.Internal.{itemsFrom}
 use borrow.Author.Needs.{needs}
 use Rattle.description_reader.proofs.descriptions.first_item.Statement.{statement}
@@ -26,26 +26,23 @@ returns-2 c =
     let d = c .before in
     λ law. rw (lt-ltb 0 (d .before .before .args .size) (omega (arith, d .before .if1 .left)), ← d .is-allowed .ensures law, not-true (d .is-allowed .result) (c .if2 .taken))
 
+has-list-requires : tie.Need-has-list-requires
+has-list-requires c κs = search needs
+
+add-result-3 : tie.Need-add-result-3
+add-result-3 c = search needs
+
 returns-3 : tie.Need-returns-3
 unfolding itemsFrom
 returns-3 c =
-    let d = c .before .before in
-    λ law. rw (lt-ltb 0 (d .before .before .args .size) (omega (arith, d .before .if1 .left)), ← d .is-allowed .ensures law, not-false (d .is-allowed .result) (c .before .if2 .left), eq-eqb _ _ (c .if3 .taken))
+    let d = c .before .before .before in
+    λ law. rw (lt-ltb 0 (d .before .before .args .size) (omega (arith, d .before .if1 .left)), ← d .is-allowed .ensures law, not-false (d .is-allowed .result) (c .before .before .if2 .left), ← c .before .has-list .ensures, not-true (c .before .has-list .result) (c .if3 .taken))
 
 returns-4 : tie.Need-returns-4
 unfolding itemsFrom
 returns-4 c =
     let d = c .before .before .before in
-    λ law. rw (lt-ltb 0 (d .before .before .args .size) (omega (arith, d .before .if1 .left)), ← d .is-allowed .ensures law, not-false (d .is-allowed .result) (c .before .before .if2 .left), ne-eqb _ _ (c .before .if3 .left), eq-eqb _ _ (c .if4 .taken))
-
-add-result-3 : tie.Need-add-result-3
-add-result-3 c = search needs
-
-returns-5 : tie.Need-returns-5
-unfolding itemsFrom
-returns-5 c =
-    let d = c .before .before .before in
-    λ law. rw (lt-ltb 0 (d .before .before .args .size) (omega (arith, d .before .if1 .left)), ← d .is-allowed .ensures law, not-false (d .is-allowed .result) (c .before .before .if2 .left), ne-eqb _ _ (c .before .if3 .left), ne-eqb _ _ (c .if4 .left))
+    λ law. rw (lt-ltb 0 (d .before .before .args .size) (omega (arith, d .before .if1 .left)), ← d .is-allowed .ensures law, not-false (d .is-allowed .result) (c .before .before .if2 .left), ← c .before .has-list .ensures, not-false (c .before .has-list .result) (c .if3 .left))
 
 pub first-item-spec : {M : Type 1} → statement M
 first-item-spec =
@@ -56,7 +53,7 @@ first-item-spec =
     is-allowed-requires
     add-result-2
     returns-2
-    returns-3
-    returns-4
+    has-list-requires
     add-result-3
-    returns-5)
+    returns-3
+    returns-4)

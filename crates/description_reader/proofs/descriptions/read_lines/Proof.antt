@@ -63,43 +63,43 @@ no-codes-requires c κs = tt
 
 first-item-requires : tie.Need-first-item-requires Inv-loop μ-loop Inv-lines μ-lines
 first-item-requires c κs =
-    let l = c .before .before .before .before .before .line-at in
-    let text = c .before .before .before .before .before .before .before .before .before .args .text .now in
+    let l = c .before .before .before .before .before .before .line-at in
+    let text = c .before .before .before .before .before .before .before .before .before .before .args .text .now in
     omega (arith, length-take (l .result .to - l .result .from) (drop (l .result .from) text), length-drop (l .result .from) text)
 
 loop-holds : tie.Need-loop-holds Inv-loop μ-loop Inv-lines μ-lines
 loop-holds c =
-    let l = c .before .before .before .before .before .before .line-at in (
+    let l = c .before .before .before .before .before .before .before .line-at in (
       refl,
-      rw (c .first-item .ensures noLaw) (from-bound _ (l .result .key) _),
+      rw (c .first-item .ensures noLaw) (from-bound _ (l .result .key) _ _),
       rw (c .before .no-codes .ensures) (record { few = omega arith; padding = refl }),
       rw (c .before .no-codes .ensures),
     )
 
 -- the text, the state before the line, the line and its list
 abbrev text-at : tie.At-loop Inv-loop μ-loop Inv-lines μ-lines → List ℕ
-text-at h = h .before .before .before .before .before .before .before .before .before .before .before .args .text .now
+text-at h = h .before .before .before .before .before .before .before .before .before .before .before .before .args .text .now
 
 abbrev lent-at : tie.At-loop Inv-loop μ-loop Inv-lines μ-lines → ℕ
-lent-at h = h .before .before .before .before .before .before .before .before .before .before .before .args .lent
+lent-at h = h .before .before .before .before .before .before .before .before .before .before .before .before .args .lent
 
 abbrev state-at : tie.At-loop Inv-loop μ-loop Inv-lines μ-lines → State
-state-at h = h .before .before .before .before .before .before .before .before .lines .state
+state-at h = h .before .before .before .before .before .before .before .before .before .lines .state
 
 abbrev line-at : tie.At-loop Inv-loop μ-loop Inv-lines μ-lines → LineAt
-line-at h = h .before .before .before .before .before .before .before .line-at .result
+line-at h = h .before .before .before .before .before .before .before .before .line-at .result
 
 abbrev list-at : tie.At-loop Inv-loop μ-loop Inv-lines μ-lines → List ℕ
 list-at h = take (line-at h .to - line-at h .from) (drop (line-at h .from) (text-at h))
 
+sound : (h : tie.At-loop Inv-loop μ-loop Inv-lines μ-lines) → Sound (dueAt (state-at h)) (state-at h .reading)
+sound h = h .before .before .before .before .before .before .before .before .before .lines .inv .2
+
 -- what the items come to is the line's list
 here : (h : tie.At-loop Inv-loop μ-loop Inv-lines μ-lines)
     → listFrom (spelled (text-at h) (state-at h .reading .names)) 0 (h .before .before .before .sort-end .result) 6 [] (itemsAt (list-at h) (h .before .first-item .result))
-    ≡ listHere (text-at h) (state-at h) (line-at h)
-here h = list-here (text-at h) (state-at h) (line-at h) _ _ (h .before .before .before .sort-end .ensures) (h .before .first-item .ensures (state-at h .law))
-
-sound : (h : tie.At-loop Inv-loop μ-loop Inv-lines μ-lines) → Sound (dueAt (state-at h)) (state-at h .reading)
-sound h = h .before .before .before .before .before .before .before .before .lines .inv .2
+    ≡ listHere (text-at h) (lent-at h) (state-at h) (line-at h)
+here h = list-here (text-at h) (lent-at h) (state-at h) (line-at h) _ _ (sound h) (h .before .before .before .sort-end .ensures) (h .before .first-item .ensures (state-at h .law))
 
 few : (h : tie.At-loop Inv-loop μ-loop Inv-lines μ-lines) → h .before .before .before .sort-end .result ≤ 32
 few h = rw (h .before .before .before .sort-end .ensures) (high-32 _ _ (sound h))
@@ -144,7 +144,7 @@ stops-requires c κs = tt
 
 add-line : tie.Need-add-line Inv-loop μ-loop Inv-lines μ-lines
 add-line c =
-    let n = c .before .before .before .before .before .before .before .before .before .before .before .before in
+    let n = c .before .before .before .before .before .before .before .before .before .before .before .before .before in
     omega (arith, n .lines .inv .0, n .lines .inv .1, n .before .before .before .pre)
 
 -- the line's step
@@ -158,44 +158,44 @@ made c =
     (ap (λ s. stepWith (lent-at h) (dueAt s) (draftOf (text-at h) (s .reading)) (line-at h .key) (list-at h) cs) (h .loop .inv .0))
 
 read-list : (c : tie.After-line-step Inv-loop μ-loop Inv-lines μ-lines) → let h = c .before .before in
-    lists.codes (take (h .loop .gathered .count) (h .loop .gathered .codes)) ≡ listHere (text-at h) (state-at h) (line-at h)
+    lists.codes (take (h .loop .gathered .count) (h .loop .gathered .codes)) ≡ listHere (text-at h) (lent-at h) (state-at h) (line-at h)
 read-list c = let h = c .before .before in turn-done _ _ (list-at h) (h .loop .i) _ (c .before .loop-test .left) (h .loop .inv .3) ∙ here h
 
 -- the lines left come to what the text comes to
-before : (h : tie.At-loop Inv-loop μ-loop Inv-lines μ-lines) → let n = h .before .before .before .before .before .before .before .before in
+before : (h : tie.At-loop Inv-loop μ-loop Inv-lines μ-lines) → let n = h .before .before .before .before .before .before .before .before .before in
     leftAt (text-at h) (lent-at h) (state-at h) (n .lines .at) (n .lines .line) ≡ described (lent-at h) (text-at h)
 before h =
-    let b = h .before .before .before .before .before .before .before .before .before in
-    h .before .before .before .before .before .before .before .before .lines .inv .4
+    let b = h .before .before .before .before .before .before .before .before .before .before in
+    h .before .before .before .before .before .before .before .before .before .lines .inv .4
     ∙ ap (λ s. leftAt (text-at h) (lent-at h) s 0 1) (b .begun .ensures)
     ∙ left-start (text-at h) (lent-at h) (b .before .before .args .laws) (b .before .before .pre)
 
 -- the old laws are behind those read
-old-laws : (h : tie.At-loop Inv-loop μ-loop Inv-lines μ-lines) → Follows (h .before .before .before .before .before .before .before .before .before .before .before .args .laws) (h .loop .state .reading .run)
+old-laws : (h : tie.At-loop Inv-loop μ-loop Inv-lines μ-lines) → Follows (h .before .before .before .before .before .before .before .before .before .before .before .before .args .laws) (h .loop .state .reading .run)
 old-laws h =
-    let n = h .before .before .before .before .before .before .before .before in
+    let n = h .before .before .before .before .before .before .before .before .before in
     rw (h .loop .inv .0) (rw (n .before .begun .ensures) at (n .lines .inv .3))
 
 -- a line that goes on has a key, and the next begins behind it
 later : (c : tie.Else2 Inv-loop μ-loop Inv-lines μ-lines) → let h = c .before .before .before .before in
-    h .before .before .before .before .before .before .before .before .lines .at < line-at h .next
+    h .before .before .before .before .before .before .before .before .before .lines .at < line-at h .next
 later c =
     let m = c .before .before in
     let h = m .before .before in
-    let l = h .before .before .before .before .before .before .before in
+    let l = h .before .before .before .before .before .before .before .before in
     let step = stepped (text-at h) (lent-at h) (state-at h) (l .before .lines .at) 0 (line-at h) (l .line-at .ensures .0) (m .line-step .result) _ (made m) (read-list m) in
     l .line-at .ensures .1 .later (goes-key (text-at h) (m .line-step .result) (sym (c .before .stops .ensures) ∙ c .if2 .left) _ _ _ _ _ step)
 
 lines-less : tie.Need-lines-less Inv-loop μ-loop Inv-lines μ-lines
 lines-less c =
     let e = later c in
-    omega (arith, c .before .before .before .before .before .before .before .before .before .before .before .line-at .ensures .1 .within)
+    omega (arith, c .before .before .before .before .before .before .before .before .before .before .before .before .line-at .ensures .1 .within)
 
 lines-again : tie.Need-lines-again Inv-loop μ-loop Inv-lines μ-lines
 lines-again c =
     let m = c .before .before in
     let h = m .before .before in
-    let l = h .before .before .before .before .before .before .before in
+    let l = h .before .before .before .before .before .before .before .before in
     let n = l .before in
     let s = m .line-step .result in
     let on = sym (c .before .stops .ensures) ∙ c .if2 .left in
@@ -214,7 +214,7 @@ returns c =
     let w = c .before .before .before in
     let i = w .before in
     let h = i .before .before in
-    let l = h .before .before .before .before .before .before .before in
+    let l = h .before .before .before .before .before .before .before .before in
     let n = l .before in
     let k = w .with-item .result .refused in
     let fails = turn-off _ _ (list-at h) (h .loop .i) (i .before .loop-test .taken) _ _ (w .with-item .result) (h .loop .inv .3 ∙ here h) (i .next-item .ensures .0) (w .with-item .ensures .0) (c .before .if1 .taken) in (
@@ -228,7 +228,7 @@ returns-2 : tie.Need-returns-2 Inv-loop μ-loop Inv-lines μ-lines
 returns-2 c =
     let m = c .before .before in
     let h = m .before .before in
-    let l = h .before .before .before .before .before .before .before in
+    let l = h .before .before .before .before .before .before .before .before in
     let n = l .before in
     let s = m .line-step .result in (
       sym (stop-outcome (text-at h) (lent-at h) (n .lines .at) (n .lines .line) s (line-at h .next) (sym (c .before .stops .ensures) ∙ c .if2 .taken))

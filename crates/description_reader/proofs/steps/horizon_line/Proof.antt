@@ -2,7 +2,7 @@
 -- Assumes nothing.
 use Rattle.search.proofs.Loops.{at-place, no-place}
 use Rattle.description_reader.specs.Internal.{stepOf}
-use Rattle.description_reader.proofs.Deciding.{horizon-30}
+use Rattle.line_values.proofs.Digits.{horizon-30}
 use Rattle.description_reader.proofs.Stepping.{sound-64}
 use borrow.Author.Needs.{needs}
 use Rattle.description_reader.proofs.steps.horizon_line.Statement.{statement}

@@ -5,7 +5,7 @@ use lib.ListN.{take}
 use Rattle.description.specs.declared.Kind.the-variants.{Static, Dynamic}
 use Rattle.description_reader.specs.LineSteps.{next, lawDue, afterDue, whole}
 use Rattle.description_reader.specs.Internal.{draftOf, stepOf}
-use Rattle.description_reader.proofs.Stepping.{law-if, if-static, if-dynamic, pushed-sound}
+use Rattle.description_reader.proofs.Stepping.{law-if, if-static, if-dynamic}
 use borrow.Author.Needs.{needs}
 use Rattle.description_reader.proofs.steps.if_line.Statement.{statement}
 use Rattle.description_reader.proofs.steps.if_line.Tie as tie
@@ -16,23 +16,22 @@ cast-law c = search needs
 enum-told : tie.Need-enum-told
 enum-told c = search needs
 
-with-law-requires : tie.Need-with-law-requires
-with-law-requires c κs = search needs
+whole-law-requires : tie.Need-whole-law-requires
+whole-law-requires c κs = search needs
 
 enum-told-2 : tie.Need-enum-told-2
 enum-told-2 c = search needs
 
 returns : tie.Need-returns
-unfolding stepOf
 returns c =
     let a = c .before .before .before .before .before .before .before .before in
     let s = a .args .state .reading in
     let w = a .args .state .law in
     let l = a .args .list in
     let e = c .before .enum-told .given .1 in (
-      λ text. ap (next lawDue) (c .with-law .ensures .0 text ∙ ap (whole (draftOf text s)) (law-if l (a .pre .2) w Static e))
+      λ text. c .whole-law .ensures .0 text ∙ ap (λ v. next lawDue (whole (draftOf text s) v)) (law-if l (a .pre .2) w Static e)
           ∙ if-static (draftOf text s) w (take (l .count) (l .codes)) e,
-      record { sound = pushed-sound s _ (a .pre .1) (a .pre .0) (c .with-law .ensures .1); follows = c .with-law .ensures .1 .follows },
+      c .whole-law .ensures .1,
     )
 
 returns-2 : tie.Need-returns-2
@@ -50,4 +49,4 @@ returns-2 c =
 
 pub if-line-spec : {M : Type 1} → statement M
 if-line-spec =
-    tie.close (tie.spec cast-law enum-told with-law-requires enum-told-2 returns returns-2)
+    tie.close (tie.spec cast-law enum-told whole-law-requires enum-told-2 returns returns-2)

@@ -1,37 +1,41 @@
 -- `steps::law_head` meets its contract: the run is full, or the head is false, no literal, or a literal.
 -- Assumes nothing.
 use native.Mathlib.Omega.{arith}
-use mathlib.Core.Path.{_≡_}
+use mathlib.Core.Path.{_≡_, sym, _∙_}
 use mathlib.Core.Bool.{true}
 use mathlib.Core.Option.{Option}
-use Prim.Native.Nat.{ℕ, min}
-use borrow.Author.Tests.{lt-ltb, le-ltb}
+use Prim.Native.Nat.{ℕ, min, _<_}
+use borrow.Author.Tests.{not-true, not-false}
 use lib.Dec.{ltb}
 use Rattle.search.proofs.Loops.{at-place, no-place}
 use Rattle.text.specs.Names.{literal}
 use Rattle.text.specs.Internal.{spelled}
 use Rattle.text.proofs.Spelling.{literal-small}
 use Rattle.description_reader.specs.LineSteps.{headOf}
+use Rattle.description_reader.proofs.Stepping.{room-64}
 use borrow.Author.Needs.{needs}
 use Rattle.description_reader.proofs.steps.law_head.Statement.{statement}
 use Rattle.description_reader.proofs.steps.law_head.Tie as tie
 
-returns : tie.Need-returns
-returns c = let a = c .before .before .before .args in (λ d kind. rw (le-ltb (a .count) (min 64 (a .lent)) (omega arith)), omega arith)
+has-room-requires : tie.Need-has-room-requires
+has-room-requires c κs = search needs
 
-returns-2 : tie.Need-returns-2
-returns-2 c = let a = c .before .before .before .before .args in (λ d kind. rw (le-ltb (a .count) (min 64 (a .lent)) (omega arith)), omega arith)
+returns : tie.Need-returns
+returns c = (λ due d kind. rw (← c .before .has-room .ensures, not-true (c .before .has-room .result) (c .if1 .taken)), omega arith)
 
 is-false-requires : tie.Need-is-false-requires
 is-false-requires c κs = search needs
 
 -- the run has a place
-place : (c : tie.Else2) → let a = c .before .before .before .before .args in ltb (a .count) (min 64 (a .lent)) ≡ true
-place c = let a = c .before .before .before .before .args in lt-ltb (a .count) (min 64 (a .lent)) (omega arith)
+place : (c : tie.Else1) → let a = c .before .before .before .before .args in ltb (a .count) (min 64 (a .lent)) ≡ true
+place c = sym (c .before .has-room .ensures) ∙ not-false (c .before .has-room .result) (c .if1 .left)
 
-returns-3 : tie.Need-returns-3
+count-64 : (c : tie.Else1) → c .before .before .before .before .args .count < 64
+count-64 c = let a = c .before .before .before .before .args in room-64 (a .count) (a .lent) (place c)
+
+returns-2 : tie.Need-returns-2
 unfolding headOf
-returns-3 c = (λ d kind. rw (place (c .before .before), ← c .before .is-false .ensures, c .if3 .taken), c .before .before .before .if1 .left)
+returns-2 c = (λ due d kind. rw (place (c .before .before), ← c .before .is-false .ensures, c .if2 .taken), count-64 (c .before .before))
 
 literal-requires : tie.Need-literal-requires
 literal-requires c κs = search needs
@@ -46,38 +50,38 @@ enum-told c = search needs
 abbrev literal-at : tie.After-literal → Option ℕ
 literal-at l = let a = l .before .before .before .before .before .before .before .args in literal (spelled (a .text .now) (a .names)) 0 (a .fluents) (a .value .now)
 
-returns-4 : tie.Need-returns-4
+returns-3 : tie.Need-returns-3
 unfolding headOf
-returns-4 c =
+returns-3 c =
     let l = c .before .before in
-    (λ d kind. rw (place (l .before .before .before), ← l .before .before .is-false .ensures, l .before .if3 .left, no-place {found = literal-at l} (l .literal .ensures) (c .enum-told .given .1)), omega arith)
+    (λ due d kind. rw (place (l .before .before .before), ← l .before .before .is-false .ensures, l .before .if2 .left, no-place {found = literal-at l} (l .literal .ensures) (c .enum-told .given .1)), omega arith)
 
-cast-t12 : tie.Need-cast-t12
-cast-t12 c =
+cast-t13 : tie.Need-cast-t13
+cast-t13 c =
     let l = c .before .before .before in
     let a = l .before .before .before .before .before .before .before in
     let small = literal-small (spelled (a .args .text .now) (a .args .names)) 0 (a .args .fluents) (a .args .value .now) (omega arith) in
     omega (arith, rw (at-place {found = literal-at l} (l .literal .ensures) (c .before .code .given .1)) at small)
 
-returns-5 : tie.Need-returns-5
+returns-4 : tie.Need-returns-4
 unfolding headOf
-returns-5 c =
+returns-4 c =
     let l = c .before .before .before in (
-      λ d kind. rw (place (l .before .before .before), ← l .before .before .is-false .ensures, l .before .if3 .left, at-place {found = literal-at l} (l .literal .ensures) (c .before .code .given .1)),
-      l .before .before .before .before .if1 .left,
+      λ due d kind. rw (place (l .before .before .before), ← l .before .before .is-false .ensures, l .before .if2 .left, at-place {found = literal-at l} (l .literal .ensures) (c .before .code .given .1)),
+      count-64 (l .before .before .before),
     )
 
 pub law-head-spec : {M : Type 1} → statement M
 law-head-spec =
     tie.close
     (tie.spec
+    has-room-requires
     returns
-    returns-2
     is-false-requires
-    returns-3
+    returns-2
     literal-requires
     enum-known-code
     enum-told
-    returns-4
-    cast-t12
-    returns-5)
+    returns-3
+    cast-t13
+    returns-4)

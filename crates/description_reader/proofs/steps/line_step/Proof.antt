@@ -3,12 +3,10 @@
 use mathlib.Core.Path.{_≡_, sym, _∙_}
 use mathlib.Core.Bool.{true}
 use Prim.Native.Nat.{_<_}
-use lib.ListN.{take}
-use Rattle.text.specs.Lists.{codes}
 use borrow.Author.Tests.{eq-eqb, ne-eqb, not-true, not-false}
-use Rattle.description_reader.specs.LineSteps.{allowed, lawIn, byKey}
-use Rattle.description_reader.specs.Internal.{dueAt, draftOf, stepWith}
-use Rattle.description_reader.proofs.Stepping.{if-begun, after-begun, step-other}
+use Rattle.description_reader.specs.LineSteps.{allowed, lawIn}
+use Rattle.description_reader.specs.Internal.{dueAt, stepWith}
+use Rattle.description_reader.proofs.Stepping.{if-begun, after-begun, by-begun}
 use borrow.Author.Needs.{needs}
 use Rattle.description_reader.proofs.steps.line_step.Statement.{statement}
 use Rattle.description_reader.proofs.steps.line_step.Tie as tie
@@ -56,18 +54,37 @@ unfolding stepWith
 returns-3 c =
     (rw (may (c .before .before .before), ne-eqb _ _ (c .before .before .if2 .left), eq-eqb _ _ (c .before .if3 .taken), after-law (c .before) .1) (c .after-line .ensures .0 _), c .after-line .ensures .1)
 
+by-law : (c : tie.Then4) → let a = c .before .before .before .before .before .before .before .args in (a .state .reading .run .count < 64) × (lawIn (dueAt (a .state)) ≡ a .state .law)
+by-law c =
+    let a = c .before .before .before .before .before .before .before in
+    by-begun (a .args .state .due) (a .args .state .law) _ (rw (c .if4 .taken) at (may (c .before .before .before))) (a .pre .1 .room)
+
+by-line-requires : tie.Need-by-line-requires
+by-line-requires c κs = let p = c .before .before .before .before .before .before .before .pre in (by-law c .0, p .1, p .2)
+
+returns-4 : tie.Need-returns-4
+unfolding stepWith
+returns-4 c =
+    let b = c .before .before in
+    (rw (may (b .before .before), ne-eqb _ _ (b .before .if2 .left), ne-eqb _ _ (b .if3 .left), eq-eqb _ _ (c .before .if4 .taken), by-law (c .before) .1) (c .by-line .ensures .0 _), c .by-line .ensures .1)
+
+nonexecutable-line-requires : tie.Need-nonexecutable-line-requires
+nonexecutable-line-requires c κs = search needs
+
+returns-5 : tie.Need-returns-5
+unfolding stepWith
+returns-5 c =
+    let b = c .before .before .before in
+    (rw (may (b .before .before), ne-eqb _ _ (b .before .if2 .left), ne-eqb _ _ (b .if3 .left), ne-eqb _ _ (c .before .before .if4 .left), eq-eqb _ _ (c .before .if5 .taken)) (c .nonexecutable-line .ensures .0 _), c .nonexecutable-line .ensures .1)
+
 other-line-requires : tie.Need-other-line-requires
 other-line-requires c κs = search needs
 
-returns-4 : tie.Need-returns-4
-returns-4 c =
-    let h = c .before .before .before in
-    let a = h .before .before .before .before .args in
-    let d = draftOf (a .text .now) (a .state .reading) in (
-      _∙_ {b = byKey (a .lent) (dueAt (a .state)) d (a .key) (a .value .now)} (c .other-line .ensures .0)
-          (step-other (a .lent) (dueAt (a .state)) d (a .key) (a .value .now) (codes (take (a .list .count) (a .list .codes))) (may h) (c .before .before .if2 .left) (c .before .if3 .left)),
-      c .other-line .ensures .1,
-    )
+returns-6 : tie.Need-returns-6
+unfolding stepWith
+returns-6 c =
+    let b = c .before .before .before in
+    (rw (may (b .before .before), ne-eqb _ _ (b .before .if2 .left), ne-eqb _ _ (b .if3 .left), ne-eqb _ _ (c .before .before .if4 .left), ne-eqb _ _ (c .before .if5 .left)) (c .other-line .ensures .0), c .other-line .ensures .1)
 
 pub line-step-spec : {M : Type 1} → statement M
 line-step-spec =
@@ -80,5 +97,9 @@ line-step-spec =
     returns-2
     after-line-requires
     returns-3
+    by-line-requires
+    returns-4
+    nonexecutable-line-requires
+    returns-5
     other-line-requires
-    returns-4)
+    returns-6)

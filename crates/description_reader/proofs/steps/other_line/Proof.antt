@@ -45,15 +45,14 @@ returns-5 c =
     let d = e .before .before in
     (rw (ne-eqb _ _ (d .before .if1 .left), ne-eqb _ _ (d .if2 .left), ne-eqb _ _ (e .before .if3 .left), ne-eqb _ _ (e .if4 .left), eq-eqb _ _ (c .before .if5 .taken)) (c .law-line2 .ensures .0), c .law-line2 .ensures .1)
 
-end-line-requires : tie.Need-end-line-requires
-end-line-requires c κs = search needs
+short-line-requires : tie.Need-short-line-requires
+short-line-requires c κs = search needs
 
 returns-6 : tie.Need-returns-6
 returns-6 c =
     let e = c .before .before in
     let d = e .before .before in
-    let p = d .before .before .before .before .pre .1 in
-    (rw (ne-eqb _ _ (d .before .if1 .left), ne-eqb _ _ (d .if2 .left), ne-eqb _ _ (e .before .if3 .left), ne-eqb _ _ (e .if4 .left), ne-eqb _ _ (c .before .if5 .left), ne-eqb _ _ (p .0), ne-eqb _ _ (p .1)) (c .end-line .ensures .0 _), c .end-line .ensures .1)
+    (rw (ne-eqb _ _ (d .before .if1 .left), ne-eqb _ _ (d .if2 .left), ne-eqb _ _ (e .before .if3 .left), ne-eqb _ _ (e .if4 .left), ne-eqb _ _ (c .before .if5 .left)) (c .short-line .ensures .0), c .short-line .ensures .1)
 
 pub other-line-spec : {M : Type 1} → statement M
 other-line-spec =
@@ -69,5 +68,5 @@ other-line-spec =
     returns-4
     law-line-requires-2
     returns-5
-    end-line-requires
+    short-line-requires
     returns-6)

@@ -1,10 +1,10 @@
--- `states::two_digits` meets its contract.
+-- `horizons::two_digits` meets its contract.
 -- Assumes nothing.
 use native.Mathlib.Omega.{arith}
 use borrow.Author.Tests.{not-true, not-false, eq-eqb, ne-eqb}
 use borrow.Author.Needs.{needs}
-use Rattle.description_reader.proofs.states.two_digits.Statement.{statement}
-use Rattle.description_reader.proofs.states.two_digits.Tie as tie
+use Rattle.line_values.proofs.horizons.two_digits.Statement.{statement}
+use Rattle.line_values.proofs.horizons.two_digits.Tie as tie
 
 is-digit-requires : tie.Need-is-digit-requires
 is-digit-requires c κs = search needs

@@ -1,7 +1,7 @@
--- `codes::refusal` meets its contract: 5, then 6, then none.
+-- `orders::refusal` meets its contract: 5, then 6, then none.
 -- Assumes nothing.
-use Rattle.description_reader.proofs.codes.refusal.Statement.{statement}
-use Rattle.description_reader.proofs.codes.refusal.Tie as tie
+use Rattle.line_values.proofs.orders.refusal.Statement.{statement}
+use Rattle.line_values.proofs.orders.refusal.Tie as tie
 
 returns : tie.Need-returns
 returns c = rw (c .if1 .taken)

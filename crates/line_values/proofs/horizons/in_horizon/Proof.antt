@@ -1,9 +1,9 @@
--- `states::in_horizon` meets its contract.
+-- `horizons::in_horizon` meets its contract.
 -- Assumes nothing.
 use native.Mathlib.Omega.{arith}
 use borrow.Author.Tests.{le-leb, lt-leb}
-use Rattle.description_reader.proofs.states.in_horizon.Statement.{statement}
-use Rattle.description_reader.proofs.states.in_horizon.Tie as tie
+use Rattle.line_values.proofs.horizons.in_horizon.Statement.{statement}
+use Rattle.line_values.proofs.horizons.in_horizon.Tie as tie
 
 returns : tie.Need-returns
 returns c = rw (lt-leb _ _ (c .if1 .taken))

@@ -1,11 +1,11 @@
--- `states::horizon_of` meets its contract: one digit, two, or none.
+-- `horizons::horizon_of` meets its contract: one digit, two, or none.
 -- Assumes nothing.
 use mathlib.Core.Path.{sym, _∙_}
 use borrow.Author.Tests.{not-true, not-false}
-use Rattle.description_reader.proofs.Deciding.{horizon-one, horizon-two, horizon-other}
+use Rattle.line_values.proofs.Digits.{horizon-one, horizon-two, horizon-other}
 use borrow.Author.Needs.{needs}
-use Rattle.description_reader.proofs.states.horizon_of.Statement.{statement}
-use Rattle.description_reader.proofs.states.horizon_of.Tie as tie
+use Rattle.line_values.proofs.horizons.horizon_of.Statement.{statement}
+use Rattle.line_values.proofs.horizons.horizon_of.Tie as tie
 
 shared-slice-read-a : tie.Need-shared-slice-read-a
 shared-slice-read-a c = search needs

@@ -1,0 +1,29 @@
+-- `steps::by_line` meets its contract.
+-- Assumes nothing.
+use mathlib.Core.Path.{_∙_, ap}
+use Rattle.description_reader.specs.LineSteps.{next, lawDue, whole}
+use Rattle.description_reader.specs.Internal.{draftOf}
+use Rattle.description_reader.proofs.Stepping.{law-by}
+use borrow.Author.Needs.{needs}
+use Rattle.description_reader.proofs.steps.by_line.Statement.{statement}
+use Rattle.description_reader.proofs.steps.by_line.Tie as tie
+
+cast-causes-law : tie.Need-cast-causes-law
+cast-causes-law c = search needs
+
+causes-law-requires : tie.Need-causes-law-requires
+causes-law-requires c κs = search needs
+
+whole-law-requires : tie.Need-whole-law-requires
+whole-law-requires c κs = search needs
+
+returns : tie.Need-returns
+returns c =
+    let a = c .before .before .before .before .before in (
+      λ text. c .whole-law .ensures .0 text
+          ∙ ap (λ l. next lawDue (whole (draftOf text (a .args .state .reading)) l)) (c .before .causes-law .ensures ∙ law-by (a .args .list) (a .pre .2) (a .args .state .law .head)),
+      c .whole-law .ensures .1,
+    )
+
+pub by-line-spec : {M : Type 1} → statement M
+by-line-spec = tie.close (tie.spec cast-causes-law causes-law-requires whole-law-requires returns)

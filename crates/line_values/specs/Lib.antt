@@ -1,0 +1,3 @@
+-- What the values of lines stand for.
+pub mod HorizonText
+pub mod ShortLaws

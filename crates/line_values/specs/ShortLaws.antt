@@ -1,0 +1,43 @@
+-- The laws that the short lines stand for (02, §1).
+-- Assumes nothing.
+use mathlib.Core.List.{List, [], _∷_}
+use Prim.Native.Nat.{ℕ}
+use Rattle.description.specs.declared.Head.{Head}
+use Rattle.description.specs.declared.Head.the-variants.{Lit, False}
+use Rattle.description.specs.declared.Kind.{Kind}
+use Rattle.description.specs.declared.Kind.the-variants.{Static, Dynamic}
+use Rattle.description.specs.declared.Law.{Law}
+use Rattle.description.specs.Laws.{lawOf}
+
+-- default=L: the static law with head L and if-list L
+abbrev pub defaultLaw : ℕ → Law
+defaultLaw c = lawOf Static (Lit c) (c ∷ []) []
+
+-- inertial=L: the dynamic law with L as head, if-list and after-list
+abbrev pub inertialLaw : ℕ → Law
+inertialLaw c = lawOf Dynamic (Lit c) (c ∷ []) (c ∷ [])
+
+-- causes=H, by=LIST: the dynamic law with head H, empty if-list and that after-list
+abbrev pub causesLaw : Head → List ℕ → Law
+causesLaw head afters = lawOf Dynamic head [] afters
+
+-- nonexecutable=LIST: the dynamic law with head false, empty if-list and that after-list
+abbrev pub nonexecutableLaw : List ℕ → Law
+nonexecutableLaw afters = lawOf Dynamic False [] afters
+
+-- the short law of a literal, by its kind
+abbrev pub literalLaw : Kind → ℕ → Law
+literalLaw Static c = defaultLaw c
+literalLaw Dynamic c = inertialLaw c
+
+-- a law with another after-list, by its count and places
+abbrev pub withAfters : Law → ℕ → List ℕ → Law
+withAfters l count places =
+    record {
+      kind = l .kind;
+      head = l .head;
+      «if_count» = l .«if_count»;
+      «if_codes» = l .«if_codes»;
+      «after_count» = count;
+      «after_codes» = places;
+    }
