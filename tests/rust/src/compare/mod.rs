@@ -7,6 +7,8 @@ pub mod texts;
 
 #[cfg(test)]
 mod mutants;
+#[cfg(test)]
+mod short_laws;
 
 use crate::calls::Calls;
 use crate::random::Random;
