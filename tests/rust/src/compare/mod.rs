@@ -9,6 +9,8 @@ pub mod texts;
 mod mutants;
 #[cfg(test)]
 mod short_laws;
+#[cfg(test)]
+mod short_refusals;
 
 use crate::calls::Calls;
 use crate::random::Random;

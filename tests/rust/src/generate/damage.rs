@@ -25,6 +25,8 @@ const KEYS: [&[u8]; 15] = [
 /// The keys of short laws.
 const SHORT_KEYS: [&[u8]; 5] = [b"default", b"inertial", b"causes", b"by", b"nonexecutable"];
 
+const NAME_KEYS: [&[u8]; 2] = [b"fluent", b"action"];
+
 /// The keys of all lines of laws.
 const LAW_KEYS: [&[u8]; 9] = [
     b"default",
@@ -183,22 +185,13 @@ fn move_lines(random: &mut Random, lines: &mut Vec<Vec<u8>>) {
     }
 }
 
-/// A line of a short law taken out, doubled, moved, or given another key or value. Where there is none, one is put in.
+/// A line of a short law taken out, doubled, moved, or given another key or value.
 fn damage_short(random: &mut Random, lines: &mut Vec<Vec<u8>>) {
-    let there = |key: &&[u8]| lines.iter().any(|line| parts(line).0 == *key);
-    let keys: Vec<&[u8]> = SHORT_KEYS.into_iter().filter(there).collect();
-    if keys.is_empty() || random.chance(1, 8) {
-        let key = *random.pick(&SHORT_KEYS);
-        let line = [key, b"=", &short_value(random, lines)].concat();
-        let at = random.below(lines.len());
-        lines.insert(at, line);
-        return;
-    }
-    let key = *random.pick(&keys);
-    let same: Vec<usize> = (0..lines.len()).filter(|at| parts(&lines[*at]).0 == key).collect();
-    let at = *random.pick(&same);
+    let key = *random.pick(&SHORT_KEYS);
+    let at = short_line(random, lines, key);
     let next = (at + 1) % lines.len();
-    match random.below(9) {
+    let value = parts(&lines[at]).1.to_vec();
+    match random.below(12) {
         0 => drop(lines.remove(at)),
         1 => lines.insert(at, lines[at].clone()),
         2 => lines.swap(at, next),
@@ -206,9 +199,42 @@ fn damage_short(random: &mut Random, lines: &mut Vec<Vec<u8>>) {
             let line = lines.remove(at);
             lines.insert(random.below(lines.len() + 1), line);
         }
-        4 | 5 => lines[at] = [*random.pick(&LAW_KEYS), b"=", parts(&lines[at]).1].concat(),
+        4 | 5 => lines[at] = [*random.pick(&LAW_KEYS), b"=", &value].concat(),
+        6 => lines[at] = [&near_key(random, key), &b"="[..], &value].concat(),
+        7 => lines.insert(at + 1, [*random.pick(&NAME_KEYS), b"=late"].concat()),
         _ => lines[at] = [key, b"=", &short_value(random, lines)].concat(),
     }
+}
+
+/// The place of a line with the key of a short law. Where there is none, a good law with it is put in before the first
+/// end line.
+fn short_line(random: &mut Random, lines: &mut Vec<Vec<u8>>, key: &[u8]) -> usize {
+    let same: Vec<usize> = (0..lines.len()).filter(|at| parts(&lines[*at]).0 == key).collect();
+    if !same.is_empty() {
+        return *random.pick(&same);
+    }
+    let value = declared(random, lines, b"fluent");
+    let line = |key: &[u8]| [key, b"=", &value].concat();
+    let law = match key {
+        b"causes" | b"by" => vec![line(b"causes"), line(b"by")],
+        _ => vec![line(key)],
+    };
+    let end = lines.iter().position(|line| parts(line).0 == b"end").unwrap_or(0);
+    lines.splice(end..end, law);
+    end + usize::from(key == b"by")
+}
+
+/// A key that differs in one letter: a capital, one too few, or one too many.
+fn near_key(random: &mut Random, key: &[u8]) -> Vec<u8> {
+    let mut near = key.to_vec();
+    let at = random.below(near.len());
+    match random.below(4) {
+        0 => near[0].make_ascii_uppercase(),
+        1 => drop(near.pop()),
+        2 => near[at].make_ascii_uppercase(),
+        _ => near.insert(at, b's'),
+    }
+    near
 }
 
 /// A value for a line of a short law: no literal, one of either sort, or a list of as many literals as may be or more.

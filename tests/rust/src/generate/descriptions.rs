@@ -156,8 +156,8 @@ fn explaining_laws(random: &mut Random, names: &Description, limit: usize, laws:
             let code = 2 * fluent as u16 + sign;
             let after = match way {
                 0 => continue,
-                1..=6 => None,
-                7..=9 => Some(vec![]),
+                1..=9 => None,
+                10..=12 => Some(vec![]),
                 _ => Some(vec![code]),
             };
             laws.push(Law {

@@ -52,13 +52,13 @@ pub const HORIZONS: [&[u8]; 28] = [
 
 /// One text at a limit.
 pub fn text(random: &mut Random) -> Vec<u8> {
-    match random.below(8) {
+    match random.below(10) {
         0 => many_fluents(random),
         1 => many_actions(random),
-        2 => many_laws(random),
-        3 | 4 => long_list(random),
-        5 => long_name(random),
-        6 => any_horizon(random),
+        2 | 3 => many_laws(random),
+        4..=6 => long_list(random),
+        7 => long_name(random),
+        8 => any_horizon(random),
         _ => long_history_lists(random),
     }
 }
@@ -152,20 +152,25 @@ const FIRST_KEYS: [&str; 7] = [
 
 /// The lines of a law that may be one too many: a good law, or a first line that another refusal may be for.
 fn last_law(random: &mut Random, made: &Description) -> Vec<Vec<u8>> {
-    if random.chance(2, 5) {
+    if random.chance(1, 4) {
         let law = filling_law(random, made);
         return mixed_law(random, made, &law, 3);
     }
     let key = *random.pick(&FIRST_KEYS);
     let length = random.between(1, MAX_LIST + 2);
-    vec![match random.below(6) {
+    let first = match random.below(9) {
         0 => line(key, b""),
         1 => line(key, b"false"),
         2 => line(key, b"--"),
         3 => list_line(made, key, &[2 * made.fluents.len() as u16]),
         4 => list_line(made, key, &vec![1; length]),
-        _ => list_line(made, key, &[99]),
-    }]
+        5 => list_line(made, key, &[99]),
+        _ => list_line(made, key, &[1]),
+    };
+    match key {
+        "causes" => vec![first, line("by", b"")],
+        _ => vec![first],
+    }
 }
 
 /// A law's list of six or seven items, where some item may be no literal, or of the wrong sort.
