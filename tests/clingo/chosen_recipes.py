@@ -163,7 +163,8 @@ SHORT = [
     # a default is static: it counts at time 0 and at each later time, and needs no old state
     ((2, "p", "a", ["p if p", "-p after a"]),
      ["-p;-a;p;a;-p", "p;-a;p;-a;p", "-p;a;-p;-a;-p", "p;a;p;-a;p"]),
-    ((1, "p q", "", ["-p if -p", "q if q", "false if q,-p"] + free("p")), ["-p,q;;p,q", "p,q;;-p,q"]),
+    ((1, "p q", "", ["-p if -p", "q if q", "false if q,-p"] + free("p")),
+     ["-p,q;;p,q", "p,q;;-p,q"]),
     # what is inertial gives way to a cause, and is no cause of a new value
     ((1, "p", "a", inertial("p") + ["-p after a"]), ["p;a;-p", "p;a;p", "p;-a;p", "p;-a;-p"]),
     ((30, "p", "", inertial("p")), ["p" + 30 * ";;p", "p" + 29 * ";;p" + ";;-p"]),

@@ -57,7 +57,8 @@ def mixed():
     """Short and long laws in one description, laws written twice, and names that are spelled as the keys."""
     lines = "causes=flowed\nby=reflow\n"
     named = "horizon=1\nfluent=default\nfluent=inertial\nfluent=by\naction=causes\naction=nonexecutable\n"
-    named += "default=default\ninertial=inertial\ninertial=-inertial\ncauses=by\nby=causes\nnonexecutable=nonexecutable,by\nend=\n"
+    named += "default=default\ninertial=inertial\ninertial=-inertial\ncauses=by\nby=causes\n"
+    named += "nonexecutable=nonexecutable,by\nend=\n"
     return {
         "mixed_long_first": edited("dynamic=flowed\nif=\nafter=reflow\n", lines),
         "mixed_long_between": edited("dynamic=locked\nif=locked\nafter=locked\n"),
@@ -126,9 +127,9 @@ def places():
         cases[f"{key}_for_state"] = SHORT + line + PASSING
         cases[f"{key}_in_capitals"] = edited(f"{key.capitalize()}=locked\n")
         cases[f"{key}_cut"] = edited(f"{key[:-1]}=locked\n")
-    for key, line in (("after", "after=reflow\n"), ("if", "if=\n"), ("causes", "causes=flowed\nby=reflow\n"),
-                      ("default", "default=flowed\n"), ("action", "action=late\n"), ("dynamic", "dynamic=flowed\nif=\nafter=\n")):
-        cases[f"{key}_for_by"] = edited(line, "by=reflow\n")
+    for line in ("after=reflow\n", "if=\n", "causes=flowed\nby=reflow\n", "default=flowed\n", "action=late\n",
+                 "dynamic=flowed\nif=\nafter=\n"):
+        cases[f"{line[: line.index('=')]}_for_by"] = edited(line, "by=reflow\n")
     cases["end_for_by"] = SHORT[: SHORT.index("by=")] + "end=\n" + PASSING
     cases["nothing_for_by"] = SHORT[: SHORT.index("by=")]
     cases["by_without_line_end"] = SHORT[: SHORT.index("by=")] + "by=reflow"

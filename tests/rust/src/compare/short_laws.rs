@@ -3,7 +3,7 @@
 use super::mutants::is_found;
 use crate::calls::Reader;
 use crate::reading::description::read_description;
-use crate::reading::lines::{Key, Line, Lines};
+use crate::reading::lines::{first_lines, Key};
 use crate::reading::model::{Description, Head, Law};
 use crate::reading::{Refusal, MAX_LAWS};
 use Key::{Causes, Default, Inertial, Nonexecutable};
@@ -85,20 +85,6 @@ impl Slipped {
         }
         all.into_iter().map(|(_, law)| law).collect()
     }
-}
-
-/// The first lines of all laws of a text whose description is taken.
-pub fn first_lines(text: &[u8]) -> Vec<Line<'_>> {
-    let mut lines = Lines::new(text);
-    let mut found = Vec::new();
-    while let Ok(line) = lines.take() {
-        match line.key {
-            Key::End => break,
-            key if key.starts_law() => found.push(line),
-            _ => (),
-        }
-    }
-    found
 }
 
 /// A law with the slip made in it, where it can be made; codes of fluents lie below `fluents`.

@@ -5,10 +5,9 @@
 //! it answers with the reading of a text in which the line is mended.
 
 use super::mutants::is_found;
-use super::short_laws::first_lines;
 use crate::calls::Reader;
 use crate::reading::description::read_description;
-use crate::reading::lines::{Key, Line, Lines};
+use crate::reading::lines::{first_lines, Key, Line, Lines};
 use crate::reading::model::Description;
 use crate::reading::{Refusal, MAX_LAWS, MAX_LIST};
 use Key::{By, Causes, Default, Inertial, Nonexecutable};
@@ -129,6 +128,7 @@ fn refused_alone(text: &[u8], line: &Line) -> Option<u8> {
     }
 }
 
+/// Is the answer no refusal up to a line's place?
 fn is_behind(place: usize, after: &Read) -> bool {
     after.as_ref().err().is_none_or(|refusal| refusal.place > place)
 }
@@ -137,6 +137,7 @@ fn items(line: &Line) -> Vec<Vec<u8>> {
     line.value.split(|byte| *byte == b',').map(<[u8]>::to_vec).collect()
 }
 
+/// A reader that makes the slip with one key.
 #[derive(Debug)]
 struct Slipped(Slip, Key);
 

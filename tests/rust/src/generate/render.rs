@@ -160,3 +160,56 @@ pub fn description_text(description: &Description) -> Vec<u8> {
 pub fn history_text(description: &Description, values: &[u8]) -> Vec<u8> {
     join(&history_lines(description, &history_lists(description, values)))
 }
+
+#[cfg(test)]
+mod tests {
+    use super::*;
+    use crate::generate::descriptions::{description, size};
+    use crate::reading::description::read_description;
+    use crate::reading::{Refusal, MAX_LAWS};
+
+    /// Where the laws of some lines start, counted from 1.
+    fn law_starts(lines: &[Vec<u8>]) -> Vec<usize> {
+        let keys = ["static", "dynamic", "default", "inertial", "causes", "nonexecutable"];
+        let starts = |at: &usize| keys.iter().any(|key| lines[at - 1].starts_with(&line(key, b"")));
+        (1..=lines.len()).filter(starts).collect()
+    }
+
+    #[test]
+    fn what_is_written_short_is_read_back() {
+        let mut random = Random::new(5);
+        let mut short = 0;
+        for _ in 0..2_000 {
+            let size = size(&mut random);
+            let made = description(&mut random, size);
+            let lines = mixed_lines(&mut random, &made);
+            let text = join(&lines);
+            let wanted = Description {
+                length: text.len(),
+                lines: lines.len(),
+                ..made.clone()
+            };
+            assert_eq!(read_description(&text, MAX_LAWS), Ok(wanted));
+            short += usize::from(lines.len() < description_lines(&made).len());
+        }
+        assert!(short > 1_000, "{short}");
+    }
+
+    #[test]
+    fn a_shorter_run_is_refused_where_the_next_law_starts() {
+        let mut random = Random::new(6);
+        for _ in 0..2_000 {
+            let size = size(&mut random);
+            let made = description(&mut random, size);
+            let lines = mixed_lines(&mut random, &made);
+            let starts = law_starts(&lines);
+            assert_eq!(starts.len(), made.laws.len());
+            let run = random.below(made.laws.len() + 1);
+            let read = read_description(&join(&lines), run);
+            match starts.get(run) {
+                Some(place) => assert_eq!(read, Err(Refusal::new(5, *place))),
+                None => assert!(read.is_ok()),
+            }
+        }
+    }
+}

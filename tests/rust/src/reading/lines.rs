@@ -133,6 +133,20 @@ impl<'a> Lines<'a> {
     }
 }
 
+/// The first lines of all laws of a text, up to its first end line or bad line.
+pub fn first_lines(text: &[u8]) -> Vec<Line<'_>> {
+    let mut lines = Lines::new(text);
+    let mut found = Vec::new();
+    while let Ok(line) = lines.take() {
+        match line.key {
+            Key::End => break,
+            key if key.starts_law() => found.push(line),
+            _ => (),
+        }
+    }
+    found
+}
+
 /// Which literals a list may hold.
 #[derive(Clone, Copy, Debug, PartialEq, Eq)]
 pub enum Sort {
