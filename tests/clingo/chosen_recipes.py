@@ -1,5 +1,6 @@
 """Recipes picked by hand: the full recipe of the contract with M1 to M5, the
-two examples of the paper's section 2, and recipes for each known slip.
+two examples of the paper's section 2, recipes for each known slip, and recipes
+whose laws are written short.
 
 A law is written `head if list` (static) or `head if list after list` (dynamic);
 either list may be left empty, and a law is dynamic if the word `after` is there.
@@ -11,7 +12,8 @@ import random
 
 import solver
 from cases import SOME_FAULT
-from language import (Description, History, Law, all_literals, complete_only, solver_program)
+from language import (Description, History, Law, all_literals, complete_only, solver_program,
+                      written_out, written_short)
 from recipe_cases import listed_places, literal_places, recipe_cases, write_history
 
 
@@ -156,6 +158,37 @@ SLIPS = [
 ]
 
 
+# The same for laws that are written short.
+SHORT = [
+    # a default is static: it counts at time 0 and at each later time, and needs no old state
+    ((2, "p", "a", ["p if p", "-p after a"]),
+     ["-p;-a;p;a;-p", "p;-a;p;-a;p", "-p;a;-p;-a;-p", "p;a;p;-a;p"]),
+    ((1, "p q", "", ["-p if -p", "q if q", "false if q,-p"] + free("p")),
+     ["-p,q;;p,q", "p,q;;-p,q"]),
+    # what is inertial gives way to a cause, and is no cause of a new value
+    ((1, "p", "a", inertial("p") + ["-p after a"]), ["p;a;-p", "p;a;p", "p;-a;p", "p;-a;-p"]),
+    ((30, "p", "", inertial("p")), ["p" + 30 * ";;p", "p" + 29 * ";;p" + ";;-p"]),
+    # a by-list is read in the old state, and may be empty
+    ((1, "p q", "", AFTER), ["p,-q;;-p,q", "p,-q;;-p,-q", "-p,q;;p,q", "-p,q;;p,-q"]),
+    ((2, "p q", "a", GUARDED), ["p,-q;a;-p,q;-a;-p,q", "p,-q;a;-p,-q;-a;-p,-q"]),
+    ((1, "p", "", ["p after"]), ["-p;;p", "-p;;-p"]),
+    # what is nonexecutable, also after no command and after nothing
+    ((2, "p", "a b", ["false after a,-p", "false after a,b", "p after a"] + free("p")),
+     ["p;a,-b;p;a,-b;p", "-p;a,-b;p;-a,-b;p", "p;-a,b;p;a,b;p", "p;-a,b;-p;-a,-b;p"]),
+    ((1, "p", "", ["false after"] + free("p")), ["p;;p"]),
+    ((1, "p", "", ["false after p,-p", "false after -p"] + free("p")), ["p;;p", "-p;;p"]),
+    # names that look like the keys of short laws
+    ((1, "default by", "causes", ["default if default", "by after causes", "false after by,causes"]
+      + inertial("by")), ["default,-by;causes;default,by", "default,by;causes;default,by"]),
+]
+
+
+def each_way_by_turns():
+    """Writes the first law out, the second in its first short form, and so on."""
+    turns = itertools.count()
+    return lambda forms: forms[next(turns) % len(forms)]
+
+
 def steps(first, last, horizon):
     """p and -p by turns, each state but the last as first, -first, .."""
     other = first[1:] if first.startswith("-") else "-" + first
@@ -211,20 +244,33 @@ def largest_cases():
     return recipe_cases(description, [history], ["picked by hand"], ["passes"])
 
 
-def chosen_recipes():
-    """Every hand-picked recipe as a case."""
-    picked = []
-    for example, texts in SLIPS + long_recipes():
-        description = description_of(*example)
-        picked.append((description, [(history_of(description, text), None) for text in texts]))
+def lock_histories():
+    """The contract's full recipe with the verdicts it states."""
     lock = description_of(*LOCK)
-    stated = [(history_of(lock, text), verdict) for text, verdict in LOCK_HISTORIES]
-    picked.insert(0, (lock, stated))
-    picked.append(every_transition(DOOR, DOOR_TRANSITIONS))
-    picked.append(every_transition(WATER, WATER_TRANSITIONS))
+    return lock, [(history_of(lock, text), verdict) for text, verdict in LOCK_HISTORIES]
+
+
+def unstated(examples):
+    """Recipes of which nothing is stated."""
+    for example, texts in examples:
+        description = description_of(*example)
+        yield description, [(history_of(description, text), None) for text in texts]
+
+
+def picked_cases(picked, new_spelling):
     cases = []
     for description, histories in picked:
         cases += recipe_cases(description, [one for one, _ in histories],
                               ["picked by hand"] * len(histories),
-                              [verdict for _, verdict in histories])
-    return cases + largest_cases()
+                              [verdict for _, verdict in histories], None, new_spelling)
+    return cases
+
+
+def chosen_recipes():
+    """Every hand-picked recipe as a case."""
+    long = [lock_histories(), *unstated(SLIPS + long_recipes())]
+    long += [every_transition(DOOR, DOOR_TRANSITIONS), every_transition(WATER, WATER_TRANSITIONS)]
+    short = [lock_histories(), every_transition(DOOR, DOOR_TRANSITIONS), *unstated(SHORT)]
+    mixed = [lock_histories(), *unstated(SHORT[-4:])]
+    return (picked_cases(long, lambda: written_out) + largest_cases()
+            + picked_cases(short, lambda: written_short) + picked_cases(mixed, each_way_by_turns))

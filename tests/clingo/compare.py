@@ -46,7 +46,7 @@ VERDICTS = ["passes", "broken", "unfounded", "missing", "clash"]
 
 BATCH_BYTES = 65000  # each file of one run of the program stays below this
 STORE_BYTES = 60000  # so does each stored file
-STORED_RECIPES, STORED_TABLES = 160, 320
+STORED_RECIPES, STORED_TABLES = 210, 320
 
 
 def make_cases(seed, recipes, tables):
@@ -185,6 +185,14 @@ def horizon(case):
     return int(case.text.partition("\n")[0].partition("=")[2])
 
 
+def writing(case):
+    """How the laws of a recipe are written."""
+    keys = {line.partition("=")[0] for line in case.text.splitlines()}
+    short = bool(keys & {"default", "inertial", "causes", "nonexecutable"})
+    long = bool(keys & {"static", "dynamic"})
+    return {(0, 0): "no laws", (0, 1): "long", (1, 0): "short", (1, 1): "mixed"}[short, long]
+
+
 def report(recipes, recipe_lines, tables, table_lines):
     for kind, cases, lines in (("recipes", recipes, recipe_lines), ("tables", tables, table_lines)):
         groups = [case.group for case in cases]
@@ -196,6 +204,7 @@ def report(recipes, recipe_lines, tables, table_lines):
                                          [0, 4, 12, 64, 200, 1024]))
         if kind == "recipes":
             print("  horizons: " + tally_ranges(map(horizon, cases), [0, 1, 5, 15, 29, 30]))
+            print("  laws: " + tally(map(writing, cases), ["long", "short", "mixed", "no laws"]))
 
 
 def compare(options):

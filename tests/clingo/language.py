@@ -42,22 +42,62 @@ def list_text(description, codes):
     return ",".join(literal_text(description, code) for code in codes)
 
 
-def law_lines(description, law):
-    head = "false" if law.head is None else literal_text(description, law.head)
-    lines = [("dynamic=" if law.dynamic else "static=") + head]
+def long_lines(description, law):
+    """A law written out: the lines static, if, or the lines dynamic, if, after."""
+    lines = [("dynamic=" if law.dynamic else "static=") + head_text(description, law)]
     lines.append("if=" + list_text(description, law.if_list))
     if law.dynamic:
         lines.append("after=" + list_text(description, law.after_list))
     return lines
 
 
-def recipe_text(description, history):
+def head_text(description, law):
+    return "false" if law.head is None else literal_text(description, law.head)
+
+
+def law_forms(description, law):
+    """All ways to write a law: written out, then the short ones it has."""
+    forms, head = [long_lines(description, law)], head_text(description, law)
+    after = list_text(description, law.after_list)
+    if law.head is not None and law.if_list == (law.head,):
+        if not law.dynamic:
+            forms.append(["default=" + head])
+        elif law.after_list == (law.head,):
+            forms.append(["inertial=" + head])
+    if law.dynamic and not law.if_list:
+        forms.append(["causes=" + head, "by=" + after])
+        if law.head is None:
+            forms.append(["nonexecutable=" + after])
+    return forms
+
+
+# A spelling takes the ways to write a law and picks one of them.
+
+
+def written_out(forms):
+    return forms[0]
+
+
+def written_short(forms):
+    return forms[-1]
+
+
+def mixed_spelling(rng):
+    """Laws are written short by turns of chance, in some texts all or none."""
+    share = rng.choice([0.0, 0.3, 0.5, 0.7, 1.0])
+
+    def spelling(forms):
+        return rng.choice(forms[1:]) if forms[1:] and rng.random() < share else forms[0]
+    return spelling
+
+
+def recipe_text(description, history, spelling=written_out):
     """The description and the history as the product's reader takes them."""
     lines = ["horizon=%d" % description.horizon]
     lines += ["fluent=" + name for name in description.fluents]
     lines += ["action=" + name for name in description.actions]
     for law in description.laws:
-        lines += law_lines(description, law)
+        lines += spelling(law_forms(description, law))
     lines.append("end=")
     for time, state in enumerate(history.states):
         lines.append("state=" + list_text(description, state))
@@ -97,12 +137,29 @@ class RecipeLines:
         value = self.take(key)
         return tuple(self.literal(word) for word in value.split(",") if word)
 
+    def take_head(self, key):
+        word = self.take(key)
+        return None if word == "false" else self.literal(word)
+
     def take_law(self):
-        dynamic = self.next_key() == "dynamic"
-        word = self.take("dynamic" if dynamic else "static")
-        head = None if word == "false" else self.literal(word)
-        if_list = self.take_list("if")
-        return Law(dynamic, head, if_list, self.take_list("after") if dynamic else ())
+        key = self.next_key()
+        if key == "static":
+            return Law(False, self.take_head(key), self.take_list("if"))
+        if key == "dynamic":
+            return Law(True, self.take_head(key), self.take_list("if"), self.take_list("after"))
+        return self.take_short_law(key)
+
+    def take_short_law(self, key):
+        if key == "nonexecutable":
+            return Law(True, None, (), self.take_list(key))
+        if key == "causes":
+            return Law(True, self.take_head(key), (), self.take_list("by"))
+        if key not in ("default", "inertial"):
+            raise ValueError("expected a law, found %s=" % key)
+        code = self.literal(self.take(key))
+        if key == "default":
+            return Law(False, code, (code,))
+        return Law(True, code, (code,), (code,))
 
 
 def read_recipe(text):

@@ -1,16 +1,19 @@
 """Recipes drawn at random: descriptions of many shapes, histories that clingo
-finds for them, and histories got from those by small changes."""
+finds for them, and histories got from those by small changes. Laws that have a
+short form are written short by chance."""
 
 import solver
 from cases import Case
 from language import (Description, History, Law, all_literals, coded_history, coded_program,
-                      complement, complete_only, history_literals, recipe_text, solver_program)
+                      complement, complete_only, history_literals, mixed_spelling, read_recipe,
+                      recipe_text, solver_program, written_out)
 
 # Programs with at most so many answer sets are enumerated whole.
 ENUMERATED = 200
 
 KEY_NAMES = ["horizon", "fluent", "action", "static", "dynamic", "if", "after", "state",
-             "act", "end", "not", "false1", "true", "f", "a", "t", "falses"]
+             "act", "end", "default", "inertial", "causes", "by", "nonexecutable", "not",
+             "false1", "true", "f", "a", "t", "falses"]
 
 # (weight, fluents, actions, horizon), each as lowest and highest
 SHAPES = [
@@ -285,8 +288,20 @@ def complete_sets(rng, description, program):
     return drawn, None
 
 
-def recipe_cases(description, histories, groups, stated=None, found=None):
-    """Cases of one description; `found` holds all its answer sets, or None."""
+def spelled_recipe(description, history, spelling):
+    """The recipe's text, which must read back as the recipe."""
+    text = recipe_text(description, history, spelling)
+    if read_recipe(text) != (description, history):
+        raise RuntimeError("the text reads as another recipe:\n" + text)
+    return text
+
+
+def recipe_cases(description, histories, groups, stated=None, found=None,
+                 new_spelling=lambda: written_out):
+    """Cases of one description; `found` holds all its answer sets, or None.
+
+    `new_spelling` gives each case its own way to write laws.
+    """
     plain, counted = solver_program(description), coded_program(description)
     sets = [history_literals(description, history) for history in histories]
     if found is not None:
@@ -295,9 +310,9 @@ def recipe_cases(description, histories, groups, stated=None, found=None):
         answers = solver.are_answer_sets(plain, all_literals(description), sets)
     cases = []
     for place, history in enumerate(histories):
-        cases.append(Case(recipe_text(description, history), groups[place], counted,
-                          coded_history(description, history), answers[place], plain,
-                          stated[place] if stated else None))
+        text = spelled_recipe(description, history, new_spelling())
+        cases.append(Case(text, groups[place], counted, coded_history(description, history),
+                          answers[place], plain, stated[place] if stated else None))
     return cases
 
 
@@ -309,5 +324,6 @@ def random_recipes(rng, wanted):
         if not passing and rng.random() < 0.75:
             continue  # keeps descriptions without any passing history rarer
         histories, groups = draw_histories(rng, description, passing, rng.randint(3, 7))
-        cases += recipe_cases(description, histories, groups, None, found)
+        cases += recipe_cases(description, histories, groups, None, found,
+                              lambda: mixed_spelling(rng))
     return cases[:wanted]

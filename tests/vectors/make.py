@@ -3,46 +3,18 @@
 
 READING is the program `reading` of tests/rust, an independent reading of the contract: the stored outputs are what it says, so
 that the checker is held against a second reading and never against itself. The inputs: every verdict and causal verdict, every
-refusal that a text can meet, limits from both sides, damaged lines of each kind, and byte values 0 to 255 in names."""
-import pathlib
-import subprocess
+refusal that a text can meet, limits from both sides, damaged lines of each kind, the same for short laws (short_laws.py), and
+byte values 0 to 255 in names."""
 import sys
 
-TOP = pathlib.Path(__file__).resolve().parents[2]
+sys.dont_write_bytecode = True
+
+import subprocess
+
+import short_laws
+from recipes import FULL, PASSING, RECIPE, TOP, history, inertia, still, swapped
+
 CRATE = TOP / "crates" / "vectors"
-
-RECIPE = (TOP / "tests" / "recipes" / "full.txt").read_text()
-# The description, and the history that passes.
-FULL = RECIPE[: RECIPE.index("state=")]
-PASSING = RECIPE[len(FULL) :]
-
-
-def history(*lines):
-    """A history's text: state, act, state, .., and the end line."""
-    keys = ["state" if i % 2 == 0 else "act" for i in range(len(lines))]
-    return "".join(f"{key}={line}\n" for key, line in zip(keys, lines)) + "end=\n"
-
-
-def inertia(names):
-    """Two dynamic laws for each fluent: it stays as it is."""
-    return "".join(f"dynamic={sign}{name}\nif={sign}{name}\nafter={sign}{name}\n" for name in names for sign in ("", "-"))
-
-
-def still(horizon, fluents, actions, laws=""):
-    """A description whose fluents stay, and the history in which all is false."""
-    names = [f"f{i}" for i in range(fluents)]
-    commands = [f"a{i}" for i in range(actions)]
-    text = f"horizon={horizon}\n" + "".join(f"fluent={n}\n" for n in names) + "".join(f"action={n}\n" for n in commands)
-    text += laws + "end=\n"
-    state = ",".join(f"-{n}" for n in names)
-    act = ",".join(f"-{n}" for n in commands)
-    return text + f"state={state}\n" + f"act={act}\nstate={state}\n" * int(horizon) + "end=\n"
-
-
-def swapped(old, new, text=RECIPE):
-    """The text with one part replaced; the part must be there."""
-    assert text.count(old) >= 1, old
-    return text.replace(old, new, 1)
 
 
 def verdicts():
@@ -115,8 +87,8 @@ def largest():
 
 
 def damaged():
-    """Damaged lines of each kind, and the other refusals."""
-    cases = {
+    """Damaged lines of each kind."""
+    return {
         "empty": "",
         "no_equals_sign": swapped("fluent=flowed", "fluentflowed"),
         "no_last_line_end": RECIPE[:-1],
@@ -140,6 +112,12 @@ def damaged():
         "spaces": swapped("state=-locked,-flowed", "state=-locked, -flowed"),
         "carriage_returns": RECIPE.replace("\n", "\r\n"),
         "second_equals_sign": swapped("fluent=flowed", "fluent=flo=wed"),
+    }
+
+
+def misspelt():
+    """Damaged names, heads and lists, and which fault comes first."""
+    return {
         "name_false": swapped("fluent=flowed", "fluent=false"),
         "name_twice": swapped("fluent=flowed", "fluent=locked"),
         "action_named_as_fluent": swapped("action=reflow", "action=flowed"),
@@ -163,7 +141,6 @@ def damaged():
         "ninth_action_misspelt": still(1, 1, 8).replace("end=\n", "action=X\nend=\n", 1),
         "first_bad_line_decides": swapped("fluent=flowed", "fluent=Flowed").replace("dynamic=false", "dynamic=nothing", 1),
     }
-    return cases
 
 
 EVERY_BYTE = "horizon=1\nfluent=pq\nend=\n" + history("pq", "", "pq")
@@ -180,7 +157,7 @@ def main():
     def say(raw):
         return subprocess.run([sys.argv[1]], input=raw, stdout=subprocess.PIPE, check=True).stdout
 
-    cases = verdicts() | limits() | damaged()
+    cases = verdicts() | limits() | damaged() | misspelt() | short_laws.cases()
     data = CRATE / "data"
     for old in data.glob("*"):
         old.unlink()

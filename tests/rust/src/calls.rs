@@ -7,8 +7,9 @@ use crate::reading::causal::causal_reading;
 use crate::reading::check::check_history;
 use crate::reading::description::read_description;
 use crate::reading::engine::check_set;
-use crate::reading::history::read_history;
-use crate::reading::report::{output, read_input};
+use crate::reading::history::read_values;
+use crate::reading::model::Description;
+use crate::reading::report::{printed, with_history};
 use crate::reading::translation::translate;
 use crate::reading::{Refusal, MAX_LAWS};
 
@@ -22,17 +23,32 @@ pub trait Calls {
     fn causal_reading(&self, input: &[u8]) -> Answer;
 }
 
+/// A reader of descriptions for which 64 law records are lent. All calls are made over it, so that a reader with a slip
+/// is a library with that slip, on which the comparison can be tried.
+pub trait Reader {
+    fn read(&self, text: &[u8]) -> Result<Description, Refusal>;
+}
+
 /// The independent reading of the contract.
 pub struct Reading;
+
+impl Reader for Reading {
+    fn read(&self, text: &[u8]) -> Result<Description, Refusal> {
+        read_description(text, MAX_LAWS)
+    }
+}
 
 /// One number for an answer or a refusal.
 fn settle(answer: Result<Answer, Refusal>) -> Answer {
     answer.unwrap_or_else(Answer::from)
 }
 
-impl Calls for Reading {
+impl<R: Reader> Calls for R {
     fn report(&self, input: &[u8], out: &mut [u8]) -> usize {
-        let printed = output(input);
+        let read = self
+            .read(input)
+            .and_then(|description| with_history(description, input));
+        let printed = printed(read);
         let common = printed.len().min(out.len());
         out[..common].copy_from_slice(&printed[..common]);
         printed.len()
@@ -43,7 +59,7 @@ impl Calls for Reading {
     }
 
     fn translate(&self, text: &[u8], table: &mut [u16]) -> Answer {
-        settle(read_description(text, MAX_LAWS).and_then(|description| {
+        settle(self.read(text).and_then(|description| {
             let made = translate(&description, table.len())?;
             table[..made.words.len()].copy_from_slice(&made.words);
             Ok(Answer::written(description.atoms(), made.rules, made.words.len()))
@@ -51,14 +67,15 @@ impl Calls for Reading {
     }
 
     fn read_history(&self, description: &[u8], history: &[u8], values: &mut [u8]) -> Answer {
-        settle(read_history(description, history, values.len()).map(|read| {
+        settle(self.read(description).and_then(|names| {
+            let read = read_values(&names, history, values.len())?;
             values.copy_from_slice(&read);
-            Answer::new(READ, 0)
+            Ok(Answer::new(READ, 0))
         }))
     }
 
     fn check_history(&self, text: &[u8], values: &[u8], table: &mut [u16]) -> Answer {
-        settle(read_description(text, MAX_LAWS).and_then(|description| {
+        settle(self.read(text).and_then(|description| {
             let (verdict, made) = check_history(&description, values, table.len())?;
             table[..made.words.len()].copy_from_slice(&made.words);
             Ok(Answer::from(verdict))
@@ -66,7 +83,8 @@ impl Calls for Reading {
     }
 
     fn causal_reading(&self, input: &[u8]) -> Answer {
-        settle(read_input(input).and_then(|read| {
+        settle(self.read(input).and_then(|description| {
+            let read = with_history(description, input)?;
             let causal = causal_reading(&read.description, &read.values)?;
             Ok(Answer::from(causal))
         }))

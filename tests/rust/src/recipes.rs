@@ -31,7 +31,22 @@ after=-flowed
 end=
 ";
 
-/// Its history.
+/// The same description with every law written the short way.
+pub const SHORT_DESCRIPTION: &str = "horizon=1
+fluent=locked
+fluent=flowed
+action=reflow
+causes=flowed
+by=reflow
+nonexecutable=reflow,locked
+inertial=locked
+inertial=-locked
+inertial=flowed
+inertial=-flowed
+end=
+";
+
+/// The history of both.
 pub const FULL_HISTORY: &str = "state=-locked,-flowed
 act=reflow
 state=-locked,flowed

@@ -7,6 +7,10 @@ pub mod texts;
 
 #[cfg(test)]
 mod mutants;
+#[cfg(test)]
+mod short_laws;
+#[cfg(test)]
+mod short_refusals;
 
 use crate::calls::Calls;
 use crate::random::Random;

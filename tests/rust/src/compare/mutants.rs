@@ -129,6 +129,18 @@ fn small_run(slip: Slip) -> (bool, String) {
     (good, String::from_utf8(printed).unwrap())
 }
 
+/// Does the comparison find a difference in many texts? For slips of readers, which no table shows.
+pub fn is_found(library: &impl Calls) -> bool {
+    let plan = Plan {
+        seed: 7,
+        texts: 20_000,
+        tables: 0,
+        least: 0,
+    };
+    let mut printed = Vec::new();
+    !run(library, &plan, &mut printed).unwrap()
+}
+
 #[test]
 fn reading_agrees_with_itself() {
     let (good, printed) = small_run(Slip::None);

@@ -2,6 +2,7 @@
 
 use crate::answer::{meaning, BROKEN, CLASH, CONTRADICTED, MISSING, PASSES, PATH, READ, UNCAUSED, UNFOUNDED, WRITTEN};
 use crate::generate::{tables, texts};
+use crate::reading::lines::Key;
 use crate::reading::MAX_HORIZON;
 use std::io::{self, Write};
 use std::ops::RangeInclusive;
@@ -44,6 +45,16 @@ const CALLS: [(Call, &str, &[&[u8]]); 6] = [
     ),
 ];
 
+/// The keys that laws begin with.
+const LAWS: [(Key, &str); 6] = [
+    (Key::Static, "static"),
+    (Key::Dynamic, "dynamic"),
+    (Key::Default, "default"),
+    (Key::Inertial, "inertial"),
+    (Key::Causes, "causes"),
+    (Key::Nonexecutable, "nonexecutable"),
+];
+
 /// Horizons put together when passing texts are counted.
 const PASSING_BANDS: [RangeInclusive<usize>; 5] = [1..=1, 2..=5, 6..=10, 11..=20, 21..=30];
 
@@ -57,6 +68,8 @@ pub struct Tally {
     defined: [u64; 2],
     /// Texts whose history passes, by horizon.
     passing: [u64; MAX_HORIZON + 1],
+    /// Laws of texts whose description is taken, by the key they begin with.
+    laws: [u64; LAWS.len()],
 }
 
 impl Default for Tally {
@@ -74,6 +87,7 @@ impl Tally {
             calls: [0; CALLS.len()],
             defined: [0; 2],
             passing: [0; MAX_HORIZON + 1],
+            laws: [0; LAWS.len()],
         }
     }
 
@@ -101,6 +115,12 @@ impl Tally {
         self.passing[horizon] += 1;
     }
 
+    pub fn law(&mut self, key: Key) {
+        if let Some(place) = LAWS.iter().position(|(known, _)| *known == key) {
+            self.laws[place] += 1;
+        }
+    }
+
     pub fn print(&self, out: &mut impl Write) -> io::Result<()> {
         for ((_, name, _), count) in texts::KINDS.iter().zip(self.texts) {
             writeln!(out, "texts, {name}: {count}")?;
@@ -116,6 +136,9 @@ impl Tally {
                 band.start(),
                 band.end()
             )?;
+        }
+        for ((_, name), count) in LAWS.iter().zip(self.laws) {
+            writeln!(out, "laws by {name}: {count}")?;
         }
         let [no, yes] = self.defined;
         writeln!(
@@ -133,9 +156,14 @@ impl Tally {
         Ok(())
     }
 
-    /// The codes of each call that were seen fewer times than asked for.
+    /// The codes of each call, and the forms of laws, that were seen fewer times than asked for.
     pub fn too_rare(&self, least: u64) -> Vec<String> {
         let mut rare = Vec::new();
+        for ((_, name), count) in LAWS.iter().zip(self.laws) {
+            if count < least {
+                rare.push(format!("laws by {name}: {count}, wanted {least}"));
+            }
+        }
         for (call, name, codes) in CALLS {
             for code in codes.concat() {
                 let count = self.codes[call as usize][usize::from(code)];

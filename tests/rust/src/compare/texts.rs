@@ -8,6 +8,7 @@ use crate::generate::texts::text;
 use crate::random::Random;
 use crate::reading::description::read_description;
 use crate::reading::history::read_lines;
+use crate::reading::lines::first_lines;
 use crate::reading::model::Description;
 use crate::reading::report::output;
 use crate::reading::translation::all_rules;
@@ -37,6 +38,9 @@ pub fn compare(library: &impl Calls, random: &mut Random, tally: &mut Tally) -> 
     let (kind, text) = text(random);
     tally.text(kind);
     let known = known(&text);
+    if known.is_some() {
+        first_lines(&text).iter().for_each(|line| tally.law(line.key));
+    }
     let mut case = Case {
         library,
         text: &text,

@@ -4,13 +4,62 @@ use super::limits::HORIZONS;
 use super::render::join;
 use crate::random::Random;
 
-const KEYS: [&[u8]; 10] = [
-    b"horizon", b"fluent", b"action", b"static", b"dynamic", b"if", b"after", b"state", b"act", b"end",
+const KEYS: [&[u8]; 15] = [
+    b"horizon",
+    b"fluent",
+    b"action",
+    b"static",
+    b"dynamic",
+    b"if",
+    b"after",
+    b"state",
+    b"act",
+    b"end",
+    b"default",
+    b"inertial",
+    b"causes",
+    b"by",
+    b"nonexecutable",
 ];
 
-/// Keys that are none of the ten, though they look like them.
-const BAD_KEYS: [&[u8]; 10] = [
-    b"", b"Fluent", b"END", b"fluents", b"flue", b" if", b"if ", b"actions", b"ends", b"afte",
+/// The keys of short laws.
+const SHORT_KEYS: [&[u8]; 5] = [b"default", b"inertial", b"causes", b"by", b"nonexecutable"];
+
+const NAME_KEYS: [&[u8]; 2] = [b"fluent", b"action"];
+
+/// The keys of all lines of laws.
+const LAW_KEYS: [&[u8]; 9] = [
+    b"default",
+    b"inertial",
+    b"causes",
+    b"by",
+    b"nonexecutable",
+    b"static",
+    b"dynamic",
+    b"if",
+    b"after",
+];
+
+/// Keys that are none of the fifteen, though they look like them.
+const BAD_KEYS: [&[u8]; 18] = [
+    b"",
+    b"Fluent",
+    b"END",
+    b"fluents",
+    b"flue",
+    b" if",
+    b"if ",
+    b"actions",
+    b"ends",
+    b"afte",
+    b"Default",
+    b"defaults",
+    b"inertia",
+    b"cause",
+    b"b",
+    b"bye",
+    b"nonexecutabl",
+    b"noexecutable",
 ];
 
 /// Values that fit some place and not others.
@@ -106,11 +155,13 @@ fn damage_lines(random: &mut Random, text: &mut Vec<u8>) {
     if lines.is_empty() {
         return;
     }
-    if random.chance(1, 3) {
-        move_lines(random, &mut lines);
-    } else {
-        let index = pick_line(random, &lines);
-        damage_line(random, &mut lines, index);
+    match random.below(4) {
+        0 => move_lines(random, &mut lines),
+        1 => damage_short(random, &mut lines),
+        _ => {
+            let index = pick_line(random, &lines);
+            damage_line(random, &mut lines, index);
+        }
     }
     *text = join(&lines);
     text.extend(rest);
@@ -132,6 +183,89 @@ fn move_lines(random: &mut Random, lines: &mut Vec<Vec<u8>>) {
             lines.insert(at, line);
         }
     }
+}
+
+/// A line of a short law taken out, doubled, moved, or given another key or value.
+fn damage_short(random: &mut Random, lines: &mut Vec<Vec<u8>>) {
+    let key = *random.pick(&SHORT_KEYS);
+    let at = short_line(random, lines, key);
+    let next = (at + 1) % lines.len();
+    let value = parts(&lines[at]).1.to_vec();
+    match random.below(12) {
+        0 => drop(lines.remove(at)),
+        1 => lines.insert(at, lines[at].clone()),
+        2 => lines.swap(at, next),
+        3 => {
+            let line = lines.remove(at);
+            lines.insert(random.below(lines.len() + 1), line);
+        }
+        4 | 5 => lines[at] = [*random.pick(&LAW_KEYS), b"=", &value].concat(),
+        6 => lines[at] = [&near_key(random, key), &b"="[..], &value].concat(),
+        7 => lines.insert(at + 1, [*random.pick(&NAME_KEYS), b"=late"].concat()),
+        _ => lines[at] = [key, b"=", &short_value(random, lines)].concat(),
+    }
+}
+
+/// The place of a line with the key of a short law. Where there is none, a good law with it is put in before the first
+/// end line.
+fn short_line(random: &mut Random, lines: &mut Vec<Vec<u8>>, key: &[u8]) -> usize {
+    let same: Vec<usize> = (0..lines.len()).filter(|at| parts(&lines[*at]).0 == key).collect();
+    if !same.is_empty() {
+        return *random.pick(&same);
+    }
+    let value = declared(random, lines, b"fluent");
+    let line = |key: &[u8]| [key, b"=", &value].concat();
+    let law = match key {
+        b"causes" | b"by" => vec![line(b"causes"), line(b"by")],
+        _ => vec![line(key)],
+    };
+    let end = lines.iter().position(|line| parts(line).0 == b"end").unwrap_or(0);
+    lines.splice(end..end, law);
+    end + usize::from(key == b"by")
+}
+
+/// A key that differs in one letter: a capital, one too few, or one too many.
+fn near_key(random: &mut Random, key: &[u8]) -> Vec<u8> {
+    let mut near = key.to_vec();
+    let at = random.below(near.len());
+    match random.below(4) {
+        0 => near[0].make_ascii_uppercase(),
+        1 => drop(near.pop()),
+        2 => near[at].make_ascii_uppercase(),
+        _ => near.insert(at, b's'),
+    }
+    near
+}
+
+/// A value for a line of a short law: no literal, one of either sort, or a list of as many literals as may be or more.
+fn short_value(random: &mut Random, lines: &[Vec<u8>]) -> Vec<u8> {
+    let fluent = declared(random, lines, b"fluent");
+    let action = declared(random, lines, b"action");
+    let six = vec![fluent.clone(); 6];
+    match random.below(10) {
+        0 => b"false".to_vec(),
+        1 => Vec::new(),
+        2 => b"undeclared".to_vec(),
+        3 | 4 => action,
+        5 => fluent,
+        6 => [fluent, action].join(&b','),
+        7 => [six, vec![action]].concat().join(&b','),
+        8 => [six, vec![b"false".to_vec()]].concat().join(&b','),
+        _ => [vec![b"-".to_vec()], six].concat().join(&b','),
+    }
+}
+
+/// A literal of a name that some line with the key declares, or would declare.
+fn declared(random: &mut Random, lines: &[Vec<u8>], key: &[u8]) -> Vec<u8> {
+    let lines = lines.iter().map(|line| parts(line)).filter(|(found, _)| *found == key);
+    let names: Vec<&[u8]> = lines.map(|(_, name)| name).collect();
+    let name = if names.is_empty() {
+        b"undeclared"
+    } else {
+        *random.pick(&names)
+    };
+    let sign: &[u8] = if random.chance(1, 3) { b"-" } else { b"" };
+    [sign, name].concat()
 }
 
 /// A line, with each key about as likely as another, so that the many lines of one kind do not hide the few of others.

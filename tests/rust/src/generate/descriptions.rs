@@ -65,7 +65,7 @@ pub fn description(random: &mut Random, size: Size) -> Description {
 }
 
 /// Names that are easy to mix up with keys, with the word false, or with one another.
-const ODD_NAMES: [&[u8]; 12] = [
+const ODD_NAMES: [&[u8]; 17] = [
     b"false_",
     b"fals",
     b"falsee",
@@ -73,6 +73,11 @@ const ODD_NAMES: [&[u8]; 12] = [
     b"state",
     b"if",
     b"horizon",
+    b"default",
+    b"inertial",
+    b"causes",
+    b"by",
+    b"nonexecutable",
     b"a",
     b"aa",
     b"a_",
@@ -151,8 +156,8 @@ fn explaining_laws(random: &mut Random, names: &Description, limit: usize, laws:
             let code = 2 * fluent as u16 + sign;
             let after = match way {
                 0 => continue,
-                1..=6 => None,
-                7..=9 => Some(vec![]),
+                1..=9 => None,
+                10..=12 => Some(vec![]),
                 _ => Some(vec![code]),
             };
             laws.push(Law {
@@ -165,7 +170,7 @@ fn explaining_laws(random: &mut Random, names: &Description, limit: usize, laws:
 }
 
 /// An effect of an action, or of the state before; or a constraint now and then.
-fn effect(random: &mut Random, names: &Description) -> Law {
+pub fn effect(random: &mut Random, names: &Description) -> Law {
     let fluents = 2 * names.fluents.len();
     let all = 2 * names.stride();
     let head = if random.chance(1, 8) {

@@ -1,8 +1,10 @@
 //! Texts at the contract's limits and one past them.
 
-use super::descriptions::{any_law, description, names, spelled, Size};
+use super::descriptions::{any_law, description, effect, names, spelled, Size};
 use super::histories::explained_values;
-use super::render::{description_lines, description_text, history_lines, history_lists, history_text, join, line};
+use super::render::{
+    description_text, history_lines, history_lists, history_text, join, line, list_line, mixed_law, mixed_lines,
+};
 use crate::random::Random;
 use crate::reading::model::{Description, Head, Law};
 use crate::reading::{MAX_ACTIONS, MAX_FLUENTS, MAX_LAWS, MAX_LIST, MAX_TEXT};
@@ -50,13 +52,13 @@ pub const HORIZONS: [&[u8]; 28] = [
 
 /// One text at a limit.
 pub fn text(random: &mut Random) -> Vec<u8> {
-    match random.below(8) {
+    match random.below(10) {
         0 => many_fluents(random),
         1 => many_actions(random),
-        2 => many_laws(random),
-        3 | 4 => long_list(random),
-        5 => long_name(random),
-        6 => any_horizon(random),
+        2 | 3 => many_laws(random),
+        4..=6 => long_list(random),
+        7 => long_name(random),
+        8 => any_horizon(random),
         _ => long_history_lists(random),
     }
 }
@@ -92,7 +94,7 @@ fn many_fluents(random: &mut Random) -> Vec<u8> {
         let last = last_name(random, &made.fluents);
         made.fluents.push(last);
     }
-    let lines = description_lines(&made);
+    let lines = mixed_lines(random, &made);
     with_history(random, &made, lines)
 }
 
@@ -106,40 +108,76 @@ fn many_actions(random: &mut Random) -> Vec<u8> {
     made.actions = all.split_off(2);
     made.fluents = all;
     made.laws = (0..2).map(|_| any_law(random, &made)).collect();
-    let lines = description_lines(&made);
+    let lines = mixed_lines(random, &made);
     with_history(random, &made, lines)
 }
 
+/// 63 to 65 laws, written short or long; the last one may be none.
 fn many_laws(random: &mut Random) -> Vec<u8> {
     let mut made = description(random, SMALL);
     let count = random.between(MAX_LAWS - 1, MAX_LAWS + 1);
-    while made.laws.len() < count {
-        // A law that always holds, or any; the last one may have a head that nothing declares.
-        let law = match random.below(3) {
-            0 => any_law(random, &made),
-            1 if made.laws.len() == MAX_LAWS => Law {
-                head: Head::Literal(99),
-                ifs: vec![],
-                after: None,
-            },
-            _ => Law {
-                head: Head::Literal(0),
-                ifs: vec![0],
-                after: Some(vec![0]),
-            },
-        };
+    while made.laws.len() < count - 1 {
+        let law = filling_law(random, &made);
         made.laws.push(law);
     }
-    let lines = description_lines(&made);
-    made.laws.truncate(MAX_LAWS);
+    let mut lines = mixed_lines(random, &made);
+    let behind = lines.len() - 1;
+    lines.splice(behind..behind, last_law(random, &made));
     with_history(random, &made, lines)
+}
+
+/// A law that always holds, an effect, or any law.
+fn filling_law(random: &mut Random, made: &Description) -> Law {
+    match random.below(6) {
+        0 | 1 => any_law(random, made),
+        2 => effect(random, made),
+        way => Law {
+            head: Head::Literal(0),
+            ifs: vec![0],
+            after: (way != 3).then(|| vec![0]),
+        },
+    }
+}
+
+/// Keys that a law's first line has, and one that never stands there.
+const FIRST_KEYS: [&str; 7] = [
+    "static",
+    "dynamic",
+    "default",
+    "inertial",
+    "causes",
+    "nonexecutable",
+    "by",
+];
+
+/// The lines of a law that may be one too many: a good law, or a first line that another refusal may be for.
+fn last_law(random: &mut Random, made: &Description) -> Vec<Vec<u8>> {
+    if random.chance(1, 4) {
+        let law = filling_law(random, made);
+        return mixed_law(random, made, &law, 3);
+    }
+    let key = *random.pick(&FIRST_KEYS);
+    let length = random.between(1, MAX_LIST + 2);
+    let first = match random.below(9) {
+        0 => line(key, b""),
+        1 => line(key, b"false"),
+        2 => line(key, b"--"),
+        3 => list_line(made, key, &[2 * made.fluents.len() as u16]),
+        4 => list_line(made, key, &vec![1; length]),
+        5 => list_line(made, key, &[99]),
+        _ => list_line(made, key, &[1]),
+    };
+    match key {
+        "causes" => vec![first, line("by", b"")],
+        _ => vec![first],
+    }
 }
 
 /// A law's list of six or seven items, where some item may be no literal, or of the wrong sort.
 fn long_list(random: &mut Random) -> Vec<u8> {
     let mut made = description(random, SMALL);
     let length = random.between(MAX_LIST - 1, MAX_LIST + 1);
-    let is_after = random.chance(1, 2);
+    let is_after = random.chance(3, 5);
     let limit = if is_after {
         2 * made.stride()
     } else {
@@ -150,21 +188,10 @@ fn long_list(random: &mut Random) -> Vec<u8> {
         let index = random.below(length);
         codes[index] = random.between(2 * made.fluents.len(), 2 * made.stride() + 1) as u16;
     }
-    let law = match is_after {
-        true => Law {
-            head: Head::Literal(0),
-            ifs: vec![0],
-            after: Some(codes),
-        },
-        false => Law {
-            head: Head::False,
-            ifs: codes,
-            after: random.chance(1, 2).then(Vec::new),
-        },
-    };
+    let law = long_list_law(random, codes, is_after);
     made.laws.truncate(2);
     made.laws.push(law);
-    let mut lines = description_lines(&made);
+    let mut lines = mixed_lines(random, &made);
     if random.chance(1, 4) {
         // An empty item behind a last comma.
         let index = lines.len() - 2;
@@ -172,6 +199,22 @@ fn long_list(random: &mut Random) -> Vec<u8> {
     }
     made.laws.pop();
     with_history(random, &made, lines)
+}
+
+/// A law with the given codes as its after-list or its if-list. An after-list often stands alone, as in short laws.
+fn long_list_law(random: &mut Random, codes: Vec<u16>, is_after: bool) -> Law {
+    if !is_after {
+        return Law {
+            head: Head::False,
+            ifs: codes,
+            after: random.chance(1, 2).then(Vec::new),
+        };
+    }
+    Law {
+        head: *random.pick(&[Head::Literal(0), Head::False]),
+        ifs: if random.chance(2, 3) { vec![] } else { vec![0] },
+        after: Some(codes),
+    }
 }
 
 fn long_name(random: &mut Random) -> Vec<u8> {
@@ -185,7 +228,7 @@ fn long_name(random: &mut Random) -> Vec<u8> {
         let index = random.below(made.actions.len());
         made.actions[index] = name;
     }
-    let lines = description_lines(&made);
+    let lines = mixed_lines(random, &made);
     with_history(random, &made, lines)
 }
 
@@ -194,7 +237,7 @@ fn any_horizon(random: &mut Random) -> Vec<u8> {
     let spelled = *random.pick(&HORIZONS);
     let number: Option<usize> = std::str::from_utf8(spelled).ok().and_then(|digits| digits.parse().ok());
     made.horizon = number.filter(|horizon| *horizon <= 31).unwrap_or(1);
-    let mut lines = description_lines(&made);
+    let mut lines = mixed_lines(random, &made);
     lines[0] = line("horizon", spelled);
     with_history(random, &made, lines)
 }
@@ -213,7 +256,7 @@ fn long_history_lists(random: &mut Random) -> Vec<u8> {
             }
         }
     }
-    let mut lines = description_lines(&made);
+    let mut lines = mixed_lines(random, &made);
     lines.extend(history_lines(&made, &lists));
     join(&lines)
 }
@@ -232,7 +275,7 @@ pub enum Long {
 /// A text of which one part has 65,534 to 65,537 bytes, or far more.
 pub fn long_text(random: &mut Random) -> Vec<u8> {
     let made = description(random, SMALL);
-    let head = description_text(&made);
+    let head = join(&mixed_lines(random, &made));
     let long = *random.pick(&[Long::Whole, Long::Whole, Long::History, Long::Tail]);
     let excess = *random.pick(&[0, 0, 1, 1, 2, 3, 4_000, 66_000]);
     let wanted = MAX_TEXT - 1 + excess;

@@ -1,6 +1,7 @@
 //! Descriptions and histories written out as text.
 
-use crate::reading::model::{Description, Head};
+use crate::random::Random;
+use crate::reading::model::{Description, Head, Law};
 
 /// A literal of a fluent or an action. A code past all names shows a name nothing declares.
 pub fn literal_text(description: &Description, code: u16) -> Vec<u8> {
@@ -26,25 +27,77 @@ pub fn line(key: &str, value: &[u8]) -> Vec<u8> {
     [key.as_bytes(), b"=", value].concat()
 }
 
-/// The lines of a description, without their ending bytes.
+/// The lines of a description, without their ending bytes. Every law is written out in full.
 pub fn description_lines(description: &Description) -> Vec<Vec<u8>> {
+    lines_with(description, |law| long_law(description, law))
+}
+
+/// The same lines, but laws that have a short form may be written so: none of them, all, or law by law at random.
+pub fn mixed_lines(random: &mut Random, description: &Description) -> Vec<Vec<u8>> {
+    let short_of_four = *random.pick(&[0, 1, 2, 2, 3, 4]);
+    lines_with(description, |law| mixed_law(random, description, law, short_of_four))
+}
+
+/// The lines of a law that is written short, if it can be, in so many of four cases.
+pub fn mixed_law(random: &mut Random, description: &Description, law: &Law, short_of_four: usize) -> Vec<Vec<u8>> {
+    let forms = short_laws(description, law);
+    if forms.is_empty() || !random.chance(short_of_four, 4) {
+        long_law(description, law)
+    } else {
+        random.pick(&forms).clone()
+    }
+}
+
+/// The lines of a description whose laws are written by the given function.
+fn lines_with(description: &Description, mut law_lines: impl FnMut(&Law) -> Vec<Vec<u8>>) -> Vec<Vec<u8>> {
     let mut lines = vec![line("horizon", description.horizon.to_string().as_bytes())];
     lines.extend(description.fluents.iter().map(|name| line("fluent", name)));
     lines.extend(description.actions.iter().map(|name| line("action", name)));
     for law in &description.laws {
-        let key = if law.after.is_some() { "dynamic" } else { "static" };
-        let head = match law.head {
-            Head::Literal(code) => literal_text(description, code),
-            Head::False => b"false".to_vec(),
-        };
-        lines.push(line(key, &head));
-        lines.push(list_line(description, "if", &law.ifs));
-        if let Some(after) = &law.after {
-            lines.push(list_line(description, "after", after));
-        }
+        lines.extend(law_lines(law));
     }
     lines.push(line("end", b""));
     lines
+}
+
+/// A head: a literal, or the word false.
+fn head_text(description: &Description, head: Head) -> Vec<u8> {
+    match head {
+        Head::Literal(code) => literal_text(description, code),
+        Head::False => b"false".to_vec(),
+    }
+}
+
+/// A law written out: the lines static, if, or the lines dynamic, if, after.
+fn long_law(description: &Description, law: &Law) -> Vec<Vec<u8>> {
+    let key = if law.after.is_some() { "dynamic" } else { "static" };
+    let mut lines = vec![line(key, &head_text(description, law.head))];
+    lines.push(list_line(description, "if", &law.ifs));
+    if let Some(after) = &law.after {
+        lines.push(list_line(description, "after", after));
+    }
+    lines
+}
+
+/// Every short form that a law has.
+pub fn short_laws(description: &Description, law: &Law) -> Vec<Vec<Vec<u8>>> {
+    let head = head_text(description, law.head);
+    let mut forms = Vec::new();
+    if let Head::Literal(code) = law.head {
+        if law.ifs == [code] && law.after.is_none() {
+            forms.push(vec![line("default", &head)]);
+        }
+        if law.ifs == [code] && law.after.as_deref() == Some(&[code]) {
+            forms.push(vec![line("inertial", &head)]);
+        }
+    }
+    if let (true, Some(after)) = (law.ifs.is_empty(), &law.after) {
+        forms.push(vec![line("causes", &head), list_line(description, "by", after)]);
+        if law.head == Head::False {
+            forms.push(vec![list_line(description, "nonexecutable", after)]);
+        }
+    }
+    forms
 }
 
 /// The lists of a history, state and act in turn, as literal codes in the order of the atoms.
@@ -98,7 +151,7 @@ pub fn join(lines: &[Vec<u8>]) -> Vec<u8> {
     text
 }
 
-/// A description's text.
+/// A description's text, every law written out.
 pub fn description_text(description: &Description) -> Vec<u8> {
     join(&description_lines(description))
 }
@@ -106,4 +159,57 @@ pub fn description_text(description: &Description) -> Vec<u8> {
 /// A history's text.
 pub fn history_text(description: &Description, values: &[u8]) -> Vec<u8> {
     join(&history_lines(description, &history_lists(description, values)))
+}
+
+#[cfg(test)]
+mod tests {
+    use super::*;
+    use crate::generate::descriptions::{description, size};
+    use crate::reading::description::read_description;
+    use crate::reading::{Refusal, MAX_LAWS};
+
+    /// Where the laws of some lines start, counted from 1.
+    fn law_starts(lines: &[Vec<u8>]) -> Vec<usize> {
+        let keys = ["static", "dynamic", "default", "inertial", "causes", "nonexecutable"];
+        let starts = |at: &usize| keys.iter().any(|key| lines[at - 1].starts_with(&line(key, b"")));
+        (1..=lines.len()).filter(starts).collect()
+    }
+
+    #[test]
+    fn what_is_written_short_is_read_back() {
+        let mut random = Random::new(5);
+        let mut short = 0;
+        for _ in 0..2_000 {
+            let size = size(&mut random);
+            let made = description(&mut random, size);
+            let lines = mixed_lines(&mut random, &made);
+            let text = join(&lines);
+            let wanted = Description {
+                length: text.len(),
+                lines: lines.len(),
+                ..made.clone()
+            };
+            assert_eq!(read_description(&text, MAX_LAWS), Ok(wanted));
+            short += usize::from(lines.len() < description_lines(&made).len());
+        }
+        assert!(short > 1_000, "{short}");
+    }
+
+    #[test]
+    fn a_shorter_run_is_refused_where_the_next_law_starts() {
+        let mut random = Random::new(6);
+        for _ in 0..2_000 {
+            let size = size(&mut random);
+            let made = description(&mut random, size);
+            let lines = mixed_lines(&mut random, &made);
+            let starts = law_starts(&lines);
+            assert_eq!(starts.len(), made.laws.len());
+            let run = random.below(made.laws.len() + 1);
+            let read = read_description(&join(&lines), run);
+            match starts.get(run) {
+                Some(place) => assert_eq!(read, Err(Refusal::new(5, *place))),
+                None => assert!(read.is_ok()),
+            }
+        }
+    }
 }

@@ -4,7 +4,7 @@ use super::damage::damage;
 use super::descriptions::{description, size, SIZES};
 use super::histories::{explained_values, reorder, spoil};
 use super::limits;
-use super::render::{description_lines, history_lines, history_lists, join};
+use super::render::{history_lines, history_lists, join, mixed_lines};
 use crate::random::Random;
 
 /// What sort of text a case is.
@@ -52,7 +52,7 @@ fn whole(random: &mut Random, spoilt: bool) -> Vec<u8> {
     }
     let mut lists = history_lists(&made, &values);
     reorder(random, &mut lists);
-    let mut lines = description_lines(&made);
+    let mut lines = mixed_lines(random, &made);
     lines.extend(history_lines(&made, &lists));
     join(&lines)
 }
@@ -64,7 +64,7 @@ fn damaged(random: &mut Random) -> Vec<u8> {
     } else {
         let made = description(random, SIZES[0]);
         let values = explained_values(random, &made);
-        let mut lines = description_lines(&made);
+        let mut lines = mixed_lines(random, &made);
         lines.extend(history_lines(&made, &history_lists(&made, &values)));
         join(&lines)
     };

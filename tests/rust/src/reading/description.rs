@@ -51,7 +51,7 @@ fn read_parts(lines: &mut Lines, description: &mut Description, law_limit: usize
                 let name = read_name(description, &line, description.actions.len(), MAX_ACTIONS)?;
                 description.actions.push(name);
             }
-            Key::Static | Key::Dynamic if part >= Part::Fluents => {
+            key if key.starts_law() && part >= Part::Fluents => {
                 part = Part::Laws;
                 if description.laws.len() >= law_limit {
                     return Err(line.refusal(5));
@@ -97,17 +97,54 @@ fn read_name(known: &Description, line: &Line, count: usize, limit: usize) -> Re
     Ok(line.value.to_vec())
 }
 
-/// A law whose first line is at hand.
+/// A law whose first line is at hand. A short one gives what the same law written out in full would give.
 fn read_law(lines: &mut Lines, names: &Description, first: &Line) -> Result<Law, Refusal> {
+    match first.key {
+        Key::Default => {
+            let code = read_fluent_literal(names, first)?;
+            Ok(static_law(Head::Literal(code), vec![code]))
+        }
+        Key::Inertial => {
+            let code = read_fluent_literal(names, first)?;
+            Ok(dynamic_law(Head::Literal(code), vec![code], vec![code]))
+        }
+        Key::Causes => {
+            let head = read_head(names, first)?;
+            let by_line = lines.expect(Key::By)?;
+            Ok(dynamic_law(head, vec![], read_after(names, &by_line)?))
+        }
+        Key::Nonexecutable => Ok(dynamic_law(Head::False, vec![], read_after(names, first)?)),
+        _ => read_long_law(lines, names, first),
+    }
+}
+
+/// A law written out: the lines static, if, or the lines dynamic, if, after.
+fn read_long_law(lines: &mut Lines, names: &Description, first: &Line) -> Result<Law, Refusal> {
     let head = read_head(names, first)?;
     let if_line = lines.expect(Key::If)?;
     let ifs = list(names, &if_line, Sort::Fluents, Some(MAX_LIST))?;
-    let mut after = None;
-    if first.key == Key::Dynamic {
-        let after_line = lines.expect(Key::After)?;
-        after = Some(list(names, &after_line, Sort::Either, Some(MAX_LIST))?);
+    if first.key == Key::Static {
+        return Ok(static_law(head, ifs));
     }
-    Ok(Law { head, ifs, after })
+    let after_line = lines.expect(Key::After)?;
+    Ok(dynamic_law(head, ifs, read_after(names, &after_line)?))
+}
+
+fn static_law(head: Head, ifs: Vec<u16>) -> Law {
+    Law { head, ifs, after: None }
+}
+
+fn dynamic_law(head: Head, ifs: Vec<u16>, after: Vec<u16>) -> Law {
+    Law {
+        head,
+        ifs,
+        after: Some(after),
+    }
+}
+
+/// The after-list of a law: literals of either sort.
+fn read_after(names: &Description, line: &Line) -> Result<Vec<u16>, Refusal> {
+    list(names, line, Sort::Either, Some(MAX_LIST))
 }
 
 /// The word false, or a fluent literal.
@@ -115,6 +152,10 @@ fn read_head(names: &Description, line: &Line) -> Result<Head, Refusal> {
     if line.value == b"false" {
         return Ok(Head::False);
     }
-    let code = literal(names, line.value, Sort::Fluents).ok_or(line.refusal(6))?;
-    Ok(Head::Literal(code))
+    Ok(Head::Literal(read_fluent_literal(names, line)?))
+}
+
+/// A line's value as one fluent literal.
+fn read_fluent_literal(names: &Description, line: &Line) -> Result<u16, Refusal> {
+    literal(names, line.value, Sort::Fluents).ok_or(line.refusal(6))
 }

@@ -8,9 +8,13 @@ use super::{Refusal, MAX_ATOMS, MAX_LAWS, MAX_TEXT};
 /// Reads a history into one value an atom, for a caller who lends the description's text again and a buffer of
 /// `values_length` bytes.
 pub fn read_history(description: &[u8], history: &[u8], values_length: usize) -> Result<Vec<u8>, Refusal> {
-    let names = read_description(description, MAX_LAWS)?;
-    values_fit(&names, values_length)?;
-    read_lines(&names, history)
+    read_values(&read_description(description, MAX_LAWS)?, history, values_length)
+}
+
+/// The same, where the description is read already.
+pub fn read_values(names: &Description, history: &[u8], values_length: usize) -> Result<Vec<u8>, Refusal> {
+    values_fit(names, values_length)?;
+    read_lines(names, history)
 }
 
 /// Condition 10 for a history: as many values as atoms, and no more than 1,024.

@@ -3,7 +3,7 @@
 use super::model::Description;
 use super::Refusal;
 
-/// The ten keys.
+/// The fifteen keys: ten, and behind them the five of the short laws.
 #[derive(Clone, Copy, Debug, PartialEq, Eq)]
 pub enum Key {
     Horizon,
@@ -16,6 +16,23 @@ pub enum Key {
     State,
     Act,
     End,
+    Default,
+    Inertial,
+    Causes,
+    By,
+    Nonexecutable,
+}
+
+impl Key {
+    /// Is this the key of a law's first line?
+    pub fn starts_law(self) -> bool {
+        match self {
+            Key::Static | Key::Dynamic => true,
+            Key::Default | Key::Inertial | Key::Causes | Key::Nonexecutable => true,
+            Key::Horizon | Key::Fluent | Key::Action | Key::If | Key::After | Key::By => false,
+            Key::State | Key::Act | Key::End => false,
+        }
+    }
 }
 
 fn key_of(bytes: &[u8]) -> Option<Key> {
@@ -30,6 +47,11 @@ fn key_of(bytes: &[u8]) -> Option<Key> {
         b"state" => Some(Key::State),
         b"act" => Some(Key::Act),
         b"end" => Some(Key::End),
+        b"default" => Some(Key::Default),
+        b"inertial" => Some(Key::Inertial),
+        b"causes" => Some(Key::Causes),
+        b"by" => Some(Key::By),
+        b"nonexecutable" => Some(Key::Nonexecutable),
         _ => None,
     }
 }
@@ -72,7 +94,7 @@ impl<'a> Lines<'a> {
     }
 
     /// The next line. Refused by 2 if the text is at its end, the line has no ending byte 10 or no equals sign, or its
-    /// key is none of the ten.
+    /// key is none of the fifteen.
     pub fn take(&mut self) -> Result<Line<'a>, Refusal> {
         let number = self.taken + 1;
         let bad = Refusal::new(2, number);
@@ -109,6 +131,20 @@ impl<'a> Lines<'a> {
             Err(line.refusal(2))
         }
     }
+}
+
+/// The first lines of all laws of a text, up to its first end line or bad line.
+pub fn first_lines(text: &[u8]) -> Vec<Line<'_>> {
+    let mut lines = Lines::new(text);
+    let mut found = Vec::new();
+    while let Ok(line) = lines.take() {
+        match line.key {
+            Key::End => break,
+            key if key.starts_law() => found.push(line),
+            _ => (),
+        }
+    }
+    found
 }
 
 /// Which literals a list may hold.

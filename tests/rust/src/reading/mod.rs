@@ -15,6 +15,8 @@ pub mod translation;
 mod examples;
 #[cfg(test)]
 mod refusals;
+#[cfg(test)]
+mod shorthand;
 
 /// Longest text a reader takes, in bytes.
 pub const MAX_TEXT: usize = 65_535;

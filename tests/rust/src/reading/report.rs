@@ -18,7 +18,11 @@ pub struct Input {
 /// Reads a description and the history behind it. Lines count over the whole input, so a history's refusal is moved up
 /// by the description's lines; a place that is no line stays as it is.
 pub fn read_input(input: &[u8]) -> Result<Input, Refusal> {
-    let description = read_description(input, MAX_LAWS)?;
+    with_history(read_description(input, MAX_LAWS)?, input)
+}
+
+/// The same, where the description at the input's start is read already.
+pub fn with_history(description: Description, input: &[u8]) -> Result<Input, Refusal> {
     let values = read_lines(&description, &input[description.length..]).map_err(|refusal| match refusal.number {
         1 => refusal,
         _ => Refusal::new(refusal.number, refusal.place + description.lines),
@@ -28,14 +32,19 @@ pub fn read_input(input: &[u8]) -> Result<Input, Refusal> {
 
 /// The printed output, byte by byte.
 pub fn output(input: &[u8]) -> Vec<u8> {
-    match answers(input) {
+    printed(read_input(input))
+}
+
+/// What is printed for an input that is read already, or refused.
+pub fn printed(read: Result<Input, Refusal>) -> Vec<u8> {
+    match read.and_then(answers) {
         Ok(lines) => lines,
         Err(refusal) => format!("refused={}\nplace={}\n", refusal.number, refusal.place).into_bytes(),
     }
 }
 
-fn answers(input: &[u8]) -> Result<Vec<u8>, Refusal> {
-    let Input { description, values } = read_input(input)?;
+fn answers(input: Input) -> Result<Vec<u8>, Refusal> {
+    let Input { description, values } = input;
     let (verdict, table) = check_history(&description, &values, usize::MAX)?;
     let causal = match verdict {
         Verdict::Missing(_) | Verdict::Clash(_) => None,

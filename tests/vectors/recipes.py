@@ -1,0 +1,40 @@
+"""Recipes that stored inputs are made from: the contract's full recipe, long and short, and one in which nothing happens."""
+import pathlib
+
+TOP = pathlib.Path(__file__).resolve().parents[2]
+RECIPE = (TOP / "tests" / "recipes" / "full.txt").read_text()
+# The description, and the history that passes.
+FULL = RECIPE[: RECIPE.index("state=")]
+PASSING = RECIPE[len(FULL) :]
+
+SHORT_RECIPE = (TOP / "tests" / "recipes" / "full_short.txt").read_text()
+# The same description with all laws written short.
+SHORT = SHORT_RECIPE[: -len(PASSING)]
+
+
+def history(*lines):
+    """A history's text: state, act, state, .., and the end line."""
+    keys = ["state" if i % 2 == 0 else "act" for i in range(len(lines))]
+    return "".join(f"{key}={line}\n" for key, line in zip(keys, lines)) + "end=\n"
+
+
+def inertia(names):
+    """Two dynamic laws for each fluent: it stays as it is."""
+    return "".join(f"dynamic={sign}{name}\nif={sign}{name}\nafter={sign}{name}\n" for name in names for sign in ("", "-"))
+
+
+def still(horizon, fluents, actions, laws=""):
+    """A description whose fluents stay, and the history in which all is false."""
+    names = [f"f{i}" for i in range(fluents)]
+    commands = [f"a{i}" for i in range(actions)]
+    text = f"horizon={horizon}\n" + "".join(f"fluent={n}\n" for n in names) + "".join(f"action={n}\n" for n in commands)
+    text += laws + "end=\n"
+    state = ",".join(f"-{n}" for n in names)
+    act = ",".join(f"-{n}" for n in commands)
+    return text + f"state={state}\n" + f"act={act}\nstate={state}\n" * int(horizon) + "end=\n"
+
+
+def swapped(old, new, text=RECIPE):
+    """The text with one part replaced; the part must be there."""
+    assert text.count(old) >= 1, old
+    return text.replace(old, new, 1)
