@@ -12,7 +12,7 @@ use lib.Dec.{eqb, ltb}
 use lib.ListN.{length, getD, take, set, length-take}
 use lib.Seq.{take-set-lt, take-set-le, set-out, getD-take}
 use Rattle.search.specs.Replies.{Reply, refused, answered}
-use Rattle.text.specs.Lines.{Line, keyed, firstLine}
+use Rattle.text.specs.Lines.{noKey, Line, keyed, firstLine}
 use Rattle.text.specs.Internal.{keyIn, itemAt, nextAt, itemsAt}
 use Rattle.text.proofs.Items.{items-next, items-end, items-start, items-none}
 use Rattle.text.specs.Lists as lists
@@ -90,7 +90,7 @@ states-lines (suc k) d t line vs text e =
 -- the end line: another key, a value, bytes behind it, or whole
 module _ (line : ℕ) (vs : List ℕ) where
   pub end-other : (k : ℕ) (value rest : List ℕ) → (k ≡ 9 → ⊥) → refused 2 line ≡ historyEnd (keyed (keyIn k) value rest) line vs
-  end-other k value rest h = go (ltb k 10)
+  end-other k value rest h = go (ltb k noKey)
     where
       go : (b : Bool) → refused 2 line ≡ historyEnd (keyed (cond b (some k) none) value rest) line vs
       go true = rw (ne-eqb k 9 h)
@@ -143,20 +143,20 @@ list-all names low high list i e = rw e (go (ltb 0 (length list)) refl)
 -- a line with another key, and one with the key that is due
 module _ (d : Draft) (key low high line base : ℕ) (vs : List ℕ) (go : List ℕ → List ℕ → Reply (List ℕ)) (value rest : List ℕ) where
   pub line-other : (k : ℕ) → (k ≡ key → ⊥) → refused 2 line ≡ listLine d key low high (keyed (keyIn k) value rest) line base vs go
-  line-other k h = by (ltb k 10)
+  line-other k h = by (ltb k noKey)
     where
       by : (b : Bool) → refused 2 line ≡ listLine d key low high (keyed (cond b (some k) none) value rest) line base vs go
       by true = rw (ne-eqb k key h)
       by false = refl
 
-  pub line-due : (k : ℕ) → k ≡ key → key < 10
+  pub line-due : (k : ℕ) → k ≡ key → key < noKey
       → listed (listOf (d .names) low high most value) line base vs (λ ws. go ws rest) ≡ listLine d key low high (keyed (keyIn k) value rest) line base vs go
-  line-due k e few = rw (e, lt-ltb key 10 few, eq-eqb key key refl)
+  line-due k e few = rw (e, lt-ltb key noKey few, eq-eqb key key refl)
 
-pub key-below : (line : ℕ) → keyAt line < 10
+pub key-below : (line : ℕ) → keyAt line < noKey
 key-below line = go (isState line)
   where
-    go : (b : Bool) → cond b 7 8 < 10
+    go : (b : Bool) → cond b 7 8 < noKey
     go true = omega arith
     go false = omega arith
 
