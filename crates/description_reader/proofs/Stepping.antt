@@ -12,7 +12,6 @@ use lib.Dec.{ltb}
 use lib.ListN.{length, take, drop, set, replicate, length-take, length-append, length-replicate}
 use lib.Seq.{drop-set-lt, drop-drop}
 use Rattle.search.proofs.Tests.{or-iff}
-use Rattle.description.specs.declared.Head.{Head}
 use Rattle.description.specs.declared.Kind.{Kind}
 use Rattle.description.specs.declared.Kind.the-variants.{Static, Dynamic}
 use Rattle.description.specs.declared.Law.{Law}
@@ -28,7 +27,9 @@ use Rattle.text.specs.Names.{literal}
 use Rattle.text.specs.Lists.{Listed, codes}
 use Rattle.description_reader.specs.LineSteps as step
 use Rattle.description_reader.specs.LineSteps.{Draft, next, whole, withIf, lawIn, roomFor, wholeByLiteral, literalLine, nonexecutableLine}
-use Rattle.line_values.specs.ShortLaws.{withAfters, causesLaw, nonexecutableLaw}
+use Rattle.line_values.specs.declared.law_forms.Places.{Places}
+use Rattle.line_values.specs.ShortLaws.{nonexecutableLaw}
+use Rattle.line_values.specs.Internal.{placesOf}
 use Rattle.description_reader.specs.Internal.{dueOf, draftOf, HasRoom, Sound, Padded, Pushed, Follows, Limits}
 
 at-most-64 : (due : Due) (n : ℕ) → HasRoom due n → n ≤ 64
@@ -116,9 +117,9 @@ module _ (l : Codes) (fits : Padded l) where
       (withAfter w (take (l .count) (l .codes)))
   law-after w = rw (← fits .padding, gathered-length)
 
-  -- the short laws of a list
-  pub law-by : (head : Head) → withAfters (lawOf Dynamic head [] []) (l .count) (l .codes) ≡ causesLaw head (take (l .count) (l .codes))
-  law-by head = rw (← fits .padding, gathered-length)
+  -- its places, in a record of its own
+  pub list-places : _≡_ {A = Places} (record { count = l .count; codes = l .codes }) (placesOf (take (l .count) (l .codes)))
+  list-places = rw (← fits .padding, gathered-length)
 
 -- where a law is whole, a law or the end is due
 pub pushed-sound : {due : Due} (s r : Reading) → Sound due s → s .run .count < 64 → Pushed s r → Sound lawDue r

@@ -10,6 +10,7 @@ use description::Kind;
 use description::Law;
 use line_values::horizons;
 use line_values::law_forms;
+use line_values::law_forms::Places;
 use line_values::orders;
 use search::Found;
 use text::lines;
@@ -26,7 +27,8 @@ ghost use lib.ListN.{length, take, drop};
 ghost use Rattle.text.specs.Lists.{codes};
 ghost use Rattle.text.specs.Internal.{spelled};
 ghost use Rattle.line_values.specs.HorizonText.{horizonOf};
-ghost use Rattle.line_values.specs.ShortLaws.{literalLaw, causesLaw};
+ghost use Rattle.line_values.specs.ShortLaws.{defaultLaw, inertialLaw, causesLaw};
+ghost use Rattle.line_values.specs.Internal.{placesOf};
 ghost use Rattle.description_reader.specs.LineSteps as step;
 ghost use Rattle.description_reader.specs.LineSteps.{actionDue, fluentDue, lawDue, ifDue, byDue, next, horizonLine, nameLine, lawLine};
 ghost use Rattle.description_reader.specs.LineSteps.{Draft, begun, headOf, whole, ifLine, afterLine, wholeByList, literalLine, nonexecutableLine, endLine};
@@ -262,6 +264,18 @@ fn after_line(state: State, list: Codes) -> State
     whole_law(state, law)
 }
 
+// The places of a list that is read.
+fn places(list: Codes) -> Places
+    requires { ⌜ Padded list ⌝ }
+    ensures { λ r. ⌜ r ≡ placesOf (take (list .count) (list .codes)) ⌝ }
+{
+    let codes = list.codes;
+    Places {
+        count: list.count as u8,
+        codes,
+    }
+}
+
 // The list of what causes a head.
 fn by_line(state: State, list: Codes) -> State
     requires { ⌜ (state .reading .run .count < 64) × Sound (dueAt state) (state .reading) × Padded list ⌝ }
@@ -270,8 +284,7 @@ fn by_line(state: State, list: Codes) -> State
 {
     let law = state.law;
     let head = law.head;
-    let codes = list.codes;
-    whole_law(state, law_forms::causes_law(head, list.count as u8, codes))
+    whole_law(state, law_forms::causes_law(head, places(list)))
 }
 
 // A law that is a list: 5 where there is no room for it.
@@ -285,14 +298,23 @@ fn nonexecutable_line(state: State, list: Codes, lent: usize) -> State
     if !states::has_room(run.count, lent) {
         return refused(state, 5);
     }
-    let codes = list.codes;
-    whole_law(state, law_forms::nonexecutable_law(list.count as u8, codes))
+    whole_law(state, law_forms::nonexecutable_law(places(list)))
+}
+
+// The law of a literal: its inertia, or its default.
+fn literal_law(inertial: bool, code: u8) -> Law
+    ensures { λ r. ⌜ r ≡ cond inertial inertialLaw defaultLaw code ⌝ }
+{
+    if inertial {
+        return law_forms::inertial_law(code);
+    }
+    law_forms::default_law(code)
 }
 
 // A law of one fluent literal: 5 where there is no room for it, before its spelling, then 6.
-fn literal_line(text: &[u8], value: &[u8], state: State, kind: Kind, lent: usize) -> State
+fn literal_line(text: &[u8], value: &[u8], state: State, inertial: bool, lent: usize) -> State
     requires { ⌜ Sound (dueAt state) (state .reading) ⌝ }
-    ensures { λ r. ⌜ stepOf (now (text .entry)) r ≡ literalLine lent (draftOf (now (text .entry)) (state .reading)) (literalLaw kind) (now (value .entry)) ⌝ }
+    ensures { λ r. ⌜ stepOf (now (text .entry)) r ≡ literalLine lent (draftOf (now (text .entry)) (state .reading)) (cond inertial inertialLaw defaultLaw) (now (value .entry)) ⌝ }
     ensures { λ r. ⌜ Goes state r ⌝ }
 {
     let reading = state.reading;
@@ -306,7 +328,7 @@ fn literal_line(text: &[u8], value: &[u8], state: State, kind: Kind, lent: usize
     if 0 < number {
         return refused(state, number);
     }
-    whole_law(state, law_forms::literal_law(kind, code as u8))
+    whole_law(state, literal_law(inertial, code as u8))
 }
 
 fn end_line(value: &[u8], state: State) -> State
@@ -330,10 +352,10 @@ fn short_line(text: &[u8], value: &[u8], key: usize, state: State, lent: usize) 
     ensures { λ r. ⌜ Goes state r ⌝ }
 {
     if key == lines::DEFAULT {
-        return literal_line(text, value, state, Kind::Static, lent);
+        return literal_line(text, value, state, false, lent);
     }
     if key == lines::INERTIAL {
-        return literal_line(text, value, state, Kind::Dynamic, lent);
+        return literal_line(text, value, state, true, lent);
     }
     if key == lines::CAUSES {
         return law_line(text, value, state, Kind::Dynamic, true, lent);

@@ -4,7 +4,6 @@ use mathlib.Core.List.{List, [], _∷_}
 use Prim.Native.Nat.{ℕ}
 use Rattle.description.specs.declared.Head.{Head}
 use Rattle.description.specs.declared.Head.the-variants.{Lit, False}
-use Rattle.description.specs.declared.Kind.{Kind}
 use Rattle.description.specs.declared.Kind.the-variants.{Static, Dynamic}
 use Rattle.description.specs.declared.Law.{Law}
 use Rattle.description.specs.Laws.{lawOf}
@@ -24,20 +23,3 @@ causesLaw head afters = lawOf Dynamic head [] afters
 -- nonexecutable=LIST: the dynamic law with head false, empty if-list and that after-list
 abbrev pub nonexecutableLaw : List ℕ → Law
 nonexecutableLaw afters = lawOf Dynamic False [] afters
-
--- the short law of a literal, by its kind
-abbrev pub literalLaw : Kind → ℕ → Law
-literalLaw Static c = defaultLaw c
-literalLaw Dynamic c = inertialLaw c
-
--- a law with another after-list, by its count and places
-abbrev pub withAfters : Law → ℕ → List ℕ → Law
-withAfters l count places =
-    record {
-      kind = l .kind;
-      head = l .head;
-      «if_count» = l .«if_count»;
-      «if_codes» = l .«if_codes»;
-      «after_count» = count;
-      «after_codes» = places;
-    }

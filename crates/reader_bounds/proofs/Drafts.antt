@@ -1,36 +1,30 @@
 -- What holds of every description that the reader takes: its limits, its short names, no more laws than are lent, and that the
 -- rest of the text stands behind it.
 -- Assumes nothing.
-use mathlib.Core.Path.{_≡_, refl, sym, subst, _∙_}
-use mathlib.Core.Bool.{Bool, true, false, not, cond, _&&_}
+use mathlib.Core.Path.{_≡_, refl, sym, _∙_}
+use mathlib.Core.Bool.{true, not, _&&_}
 use mathlib.Core.List.{List, [], _∷_, _++_, append-assoc}
 use mathlib.Core.Option.{Option, none, some}
-use Prim.Native.Nat.{ℕ, zero, suc, _+_, _-_, _*_, min, _≤_, _<_}
+use Prim.Native.Nat.{ℕ, zero, suc, _+_, min, _≤_, _<_}
 use native.Mathlib.Omega.{arith}
-use borrow.Author.Tests.{ltb-true, ltb-false, leb-true, eqb-true}
+use borrow.Author.Tests.{ltb-false, leb-true}
 use lib.Dec.{eqb, ltb, leb}
 use lib.ListN.{length, take, length-append, take-append-drop}
 use Rattle.search.specs.Search.{all, Each, first}
 use Rattle.search.specs.Replies.{Reply, refused, answered}
 use Rattle.search.proofs.Tests.{and-iff, each-append}
-use Rattle.description.specs.declared.Head.{Head}
 use Rattle.description.specs.declared.Kind.{Kind}
 use Rattle.description.specs.declared.Kind.the-variants.{Static, Dynamic}
 use Rattle.description.specs.declared.Law.{Law}
-use Rattle.text.specs.Bytes.{newline, equalsSign, isDigit, isNameByte, same, Cut, cutAt, cut}
-use Rattle.text.specs.Lines.{horizonKey, fluentKey, actionKey, staticKey, dynamicKey, ifKey, afterKey, Line, keyed, valued, ended, keyNumber, firstLine}
+use Rattle.text.specs.Bytes.{newline, equalsSign, isNameByte, same, Cut, cutAt, cut}
+use Rattle.text.specs.Lines.{Line, keyed, valued, ended, keyNumber, firstLine}
 use Rattle.text.specs.Names.{falseBytes, startsWithLetter, isName, absent, isNew, declaredAt}
-use Rattle.text.specs.Lists as lists
-use Rattle.text.specs.Lists.{Listed, codes, listOf}
 use Rattle.description_reader.specs.LineSteps as step
-use Rattle.description_reader.specs.LineSteps.{Due, horizonDue, firstFluentDue, fluentDue, actionDue, lawDue, ifDue, afterDue, Draft, allowed, Step, next, finish, inHorizon, horizonOf, horizonLine}
-use Rattle.description_reader.specs.LineSteps.{nameLine, headOf, begun, lawLine, withIf, ifLine, afterLine, endLine, lawIn, byKey, lineStep}
+use Rattle.description_reader.specs.LineSteps.{Due, horizonDue, firstFluentDue, fluentDue, actionDue, lawDue, ifDue, afterDue, byDue, Draft, Step, next, finish, withIf, lineStep}
 use Rattle.description_reader.specs.Descriptions.{Taken, read, afterStep, afterFirst, blank, linesFrom, described}
-
--- a choice by what its test says
-pub chosen : {A : Type 0} (P : A → Type 0) (b : Bool) {x y : A} → (b ≡ true → P x) → (b ≡ false → P y) → P (cond b x y)
-chosen P true t f = t refl
-chosen P false t f = f refl
+use Rattle.reader_bounds.proofs.LineCases.{withName, Cases, line-cases}
+-- those who use this file choose too
+pub use Rattle.reader_bounds.proofs.LineCases.{chosen}
 
 -- a name of at most 16 bytes
 abbrev pub Short : List ℕ → Type 0
@@ -52,6 +46,7 @@ open-laws actionDue = 0
 open-laws lawDue = 0
 open-laws (ifDue l) = 1
 open-laws (afterDue l) = 1
+open-laws (byDue l) = 1
 
 -- the limits of a draft, where something is due and no more than so many laws are taken
 pub record Limited (most : ℕ) (due : Due) (d : Draft) : Type 0 where
@@ -68,128 +63,67 @@ LimitedStep most (step.refused k) = Unit
 LimitedStep most (next due d) = Limited most due d
 LimitedStep most (finish d) = Limited most lawDue d
 
-abbrev AtMost30 : Option ℕ → Type 0
-AtMost30 none = Unit
-AtMost30 (some T) = T ≤ 30
-
-small-horizon : (T : ℕ) → AtMost30 (inHorizon T)
-small-horizon T = chosen AtMost30 (leb 1 T && leb T 30) (λ e. leb-true T 30 (and-iff (leb 1 T) (leb T 30) .0 e .1)) (λ _. tt)
-
-horizon-read : (value : List ℕ) → AtMost30 (horizonOf value)
-unfolding horizonOf
-horizon-read [] = tt
-horizon-read (a ∷ []) = chosen AtMost30 (isDigit a) (λ _. small-horizon (a - 48)) (λ _. tt)
-horizon-read (a ∷ b ∷ []) = chosen AtMost30 (isDigit a && isDigit b && not (eqb a 48)) (λ _. small-horizon (10 * (a - 48) + (b - 48))) (λ _. tt)
-horizon-read (a ∷ b ∷ c ∷ bs) = tt
-
--- an if-list or an after-list is due only behind a law's head
-if-open : (due : Due) → allowed due ifKey ≡ true → open-laws due ≡ 1
-if-open horizonDue e = cc
-if-open firstFluentDue e = cc
-if-open fluentDue e = cc
-if-open actionDue e = cc
-if-open lawDue e = cc
-if-open (ifDue l) e = refl
-if-open (afterDue l) e = cc
-
-after-open : (due : Due) → allowed due afterKey ≡ true → open-laws due ≡ 1
-after-open horizonDue e = cc
-after-open firstFluentDue e = cc
-after-open fluentDue e = cc
-after-open actionDue e = cc
-after-open lawDue e = cc
-after-open (ifDue l) e = cc
-after-open (afterDue l) e = refl
-
-module _ (most : ℕ) (due : Due) (d : Draft) (g : Limited most due d) where
-  -- none open
-  held : 0 + length (d .laws) ≤ most
-  held = omega (arith, g .room)
-
+module _ (most : ℕ) (d : Draft) where
   -- the same draft, where something else is due
-  due-kept : (due′ : Due) → open-laws due′ + length (d .laws) ≤ most → Limited most due′ d
-  due-kept due′ h = record { time = g .time; few = g .few; named = g .named; actions = g .actions; short = g .short; room = h }
+  due-kept : (due due′ : Due) → Limited most due d → open-laws due′ + length (d .laws) ≤ most → Limited most due′ d
+  due-kept due due′ g h = record { time = g .time; few = g .few; named = g .named; actions = g .actions; short = g .short; room = h }
+
+  -- room for a law that begins
+  opened : length (d .laws) < most → 1 + length (d .laws) ≤ most
+  opened room = omega arith
 
   -- a law is whole
-  law-kept : (l : Law) → open-laws due ≡ 1 → Limited most lawDue (step.whole d l)
-  law-kept l e =
-      record { time = g .time; few = g .few; named = g .named; actions = g .actions; short = g .short; room = omega (arith, e, g .room, length-append (d .laws) (l ∷ [])) }
-
-  horizon-kept : (o : Option ℕ) → AtMost30 o → LimitedStep most (horizonLine d o)
-  horizon-kept none h = tt
-  horizon-kept (some T) h =
-      record { time = h; few = g .few; named = g .named; actions = g .actions; short = g .short; room = held }
+  law-kept : (due : Due) (l : Law) → Limited most due d → 1 + length (d .laws) ≤ most → Limited most lawDue (step.whole d l)
+  law-kept due l g h =
+      record { time = g .time; few = g .few; named = g .named; actions = g .actions; short = g .short; room = omega (arith, h, length-append (d .laws) (l ∷ [])) }
 
   -- a new name, where the number of fluents behind it is within the limits
-  name-kept : (fits : Bool) (due′ : Due) (fluents : ℕ) (value : List ℕ) → open-laws due′ ≡ 0
-      → (fits ≡ true → (fluents ≤ 24) × (fluents ≤ length (d .names) + 1) × (length (d .names) + 1 ≤ fluents + 8)) → LimitedStep most (nameLine fits due′ fluents d value)
-  name-kept fits due′ fluents value none-open limits =
-      chosen (LimitedStep most) fits
-      (λ room. chosen (LimitedStep most) (isNew (d .names) value)
-      (λ new. record {
+  name-kept : (due due′ : Due) (fluents : ℕ) (value : List ℕ) → Limited most due d → open-laws due′ ≡ 0 → isNew (d .names) value ≡ true → fluents ≤ 24
+      → fluents ≤ length (d .names) + 1 → length (d .names) + 1 ≤ fluents + 8 → Limited most due′ (withName d fluents value)
+  name-kept due due′ fluents value g none-open new few named actions =
+      record {
         time = g .time;
-        few = limits room .0;
-        named = omega (arith, one-more, limits room .1);
-        actions = omega (arith, one-more, limits room .2);
+        few = few;
+        named = omega (arith, one-more, named);
+        actions = omega (arith, one-more, actions);
         short = each-append Short (d .names) (value ∷ []) .1 (g .short, (name-short value (and-iff (isName value) (absent (declaredAt (d .names) value)) .0 new .0), tt));
-        room = omega (arith, none-open, held);
-      })
-      (λ _. tt))
-      (λ _. tt)
+        room = omega (arith, none-open, g .room);
+      }
     where
       one-more : length (d .names ++ (value ∷ [])) ≡ length (d .names) + 1
       one-more = length-append (d .names) (value ∷ [])
 
-  begun-kept : (kind : Kind) (o : Option Head) → 1 + length (d .laws) ≤ most → LimitedStep most (begun d kind o)
-  begun-kept kind none h = tt
-  begun-kept kind (some x) h = due-kept (ifDue _) h
-
-  with-if-kept : (kind : Kind) (head : Head) (cs : List ℕ) → open-laws due ≡ 1 → LimitedStep most (withIf d kind head cs)
-  with-if-kept Static head cs e = law-kept _ e
-  with-if-kept Dynamic head cs e = due-kept (afterDue _) (omega (arith, e, g .room))
-
-  if-kept : (law : Law) (l : Listed) → open-laws due ≡ 1 → LimitedStep most (ifLine d law l)
-  if-kept law (lists.refused k) e = tt
-  if-kept law (codes cs) e = with-if-kept (law .kind) (law .head) cs e
-
-  after-kept : (law : Law) (l : Listed) → open-laws due ≡ 1 → LimitedStep most (afterLine d law l)
-  after-kept law (lists.refused k) e = tt
-  after-kept law (codes cs) e = law-kept _ e
-
-  end-kept : (value : List ℕ) → LimitedStep most (endLine d value)
-  end-kept [] = due-kept lawDue held
-  end-kept (b ∷ bs) = tt
+  -- an if-list makes a static law whole
+  with-if-kept : (l : Law) (kind : Kind) (cs : List ℕ) → Limited most (ifDue l) d → LimitedStep most (withIf d kind (l .head) cs)
+  with-if-kept l Static cs g = law-kept (ifDue l) _ g (g .room)
+  with-if-kept l Dynamic cs g = due-kept (ifDue l) (afterDue _) g (g .room)
 
 -- one line, of a text for which so many laws are lent
-module _ (lent : ℕ) (due : Due) (d : Draft) (g : Limited (min 64 lent) due d) where
-  abbrev Kept : Step → Type 0
-  Kept s = LimitedStep (min 64 lent) s
+module _ (lent : ℕ) (d : Draft) (value : List ℕ) where
+  limits-kept : Cases lent d value (λ due. Limited (min 64 lent) due d) (LimitedStep (min 64 lent))
+  limits-kept =
+      let most = min 64 lent in
+      record {
+        further = λ g. due-kept most d fluentDue firstFluentDue g (g .room);
+        no-fluent = λ g. due-kept most d fluentDue actionDue g (g .room);
+        no-action = λ g. due-kept most d actionDue lawDue g (g .room);
+        refusals = (tt, (tt, (tt, (tt, (tt, tt)))));
+        horizon = λ g T low high. record { time = high; few = g .few; named = g .named; actions = g .actions; short = g .short; room = g .room };
+        fluent = λ g room new. name-kept most d firstFluentDue fluentDue (suc (d .fluents)) value g refl new room (omega (arith, g .named)) (omega (arith, g .actions));
+        action = λ g room new. name-kept most d actionDue actionDue (d .fluents) value g refl new (g .few) (omega (arith, g .named)) (omega arith);
+        begins = λ g room kind h _. due-kept most d lawDue (ifDue _) g (opened most d room);
+        causes = λ g room h _. due-kept most d lawDue (byDue _) g (opened most d room);
+        default = λ g room c _. law-kept most d lawDue _ g (opened most d room);
+        inertial = λ g room c _. law-kept most d lawDue _ g (opened most d room);
+        nonexecutable = λ g room cs _. law-kept most d lawDue _ g (opened most d room);
+        if-list = λ l g kind cs _. with-if-kept most d l kind cs g;
+        after-list = λ l g cs _. law-kept most d (afterDue l) _ g (g .room);
+        by-list = λ l g cs _. law-kept most d (byDue l) _ g (g .room);
+        ends = λ g. g;
+      }
 
-  new-law-kept : (kind : Kind) (value : List ℕ) → Kept (lawLine lent d kind value)
-  new-law-kept kind value =
-      chosen Kept (ltb (length (d .laws)) (min 64 lent))
-      (λ e. begun-kept (min 64 lent) due d g kind (headOf (d .names) (d .fluents) value) (omega (arith, ltb-true (length (d .laws)) (min 64 lent) e)))
-      (λ _. tt)
-
-  step-kept : (key : ℕ) (value : List ℕ) → Kept (lineStep lent due d key value)
-  unfolding lineStep
-  step-kept key value =
-      chosen Kept (allowed due key)
-      (λ may. chosen Kept (eqb key horizonKey) (λ _. horizon-kept (min 64 lent) due d g (horizonOf value) (horizon-read value))
-      (λ _. chosen Kept (eqb key fluentKey)
-      (λ _. name-kept (min 64 lent) due d g (ltb (d .fluents) 24) fluentDue (suc (d .fluents)) value refl
-      (λ room. (ltb-true (d .fluents) 24 room, omega (arith, g .named), omega (arith, g .actions))))
-      (λ _. chosen Kept (eqb key actionKey)
-      (λ _. name-kept (min 64 lent) due d g (ltb (length (d .names)) (d .fluents + 8)) actionDue (d .fluents) value refl
-      (λ room. (g .few, omega (arith, g .named), omega (arith, ltb-true (length (d .names)) (d .fluents + 8) room))))
-      (λ _. chosen Kept (eqb key staticKey) (λ _. new-law-kept Static value)
-      (λ _. chosen Kept (eqb key dynamicKey) (λ _. new-law-kept Dynamic value)
-      (λ _. chosen Kept (eqb key ifKey)
-      (λ e. if-kept (min 64 lent) due d g (lawIn due) (listOf (d .names) 0 (d .fluents) 6 value) (if-open due (subst (λ (k : ℕ). allowed due k ≡ true) (eqb-true key ifKey e) may)))
-      (λ _. chosen Kept (eqb key afterKey)
-      (λ e. after-kept (min 64 lent) due d g (lawIn due) (listOf (d .names) 0 (length (d .names)) 6 value) (after-open due (subst (λ (k : ℕ). allowed due k ≡ true) (eqb-true key afterKey e) may)))
-      (λ _. end-kept (min 64 lent) due d g value))))))))
-      (λ _. tt)
+  step-kept : (due : Due) → Limited (min 64 lent) due d → (key : ℕ) → LimitedStep (min 64 lent) (lineStep lent due d key value)
+  step-kept due g key = line-cases lent d value _ _ limits-kept due key g
 
 -- what is read behind a text is one of its ends
 pub record End (rest text : List ℕ) : Type 0 where
@@ -264,7 +198,7 @@ module _ (lent : ℕ) where
       by-line : Later fuel (suc line) → (o : Option Line) → RestEnds text o
           → BoundedReply text (min 64 lent) (line + suc fuel) (afterFirst o lent due d line (λ due′ d′ rest. linesFrom fuel lent (suc line) due′ d′ rest))
       by-line go none e = tt
-      by-line go (some l) e = by-step go (lineStep lent due d (l .key) (l .value)) (l .rest) e (step-kept lent due d g (l .key) (l .value))
+      by-line go (some l) e = by-step go (lineStep lent due d (l .key) (l .value)) (l .rest) e (step-kept lent d (l .value) due g (l .key))
 
   blank-limited : Limited (min 64 lent) horizonDue blank
   blank-limited = record { time = omega arith; few = omega arith; named = omega arith; actions = omega arith; short = tt; room = omega arith }

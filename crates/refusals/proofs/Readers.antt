@@ -1,11 +1,11 @@
 -- The numbers by which the readers refuse a text.
 -- Assumes nothing.
-use mathlib.Core.Path.{_≡_, refl, subst}
+use mathlib.Core.Path.{_≡_, refl}
 use mathlib.Core.Logic.{⊎-elim}
-use mathlib.Core.Bool.{Bool, true, false, cond, _||_}
-use mathlib.Core.List.{List, [], _∷_, _++_}
+use mathlib.Core.Bool.{Bool, true, false, cond}
+use mathlib.Core.List.{List, [], _∷_}
 use mathlib.Core.Option.{Option, none, some}
-use Prim.Native.Nat.{ℕ, zero, suc, _+_, min}
+use Prim.Native.Nat.{ℕ, zero, suc}
 use borrow.Author.Tests.{eq-eqb, eqb-true}
 use lib.Dec.{eqb, ltb}
 use lib.ListN.{length, replicate}
@@ -15,18 +15,15 @@ use Rattle.search.proofs.Tests.{not-both, and-iff, or-iff}
 use Rattle.description.specs.declared.Head.{Head}
 use Rattle.description.specs.declared.Kind.{Kind}
 use Rattle.description.specs.declared.Kind.the-variants.{Static, Dynamic}
-use Rattle.description.specs.declared.Law.{Law}
-use Rattle.text.specs.Lines.{horizonKey, fluentKey, actionKey, staticKey, dynamicKey, ifKey, afterKey, endKey, Line, firstLine}
-use Rattle.text.specs.Names.{isNew, literal}
+use Rattle.text.specs.Lines.{endKey, Line, firstLine}
 use Rattle.text.specs.Lists as lists
-use Rattle.text.specs.Lists.{Listed, codes, items, added, listFrom, listOf}
+use Rattle.text.specs.Lists.{Listed, codes, listOf}
 use Rattle.description_reader.specs.LineSteps as step
-use Rattle.description_reader.specs.LineSteps.{Due, horizonDue, fluentDue, actionDue, Draft, allowed, Step, next, finish, horizonOf, horizonLine}
-use Rattle.description_reader.specs.LineSteps.{nameLine, headOf, begun, lawLine, withIf, ifLine, afterLine, endLine, lawIn, lineStep}
+use Rattle.description_reader.specs.LineSteps.{Due, horizonDue, Draft, Step, next, finish, withIf, lineStep}
 use Rattle.description_reader.specs.Descriptions.{Taken, read, afterStep, afterFirst, blank, linesFrom, described}
 use Rattle.history_reader.specs.Histories as histories
 use Rattle.history_reader.specs.Histories.{atEnd, historyEnd, listed, listLine, statesFrom, atoms, recorded, byNames, readHistory}
-use Rattle.reader_bounds.proofs.Drafts.{chosen}
+use Rattle.reader_bounds.proofs.LineCases.{chosen, list-cases, Cases, line-cases}
 use Rattle.inputs.specs.Inputs.{movedBy, afterDescription, recordedIn}
 use Rattle.refusals.specs.Refusals.{among, RefusedBy}
 
@@ -48,24 +45,8 @@ abbrev ListedBy : List ℕ → Listed → Type 0
 ListedBy numbers (lists.refused k) = among k numbers ≡ true
 ListedBy numbers (codes cs) = Unit
 
-module _ (names : List (List ℕ)) (low high most : ℕ) where
-  abbrev By : Listed → Type 0
-  By l = ListedBy (5 ∷ 6 ∷ []) l
-
-  added-by : (done : List ℕ) (o : Option ℕ) (go : List ℕ → Listed) → ((more : List ℕ) → By (go more)) → By (added done o go)
-  added-by done none go h = refl
-  added-by done (some c) go h = h (done ++ (c ∷ []))
-
-  items-by : (done : List ℕ) (xs : List (List ℕ)) → By (listFrom names low high most done xs)
-  items-by done [] = tt
-  items-by done (x ∷ xs) =
-      chosen By (ltb (length done) most)
-      (λ _. added-by done (literal names low high x) (λ more. listFrom names low high most more xs) (λ more. items-by more xs))
-      (λ _. refl)
-
-  list-by : (value : List ℕ) → By (listOf names low high most value)
-  unfolding listOf
-  list-by value = items-by [] (items value)
+list-by : (names : List (List ℕ)) (low high most : ℕ) (value : List ℕ) → ListedBy (5 ∷ 6 ∷ []) (listOf names low high most value)
+list-by names low high most = list-cases names low high most (ListedBy (5 ∷ 6 ∷ [])) refl refl (λ _ _. tt)
 
 -- Descriptions
 
@@ -77,52 +58,34 @@ StepBy (step.refused k) = among k six ≡ true
 StepBy (next due d) = Unit
 StepBy (finish d) = Unit
 
-module _ (d : Draft) where
-  horizon-by : (o : Option ℕ) → StepBy (horizonLine d o)
-  horizon-by none = refl
-  horizon-by (some T) = tt
+with-if-by : (d : Draft) (kind : Kind) (head : Head) (cs : List ℕ) → StepBy (withIf d kind head cs)
+with-if-by d Static head cs = tt
+with-if-by d Dynamic head cs = tt
 
-  name-by : (fits : Bool) (due : Due) (fluents : ℕ) (value : List ℕ) → StepBy (nameLine fits due fluents d value)
-  name-by fits due fluents value = chosen StepBy fits (λ _. chosen StepBy (isNew (d .names) value) (λ _. tt) (λ _. refl)) (λ _. refl)
+-- a line is refused by 2 to 6, whatever is known where it stands
+line-by : (lent : ℕ) (d : Draft) (value : List ℕ) → Cases lent d value (λ _. Unit) StepBy
+line-by lent d value =
+    record {
+      further = λ _. tt;
+      no-fluent = λ _. tt;
+      no-action = λ _. tt;
+      refusals = (refl, (refl, (refl, (refl, (refl, tt)))));
+      horizon = λ _ _ _ _. tt;
+      fluent = λ _ _ _. tt;
+      action = λ _ _ _. tt;
+      begins = λ _ _ _ _ _. tt;
+      causes = λ _ _ _ _. tt;
+      default = λ _ _ _ _. tt;
+      inertial = λ _ _ _ _. tt;
+      nonexecutable = λ _ _ _ _. tt;
+      if-list = λ l _ kind cs _. with-if-by d kind (l .head) cs;
+      after-list = λ _ _ _ _. tt;
+      by-list = λ _ _ _ _. tt;
+      ends = λ _. tt;
+    }
 
-  begun-by : (kind : Kind) (o : Option Head) → StepBy (begun d kind o)
-  begun-by kind none = refl
-  begun-by kind (some h) = tt
-
-  law-by : (lent : ℕ) (kind : Kind) (value : List ℕ) → StepBy (lawLine lent d kind value)
-  law-by lent kind value =
-      chosen StepBy (ltb (length (d .laws)) (min 64 lent)) (λ _. begun-by kind (headOf (d .names) (d .fluents) value)) (λ _. refl)
-
-  with-if-by : (kind : Kind) (head : Head) (cs : List ℕ) → StepBy (withIf d kind head cs)
-  with-if-by Static head cs = tt
-  with-if-by Dynamic head cs = tt
-
-  if-by : (l : Law) (cs : Listed) → ListedBy (5 ∷ 6 ∷ []) cs → StepBy (ifLine d l cs)
-  if-by l (lists.refused k) h = among-more (5 ∷ 6 ∷ []) six k refl h
-  if-by l (codes cs) h = with-if-by (l .kind) (l .head) cs
-
-  after-by : (l : Law) (cs : Listed) → ListedBy (5 ∷ 6 ∷ []) cs → StepBy (afterLine d l cs)
-  after-by l (lists.refused k) h = among-more (5 ∷ 6 ∷ []) six k refl h
-  after-by l (codes cs) h = tt
-
-  end-by : (value : List ℕ) → StepBy (endLine d value)
-  end-by [] = tt
-  end-by (b ∷ bs) = refl
-
-  step-by : (lent : ℕ) (due : Due) (key : ℕ) (value : List ℕ) → StepBy (lineStep lent due d key value)
-  unfolding lineStep
-  step-by lent due key value =
-      chosen StepBy (allowed due key)
-      (λ _. chosen StepBy (eqb key horizonKey) (λ _. horizon-by (horizonOf value))
-      (λ _. chosen StepBy (eqb key fluentKey) (λ _. name-by (ltb (d .fluents) 24) fluentDue (suc (d .fluents)) value)
-      (λ _. chosen StepBy (eqb key actionKey) (λ _. name-by (ltb (length (d .names)) (d .fluents + 8)) actionDue (d .fluents) value)
-      (λ _. chosen StepBy (eqb key staticKey) (λ _. law-by lent Static value)
-      (λ _. chosen StepBy (eqb key dynamicKey) (λ _. law-by lent Dynamic value)
-      (λ _. chosen StepBy (eqb key ifKey) (λ _. if-by (lawIn due) (listOf (d .names) 0 (d .fluents) 6 value) (list-by (d .names) 0 (d .fluents) 6 value))
-      (λ _. chosen StepBy (eqb key afterKey)
-      (λ _. after-by (lawIn due) (listOf (d .names) 0 (length (d .names)) 6 value) (list-by (d .names) 0 (length (d .names)) 6 value))
-      (λ _. end-by value))))))))
-      (λ _. refl)
+step-by : (lent : ℕ) (due : Due) (d : Draft) (key : ℕ) (value : List ℕ) → StepBy (lineStep lent due d key value)
+step-by lent due d key value = line-cases lent d value (λ _. Unit) StepBy (line-by lent d value) due key tt
 
 module _ (lent : ℕ) where
   lines-by : (fuel line : ℕ) (due : Due) (d : Draft) (text : List ℕ) → RefusedBy six (linesFrom fuel lent line due d text)
@@ -138,7 +101,7 @@ module _ (lent : ℕ) where
       by-line : ((due′ : Due) (d′ : Draft) (rest : List ℕ) → RefusedBy six (linesFrom fuel lent (suc line) due′ d′ rest)) → (o : Option Line)
           → RefusedBy six (afterFirst o lent due d line (λ due′ d′ rest′. linesFrom fuel lent (suc line) due′ d′ rest′))
       by-line go none = refl
-      by-line go (some l) = by-step go (lineStep lent due d (l .key) (l .value)) (l .rest) (step-by d lent due (l .key) (l .value))
+      by-line go (some l) = by-step go (lineStep lent due d (l .key) (l .value)) (l .rest) (step-by lent due d (l .key) (l .value))
 
   pub described-by : (text : List ℕ) → RefusedBy six (described lent text)
   unfolding described

@@ -1,38 +1,27 @@
 -- In a text that is read, line 0 has the horizon and each line behind it declares one name, whose value it is.
 -- Assumes nothing.
 use mathlib.Core.Path.{_≡_, refl, sym, ap, subst, _∙_}
-use mathlib.Core.Bool.{Bool, true, false, cond, _||_, true≢false}
+use mathlib.Core.Bool.{Bool, true, false}
 use mathlib.Core.List.{List, [], _∷_, _++_}
 use mathlib.Core.Option.{Option, none, some}
-use Prim.Native.Nat.{ℕ, zero, suc, _+_, min, _<_}
+use Prim.Native.Nat.{ℕ, zero, suc, _+_, _<_}
 use native.Mathlib.Numerals.{add-one}
 use native.Mathlib.Omega.{arith}
-use borrow.Author.Tests.{eqb-true, ltb-true, ltb-false}
-use lib.Dec.{eqb, ltb}
+use borrow.Author.Tests.{ltb-true, ltb-false}
+use lib.Dec.{ltb}
 use lib.ListN.{length, getD, drop, length-append, List·getD-append}
 use lib.Seq.{getD-append-add}
-use mathlib.Core.Logic.{inl, inr}
 use Rattle.search.specs.Replies.{Reply, refused, answered}
-use Rattle.search.proofs.Tests.{or-iff}
-use Rattle.description.specs.declared.Head.{Head}
 use Rattle.description.specs.declared.Kind.{Kind}
 use Rattle.description.specs.declared.Kind.the-variants.{Static, Dynamic}
 use Rattle.description.specs.declared.Law.{Law}
-use Rattle.text.specs.Lines.{horizonKey, fluentKey, actionKey, staticKey, dynamicKey, ifKey, afterKey, Line, firstLine}
-use Rattle.text.specs.Names.{isNew}
+use Rattle.text.specs.Lines.{Line, firstLine}
 use Rattle.text.specs.Places.{startOfLine, lineNumber}
-use Rattle.text.specs.Lists as lists
-use Rattle.text.specs.Lists.{Listed, codes, listOf}
 use Rattle.text.proofs.Placing.{next-line}
 use Rattle.description_reader.specs.LineSteps as step
-use Rattle.description_reader.specs.LineSteps.{Due, horizonDue, firstFluentDue, fluentDue, actionDue, lawDue, ifDue, afterDue, Draft, allowed, Step, next, finish, horizonOf, horizonLine}
-use Rattle.description_reader.specs.LineSteps.{nameLine, headOf, begun, lawLine, withIf, ifLine, afterLine, endLine, lawIn, lineStep}
+use Rattle.description_reader.specs.LineSteps.{Due, horizonDue, firstFluentDue, fluentDue, actionDue, lawDue, ifDue, afterDue, byDue, Draft, Step, next, finish, withIf, lineStep}
 use Rattle.description_reader.specs.Descriptions.{Taken, read, afterStep, afterFirst, blank, linesFrom, described}
-
--- a choice by what its test says
-chosen : {A : Type 0} (P : A → Type 0) (b : Bool) {x y : A} → (b ≡ true → P x) → (b ≡ false → P y) → P (cond b x y)
-chosen P true t f = t refl
-chosen P false t f = f refl
+use Rattle.reader_bounds.proofs.LineCases.{chosen, timed, withName, Cases, line-cases}
 
 module _ (text : List ℕ) where
   -- the name at place i is the value of line i + 1
@@ -53,6 +42,7 @@ module _ (text : List ℕ) where
   AtLine lawDue d rest = Unit
   AtLine (ifDue l) d rest = Unit
   AtLine (afterDue l) d rest = Unit
+  AtLine (byDue l) d rest = Unit
 
   pub record Placed (due : Due) (d : Draft) (rest : List ℕ) : Type 0 where
     pub at : AtLine due d rest
@@ -63,112 +53,69 @@ module _ (text : List ℕ) where
   PlacedStep rest (next due d) = Placed due d rest
   PlacedStep rest (finish d) = AllDeclared d
 
-  first-due : (due : Due) (d : Draft) (rest : List ℕ) → allowed due horizonKey ≡ true → AtLine due d rest → (rest ≡ text) × (d .names ≡ [])
-  first-due horizonDue d rest e a = a
-  first-due firstFluentDue d rest e a = absurd (true≢false (sym e))
-  first-due fluentDue d rest e a = absurd (true≢false (sym e))
-  first-due actionDue d rest e a = absurd (true≢false (sym e))
-  first-due lawDue d rest e a = absurd (true≢false (sym e))
-  first-due (ifDue l) d rest e a = absurd (true≢false (sym e))
-  first-due (afterDue l) d rest e a = absurd (true≢false (sym e))
-
-  -- a line that declares a name is the next one behind the names declared
-  name-due : (due : Due) (d : Draft) (rest : List ℕ) → (allowed due fluentKey || allowed due actionKey) ≡ true → AtLine due d rest
-      → rest ≡ drop (startOfLine (suc (length (d .names))) text) text
-  name-due horizonDue d rest e a = absurd (true≢false (sym e))
-  name-due firstFluentDue d rest e a = a
-  name-due fluentDue d rest e a = a
-  name-due actionDue d rest e a = a
-  name-due lawDue d rest e a = absurd (true≢false (sym e))
-  name-due (ifDue l) d rest e a = absurd (true≢false (sym e))
-  name-due (afterDue l) d rest e a = absurd (true≢false (sym e))
-
   -- one line, whose rest is the next one's text
-  module _ (due : Due) (d : Draft) (rest : List ℕ) (p : Placed due d rest) (l : Line) (is : firstLine rest ≡ some l) where
-    abbrev Kept : Step → Type 0
-    Kept s = PlacedStep (l .rest) s
+  module _ (d : Draft) (rest : List ℕ) (l : Line) (is : firstLine rest ≡ some l) where
+    horizon-kept : (T : ℕ) → Placed horizonDue d rest → Placed firstFluentDue (timed d T) (l .rest)
+    horizon-kept T p =
+        record {
+          at = next-line 0 text l (ap firstLine (sym (p .at .0)) ∙ is) ∙ ap (λ ns. drop (startOfLine (suc (length ns)) text) text) (sym (p .at .1));
+          names = p .names;
+        }
 
-    horizon-kept : (o : Option ℕ) → (rest ≡ text) × (d .names ≡ []) → Kept (horizonLine d o)
-    horizon-kept none a = tt
-    horizon-kept (some T) a =
-        record { at = next-line 0 text l (ap firstLine (sym (a .0)) ∙ is) ∙ ap (λ ns. drop (startOfLine (suc (length ns)) text) text) (sym (a .1)); names = p .names }
+    -- a line that declares a name is the next one behind the names declared
+    module _ (names : AllDeclared d) (a : rest ≡ drop (startOfLine (suc (length (d .names))) text) text) where
+      there : lineNumber (suc (length (d .names))) text ≡ some l
+      there = ap firstLine (sym a) ∙ is
 
-    name-kept : (fits : Bool) (due′ : Due) (fluents : ℕ) (at : (names : List (List ℕ)) (laws : List Law) → l .rest ≡ drop (startOfLine (suc (length names)) text) text
-        → AtLine due′ (record { horizon = d .horizon; fluents = fluents; names = names; laws = laws }) (l .rest))
-        → rest ≡ drop (startOfLine (suc (length (d .names))) text) text → Kept (nameLine fits due′ fluents d (l .value))
-    name-kept fits due′ fluents at a =
-        chosen Kept fits
-        (λ _. chosen Kept (isNew (d .names) (l .value))
-        (λ _. record { at = at more (d .laws) after; names = λ i b. by-place i (ltb i (length (d .names))) refl b })
-        (λ _. tt))
-        (λ _. tt)
-      where
-        more : List (List ℕ)
-        more = d .names ++ (l .value ∷ [])
+      one-more : length (d .names ++ (l .value ∷ [])) ≡ suc (length (d .names))
+      one-more = length-append (d .names) (l .value ∷ []) ∙ add-one (length (d .names))
 
-        there : lineNumber (suc (length (d .names))) text ≡ some l
-        there = ap firstLine (sym a) ∙ is
+      after : l .rest ≡ drop (startOfLine (suc (length (d .names ++ (l .value ∷ [])))) text) text
+      after = next-line (suc (length (d .names))) text l there ∙ ap (λ n. drop (startOfLine (suc n) text) text) (sym one-more)
 
-        one-more : length more ≡ suc (length (d .names))
-        one-more = length-append (d .names) (l .value ∷ []) ∙ add-one (length (d .names))
+      by-place : (i : ℕ) (b : Bool) → ltb i (length (d .names)) ≡ b → i < length (d .names ++ (l .value ∷ [])) → DeclaredAt i (getD (d .names ++ (l .value ∷ [])) i [])
+      by-place i true t b =
+          let below = ltb-true i (length (d .names)) t in
+          subst (DeclaredAt i) (sym (List·getD-append (d .names) (l .value ∷ []) [] i below)) (names i below)
+      by-place i false t b =
+          let e : i ≡ length (d .names) + 0 = omega (arith, ltb-false i (length (d .names)) t, one-more) in
+          let e′ : length (d .names) ≡ i = omega arith in
+          record {
+            line = l;
+            is = ap (λ k. lineNumber (suc k) text) (sym e′) ∙ there;
+            value = sym (ap (λ k. getD (d .names ++ (l .value ∷ [])) k []) e ∙ getD-append-add (d .names) (l .value ∷ []) 0 []);
+          }
 
-        after : l .rest ≡ drop (startOfLine (suc (length more)) text) text
-        after = next-line (suc (length (d .names))) text l there ∙ ap (λ n. drop (startOfLine (suc n) text) text) (sym one-more)
+      all-declared : (fluents : ℕ) → AllDeclared (withName d fluents (l .value))
+      all-declared fluents i b = by-place i (ltb i (length (d .names))) refl b
 
-        by-place : (i : ℕ) (b : Bool) → ltb i (length (d .names)) ≡ b → i < length more → DeclaredAt i (getD more i [])
-        by-place i true t b =
-            let below = ltb-true i (length (d .names)) t in
-            subst (DeclaredAt i) (sym (List·getD-append (d .names) (l .value ∷ []) [] i below)) (p .names i below)
-        by-place i false t b =
-            let e : i ≡ length (d .names) + 0 = omega (arith, ltb-false i (length (d .names)) t, one-more) in
-            let e′ : length (d .names) ≡ i = omega arith in
-            record {
-              line = l;
-              is = ap (λ k. lineNumber (suc k) text) (sym e′) ∙ there;
-              value = sym (ap (λ k. getD more k []) e ∙ getD-append-add (d .names) (l .value ∷ []) 0 []);
-            }
+    with-if-kept : (law : Law) (kind : Kind) (cs : List ℕ) → AllDeclared d → PlacedStep (l .rest) (withIf d kind (law .head) cs)
+    with-if-kept law Static cs names = record { at = tt; names = names }
+    with-if-kept law Dynamic cs names = record { at = tt; names = names }
 
-    law-kept : (lent : ℕ) (kind : Kind) (value : List ℕ) → Kept (lawLine lent d kind value)
-    law-kept lent kind value = chosen Kept (ltb (length (d .laws)) (min 64 lent)) (λ _. go (headOf (d .names) (d .fluents) value)) (λ _. tt)
-      where
-        go : (o : Option Head) → Kept (begun d kind o)
-        go none = tt
-        go (some x) = record { at = tt; names = p .names }
+    names-kept : (lent : ℕ) → Cases lent d (l .value) (λ due. Placed due d rest) (PlacedStep (l .rest))
+    names-kept lent =
+        record {
+          further = λ p. record { at = p .at; names = p .names };
+          no-fluent = λ p. record { at = p .at; names = p .names };
+          no-action = λ p. record { at = tt; names = p .names };
+          refusals = (tt, (tt, (tt, (tt, (tt, tt)))));
+          horizon = λ p T _ _. horizon-kept T p;
+          fluent = λ p _ _. record { at = after (p .names) (p .at); names = all-declared (p .names) (p .at) (suc (d .fluents)) };
+          action = λ p _ _. record { at = after (p .names) (p .at); names = all-declared (p .names) (p .at) (d .fluents) };
+          begins = λ p _ _ _ _. record { at = tt; names = p .names };
+          causes = λ p _ _ _. record { at = tt; names = p .names };
+          default = λ p _ _ _. record { at = tt; names = p .names };
+          inertial = λ p _ _ _. record { at = tt; names = p .names };
+          nonexecutable = λ p _ _ _. record { at = tt; names = p .names };
+          if-list = λ law p kind cs _. with-if-kept law kind cs (p .names);
+          after-list = λ _ p _ _. record { at = tt; names = p .names };
+          by-list = λ _ p _ _. record { at = tt; names = p .names };
+          ends = λ p. p .names;
+        }
 
-    if-kept : (law : Law) (o : Listed) → Kept (ifLine d law o)
-    if-kept law (lists.refused n) = tt
-    if-kept law (codes cs) = go (law .kind)
-      where
-        go : (kind : Kind) → Kept (withIf d kind (law .head) cs)
-        go Static = record { at = tt; names = p .names }
-        go Dynamic = record { at = tt; names = p .names }
-
-    after-kept : (law : Law) (o : Listed) → Kept (afterLine d law o)
-    after-kept law (lists.refused n) = tt
-    after-kept law (codes cs) = record { at = tt; names = p .names }
-
-    end-kept : (value : List ℕ) → Kept (endLine d value)
-    end-kept [] = p .names
-    end-kept (b ∷ bs) = tt
-
-    at-key : (wanted : ℕ) → allowed due (l .key) ≡ true → eqb (l .key) wanted ≡ true → allowed due wanted ≡ true
-    at-key wanted may e = subst (λ (j : ℕ). allowed due j ≡ true) (eqb-true (l .key) wanted e) may
-
-    step-kept : (lent : ℕ) → Kept (lineStep lent due d (l .key) (l .value))
-    unfolding lineStep
-    step-kept lent =
-        chosen Kept (allowed due (l .key))
-        (λ may. chosen Kept (eqb (l .key) horizonKey) (λ e. horizon-kept (horizonOf (l .value)) (first-due due d rest (at-key horizonKey may e) (p .at)))
-        (λ _. chosen Kept (eqb (l .key) fluentKey)
-        (λ e. name-kept (ltb (d .fluents) 24) fluentDue (suc (d .fluents)) (λ names laws h. h) (name-due due d rest (or-iff (allowed due fluentKey) (allowed due actionKey) .1 (inl (at-key fluentKey may e))) (p .at)))
-        (λ _. chosen Kept (eqb (l .key) actionKey)
-        (λ e. name-kept (ltb (length (d .names)) (d .fluents + 8)) actionDue (d .fluents) (λ names laws h. h) (name-due due d rest (or-iff (allowed due fluentKey) (allowed due actionKey) .1 (inr (at-key actionKey may e))) (p .at)))
-        (λ _. chosen Kept (eqb (l .key) staticKey) (λ _. law-kept lent Static (l .value))
-        (λ _. chosen Kept (eqb (l .key) dynamicKey) (λ _. law-kept lent Dynamic (l .value))
-        (λ _. chosen Kept (eqb (l .key) ifKey) (λ _. if-kept (lawIn due) (listOf (d .names) 0 (d .fluents) 6 (l .value)))
-        (λ _. chosen Kept (eqb (l .key) afterKey) (λ _. after-kept (lawIn due) (listOf (d .names) 0 (length (d .names)) 6 (l .value)))
-        (λ _. end-kept (l .value)))))))))
-        (λ _. tt)
+    step-kept : (lent : ℕ) (due : Due) → Placed due d rest → PlacedStep (l .rest) (lineStep lent due d (l .key) (l .value))
+    step-kept lent due p = line-cases lent d (l .value) _ _ (names-kept lent) due (l .key) p
 
   abbrev PlacedReply : Reply Taken → Type 0
   PlacedReply (refused number place) = Unit
@@ -189,7 +136,7 @@ module _ (text : List ℕ) where
 
         by-line : (o : Option Line) → firstLine rest ≡ o → Later → PlacedReply (afterFirst o lent due d line (λ due′ d′ rest′. linesFrom fuel lent (suc line) due′ d′ rest′))
         by-line none e go = tt
-        by-line (some l) e go = by-step (lineStep lent due d (l .key) (l .value)) (l .rest) (step-kept due d rest p l e lent) go
+        by-line (some l) e go = by-step (lineStep lent due d (l .key) (l .value)) (l .rest) (step-kept d rest l e lent due p) go
 
     text-placed : PlacedReply (described lent text)
     unfolding described

@@ -5,6 +5,7 @@ pub mod Transitions
 pub mod WorkedRecords
 pub mod WorkedCodes
 pub mod WorkedTexts
+pub mod WorkedShort
 pub mod WorkedFormat
 pub mod WorkedLong
 pub mod WorkedOutputs

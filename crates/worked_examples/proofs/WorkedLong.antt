@@ -12,7 +12,8 @@ use Rattle.search.specs.Replies.{refused, answered}
 use Rattle.text.specs.Bytes.{cut, cutAt, newline}
 use Rattle.text.specs.Lines.{keyNumber, ended, firstLine}
 use Rattle.text.specs.Names.{isName}
-use Rattle.description_reader.specs.LineSteps.{horizonOf, lineStep}
+use Rattle.line_values.specs.HorizonText.{horizonOf}
+use Rattle.description_reader.specs.LineSteps.{lineStep}
 use Rattle.description_reader.specs.Descriptions.{read, linesFrom, described}
 use Rattle.history_reader.specs.Histories.{readHistory, byNames}
 use Rattle.inputs.specs.Inputs.{afterDescription, recordedIn}

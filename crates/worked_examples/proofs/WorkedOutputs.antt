@@ -17,7 +17,8 @@ use Rattle.text.specs.Bytes.{cut}
 use Rattle.text.specs.Lines.{keyNumber, firstLine}
 use Rattle.text.specs.Names.{isName, literal}
 use Rattle.text.specs.Lists.{items, listOf}
-use Rattle.description_reader.specs.LineSteps.{horizonOf, headOf, lineStep}
+use Rattle.line_values.specs.HorizonText.{horizonOf}
+use Rattle.description_reader.specs.LineSteps.{headOf, lineStep}
 use Rattle.description_reader.specs.Descriptions.{described}
 use Rattle.history_reader.specs.Histories.{readHistory}
 use Rattle.shown_names.specs.Shown.{shownFluent}
@@ -25,8 +26,13 @@ use Rattle.inputs.specs.Inputs.{recordedIn}
 use Rattle.output_lines.specs.Writing.{decimal}
 use Rattle.report.specs.Output.{output}
 use Rattle.worked_examples.specs.Examples.{Holds}
+use Rattle.worked_examples.specs.Short.{shortOutputExamples}
 use Rattle.worked_examples.specs.Worked.{outputExamples}
 
 pub output-examples : Each Holds outputExamples
 unfolding output decimal shownFluent engine.answer verdict rulesOf badRule setOf holdsTrue holdsFalse complement badRecord badHorizon translation translated.outcome history.checked causalVerdict causal.reading cut keyNumber firstLine isName literal items listOf horizonOf headOf lineStep described readHistory recordedIn
 output-examples = (refl, (refl, (refl, (refl, (refl, (refl, (refl, (refl, (refl, (refl, (refl, (refl, (refl, tt)))))))))))))
+
+pub short-outputs : Each Holds shortOutputExamples
+unfolding output decimal shownFluent engine.answer verdict rulesOf badRule setOf holdsTrue holdsFalse complement badRecord badHorizon translation translated.outcome history.checked causalVerdict causal.reading cut keyNumber firstLine isName literal items listOf horizonOf headOf lineStep described readHistory recordedIn
+short-outputs = (refl, (refl, tt))

@@ -7,7 +7,8 @@ use Rattle.text.specs.Bytes.{cut}
 use Rattle.text.specs.Lines.{keyNumber, firstLine}
 use Rattle.text.specs.Names.{isName, literal}
 use Rattle.text.specs.Lists.{items, listOf}
-use Rattle.description_reader.specs.LineSteps.{horizonOf, headOf, lineStep}
+use Rattle.line_values.specs.HorizonText.{horizonOf}
+use Rattle.description_reader.specs.LineSteps.{headOf, lineStep}
 use Rattle.description_reader.specs.Descriptions.{described}
 use Rattle.shown_names.specs.Shown.{shownFluent, shownAction}
 use Rattle.history_reader.specs.Histories.{readHistory}
@@ -16,9 +17,10 @@ use Rattle.written_form.specs.HistoryWriting.{valuesText}
 use Rattle.written_form.specs.Writable.{Writable}
 use Rattle.description.specs.Examples.{recipeLaws}
 use Rattle.worked_examples.specs.Examples.{Holds}
-use Rattle.worked_examples.specs.Worked.{textExamples, recipeFluents, recipeActions}
+use Rattle.worked_examples.specs.Recipe.{recipeFluents, recipeActions}
+use Rattle.worked_examples.specs.Worked.{textExamples}
 
-recipe-writable : Writable 6 1 recipeFluents recipeActions recipeLaws
+pub recipe-writable : Writable 6 1 recipeFluents recipeActions recipeLaws
 unfolding isName
 recipe-writable = record {
   horizon-from = omega arith;

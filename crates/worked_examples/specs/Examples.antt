@@ -2,7 +2,7 @@
 -- Assumes nothing.
 use mathlib.Core.Path.{_≡_}
 use mathlib.Core.Bool.{Bool, true, false}
-use mathlib.Core.List.{List}
+use mathlib.Core.List.{List, []}
 use Prim.Native.Nat.{ℕ}
 use lib.ListN.{length}
 use Rattle.search.specs.Search.{chosen}
@@ -18,9 +18,10 @@ use Rattle.history.specs.Checks.{Finding}
 use Rattle.causal.specs.Verdicts.{Causal, contradicted, uncaused, path, causalVerdict}
 use Rattle.causal.specs.Readings as causal
 use Rattle.description_reader.specs.Descriptions.{Taken, described}
+use Rattle.description_reader.specs.Answers.{recordOf, lawsLeft}
 use Rattle.shown_names.specs.Shown.{shownFluent, shownAction}
 use Rattle.history_reader.specs.Histories.{readHistory}
-use Rattle.written_form.specs.Writing.{descriptionText}
+use Rattle.written_form.specs.Writing.{Form, descriptionText}
 use Rattle.written_form.specs.HistoryWriting.{valuesText}
 use Rattle.written_form.specs.Writable.{Writable}
 use Rattle.report.specs.Output.{room, output}
@@ -58,8 +59,10 @@ pub data Example : Type 0 where
   reads : ℕ → List ℕ → Reply Taken → Example
   -- a description text, a history text, the room for values, and the values read
   readsHistory : List ℕ → List ℕ → ℕ → Reply (List ℕ) → Example
-  -- the text written for a horizon, fluents, actions and laws, which meet the conditions of the round trip
-  writes : ℕ → List (List ℕ) → List (List ℕ) → List Law → List ℕ → Example
+  -- a description text and the words of its table
+  textTable : List ℕ → List ℕ → Example
+  -- the text written for a horizon, fluents, actions, the form of each law, and laws, which meet the conditions of the round trip
+  writes : ℕ → List (List ℕ) → List (List ℕ) → (ℕ → Form) → List Law → List ℕ → Example
   writesHistory : ℕ → List (List ℕ) → List (List ℕ) → List ℕ → List ℕ → Example
   -- an input of the program and what it prints
   prints : List ℕ → List ℕ → Example
@@ -82,7 +85,8 @@ Holds (causalSays d ls vs reply) = causal.reading d ls (length ls) vs ≡ reply
 Holds (pathsAre n m T ls vss expected) = paths n m T ls vss ≡ expected
 Holds (reads lent text reply) = described lent text ≡ reply
 Holds (readsHistory description text values reply) = readHistory description text values ≡ reply
-Holds (writes T fluents actions ls text) = (descriptionText T fluents actions ls ≡ text) × Writable (length ls) T fluents actions ls
+Holds (textTable text ws) = translated.tableFor (recordOf (described 64 text)) (lawsLeft (described 64 text) []) ≡ ws
+Holds (writes T fluents actions forms ls text) = (descriptionText T fluents actions forms ls ≡ text) × Writable (length ls) T fluents actions ls
 Holds (writesHistory T fluents actions vs text) = valuesText T fluents actions vs ≡ text
 Holds (prints input bytes) = output input ≡ bytes
 Holds (showsFluent text f name) = shownFluent text f ≡ name

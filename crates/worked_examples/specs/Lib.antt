@@ -5,4 +5,6 @@ pub mod Texts
 pub mod Outputs
 pub mod Examples
 pub mod Format
+pub mod Recipe
+pub mod Short
 pub mod Worked

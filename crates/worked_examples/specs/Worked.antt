@@ -1,5 +1,6 @@
 -- Worked examples of all layers, gathered as one list: the full recipe and M1 to M10 with all that 01 prints of them, the
--- horizons and tables at the limits, the transitions of 000's two examples, and the rules of the text format one by one.
+-- horizons and tables at the limits, the transitions of 000's two examples, and the rules of the text format and of the short
+-- laws one by one.
 -- Assumes nothing.
 use mathlib.Core.List.{List, [], _∷_, _++_, map}
 use Prim.Native.Nat.{ℕ}
@@ -14,8 +15,8 @@ use Rattle.description.specs.Examples.{recipe, recipeLaws, door, doorLaws, wate
 use Rattle.translation.specs.Translated.{written}
 use Rattle.history.specs.Checks.{Finding, missing, judged}
 use Rattle.causal.specs.Verdicts.{Causal, contradicted, uncaused, path}
-use Rattle.description_reader.specs.LineSteps.{Draft}
 use Rattle.description_reader.specs.Descriptions.{read}
+use Rattle.written_form.specs.Writing.{inFull}
 use Rattle.worked_examples.specs.Tables.{recipeTable, doorTable1, doorTable2, waterTable1, waterTable2}
 use Rattle.worked_examples.specs.Program11.{program11, answerSets11}
 use Rattle.worked_examples.specs.Texts.{recipeText, historyText, m1Text, m2Text, m3Text, m4Text, m5Text, otherOrderText, badActText}
@@ -25,6 +26,8 @@ use Rattle.worked_examples.specs.Outputs.{badActOutput, doorOutput, late
 use Rattle.worked_examples.specs.Examples.{Example, engineSays, passingAre, translates, tableIs, tableLeft, historySays}
 use Rattle.worked_examples.specs.Examples.{historyLeaves, causalSays, pathsAre, reads, readsHistory, writes, writesHistory}
 use Rattle.worked_examples.specs.Examples.{prints, showsFluent, showsAction, codedAs, pairedAs}
+use Rattle.worked_examples.specs.Recipe.{recipeFluents, recipeActions, recipeDraft}
+use Rattle.worked_examples.specs.Short.{shortRecipeExamples, shortOutputExamples, shortExamples}
 use Rattle.worked_examples.specs.Format.{readerExamples, lineExamples, historyExamples, longExamples}
 
 -- a state, an action and a resulting state as values, 1 true and 2 false
@@ -55,18 +58,6 @@ ofRecipe vs answer reading = both recipe recipeLaws vs answer reading
 -- the full recipe for another horizon
 abbrev pub recipeFor : ℕ → Description
 recipeFor T = record { fluents = 2; actions = 1; laws = 6; horizon = T }
-
--- locked, flowed
-abbrev pub recipeFluents : List (List ℕ)
-recipeFluents = (108 ∷ 111 ∷ 99 ∷ 107 ∷ 101 ∷ 100 ∷ []) ∷ (102 ∷ 108 ∷ 111 ∷ 119 ∷ 101 ∷ 100 ∷ []) ∷ []
-
--- reflow
-abbrev pub recipeActions : List (List ℕ)
-recipeActions = (114 ∷ 101 ∷ 102 ∷ 108 ∷ 111 ∷ 119 ∷ []) ∷ []
-
--- what the description reader is left with
-abbrev pub recipeDraft : Draft
-recipeDraft = record { horizon = 1; fluents = 2; names = recipeFluents ++ recipeActions; laws = recipeLaws }
 
 -- by records and values
 abbrev pub recordExamples : List Example
@@ -145,7 +136,7 @@ textExamples =
     ∷ showsAction recipeText 0 (114 ∷ 101 ∷ 102 ∷ 108 ∷ 111 ∷ 119 ∷ [])
     ∷ showsAction recipeText 1 []
     -- the same texts are written for what was read
-    ∷ writes 1 recipeFluents recipeActions recipeLaws recipeText
+    ∷ writes 1 recipeFluents recipeActions (λ i. inFull) recipeLaws recipeText
     ∷ writesHistory 1 recipeFluents recipeActions (2 ∷ 2 ∷ 1 ∷ 2 ∷ 1 ∷ []) historyText
     ∷ []
 
@@ -201,6 +192,9 @@ worked =
     ∷ historyExamples
     ∷ longExamples
     ∷ outputExamples
+    ∷ shortRecipeExamples
+    ∷ shortExamples
+    ∷ shortOutputExamples
     ∷ longOutputs
     ∷ codeExamples
     ∷ [])

@@ -12,11 +12,11 @@ use Rattle.search.specs.Replies.{Reply, answered}
 use Rattle.description.specs.Atoms.{atomCount}
 use Rattle.description.specs.declared.Law.{Law}
 use Rattle.written_form.specs.Writable.{Writable, draftWritten, AreNames, Distinct}
-use Rattle.text.specs.Lines.{keys, stateKey, actKey, endKey, firstLine}
+use Rattle.text.specs.Lines.{keys, noKey, stateKey, actKey, endKey, firstLine}
 use Rattle.text.specs.Lists.{Listed}
 use Rattle.description_reader.specs.LineSteps.{Draft}
 use Rattle.history_reader.specs.Histories.{marked, most, listed, listLine, stateLine, actLine, historyEnd, statesFrom, byNames, readHistory}
-use Rattle.written_form.specs.Writing.{lineText, listText, descriptionText}
+use Rattle.written_form.specs.Writing.{Form, lineText, listText, descriptionText}
 use Rattle.written_form.specs.HistoryWriting.{codesFrom, stepsText, valuesText}
 use Rattle.written_form.proofs.WrittenLines.{first-line}
 use Rattle.written_form.proofs.WrittenLists.{list-size, list-lacks-newline, list-read}
@@ -33,7 +33,7 @@ values-split n vs h =
 module _ (d : Draft) (m : ℕ) (are : AreNames (d .names)) (distinct : Distinct (d .names)) (size : length (d .names) ≡ d .fluents + m)
     (small : length (d .names) ≤ 32) where
   -- one line: the values of the places from low on, as many as there are of a sort
-  line-read : (key low high base l : ℕ) (p vs rest : List ℕ) (go : List ℕ → List ℕ → Reply (List ℕ)) → key < 10 → length p ≡ base + low
+  line-read : (key low high base l : ℕ) (p vs rest : List ℕ) (go : List ℕ → List ℕ → Reply (List ℕ)) → key < noKey → length p ≡ base + low
       → low ≤ high → high ≤ length (d .names) → Values vs
       → let ws = take (high - low) vs in
       listLine d key low high (firstLine (lineText key (listText (d .names) (codesFrom low ws)) ++ rest)) l base (p ++ replicate (length vs) 0) go
@@ -133,7 +133,7 @@ module _ (names : List (List ℕ)) (are : AreNames names) (n m : ℕ) (size : le
         length-append act rest,
       )
 
-module _ (lent T : ℕ) (fluents actions : List (List ℕ)) (ls : List Law) (w : Writable lent T fluents actions ls) (vs : List ℕ) (vals : Values vs) where
+module _ (lent T : ℕ) (fluents actions : List (List ℕ)) (forms : ℕ → Form) (ls : List Law) (w : Writable lent T fluents actions ls) (vs : List ℕ) (vals : Values vs) where
   pub history-size : length (valuesText T fluents actions vs) ≤ 40000
   unfolding valuesText
   history-size =
@@ -143,13 +143,13 @@ module _ (lent T : ℕ) (fluents actions : List (List ℕ)) (ls : List Law) (w :
 
   -- the values are read back from the history by the names of the description, whatever follows that
   pub history-written : length vs ≡ atomCount (length fluents) (length actions) T → (more : List ℕ) → length more ≤ 45535
-      → readHistory (descriptionText T fluents actions ls ++ more) (valuesText T fluents actions vs) (length vs) ≡ answered vs
+      → readHistory (descriptionText T fluents actions forms ls ++ more) (valuesText T fluents actions vs) (length vs) ≡ answered vs
   unfolding readHistory valuesText
   history-written count more few =
       let text = valuesText T fluents actions vs in
       let d = draftWritten T fluents actions ls in
       let names = length-append fluents actions in
       let width : length (fluents ++ actions) - length fluents ≡ length actions = omega arith in
-      ap (λ o. byNames o text (length vs)) (read-written 64 T fluents actions ls (any-lent lent 64 T fluents actions ls (w .few-laws) w) more few)
+      ap (λ o. byNames o text (length vs)) (read-written 64 T fluents actions forms ls (any-lent lent 64 T fluents actions ls (w .few-laws) w) more few)
       ∙ rw (width, ← count, eq-eqb (length vs) (length vs) refl, le-ltb 65535 (length text) (omega (arith, history-size)))
       (steps-read d (length actions) (w .are-names) (w .distinct) names (omega (arith, w .few-fluents, w .few-actions)) T 0 1 [] vs (omega arith) count vals)

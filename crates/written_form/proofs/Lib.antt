@@ -1,11 +1,15 @@
--- Both round trips.
+-- Both round trips, and the shorthand theorem.
 pub mod WrittenLines
 pub mod WrittenNames
 pub mod WrittenLists
 pub mod WrittenSteps
 pub mod Written
+pub mod WrittenForms
 pub mod WrittenSizes
+pub mod WrittenLaws
 pub mod RoundTrip
 pub mod Accepted
 pub mod WrittenValues
 pub mod HistoryTrip
+pub mod ReadLiterals
+pub mod Shorthand

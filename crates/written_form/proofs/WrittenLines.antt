@@ -15,7 +15,7 @@ use Rattle.search.specs.Search.{all, Each, first, range}
 use Rattle.search.proofs.Tests.{not-both, and₃-iff, all-each, each-map, each-append}
 use Rattle.search.proofs.Lists.{none-iff, each-range}
 use Rattle.text.specs.Bytes.{newline, equalsSign, cutAt, cut}
-use Rattle.text.specs.Lines.{keys, keyNumber, keyed, valued, ended, firstLine}
+use Rattle.text.specs.Lines.{keys, noKey, keyNumber, keyed, valued, ended, firstLine}
 use Rattle.written_form.specs.Writing.{lineText}
 
 -- no byte of a run is b
@@ -62,13 +62,13 @@ lacking b xs = all (λ x. not (eqb b x)) xs
 lacks : (b : ℕ) (xs : List ℕ) → lacking b xs ≡ true → Lacks b xs
 lacks b xs e = each-map (λ x t. not-true (eqb b x) t) xs (all-each (λ x. not (eqb b x)) xs .0 e)
 
--- each of the ten keys is found by its number, and has neither an equals sign nor a newline
+-- each of the keys is found by its number, and has neither an equals sign nor a newline
 abbrev goodKey : ℕ → Bool
 goodKey k =
     let key = getD keys k [] in
     answers k (keyNumber key) && lacking equalsSign key && lacking newline key
 
-good-keys : all goodKey (range 0 10) ≡ true
+good-keys : all goodKey (range 0 noKey) ≡ true
 unfolding keyNumber
 good-keys = refl
 
@@ -76,13 +76,13 @@ line-shape : (key value rest : List ℕ)
     → key ++ (equalsSign ∷ []) ++ value ++ (newline ∷ []) ++ rest ≡ (key ++ equalsSign ∷ value) ++ newline ∷ rest
 line-shape key value rest = simp append-assoc
 
-pub first-line : (k : ℕ) (value rest : List ℕ) → k < 10 → Lacks newline value
+pub first-line : (k : ℕ) (value rest : List ℕ) → k < noKey → Lacks newline value
     → firstLine (lineText k value ++ rest) ≡ some (record { key = k; value = value; rest = rest })
 unfolding firstLine
 first-line k value rest known clean =
     let key = getD keys k [] in
     let (found, no-equals, no-newline) =
-    and₃-iff (answers k (keyNumber key)) (lacking equalsSign key) (lacking newline key) .0 (passed-by goodKey 0 10 good-keys k (omega arith) (omega arith)) in
+    and₃-iff (answers k (keyNumber key)) (lacking equalsSign key) (lacking newline key) .0 (passed-by goodKey 0 noKey good-keys k (omega arith) (omega arith)) in
     ap (λ t. ended (cut newline t)) (line-shape key value rest)
     ∙ ap ended (cut-there newline (key ++ equalsSign ∷ value) rest (each-append _ key (equalsSign ∷ value) .1 (lacks newline key no-newline, (refl, clean))))
     ∙ ap (λ c. valued c rest) (cut-there equalsSign key value (lacks equalsSign key no-equals))

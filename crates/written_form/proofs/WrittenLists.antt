@@ -11,6 +11,7 @@ use Rattle.search.proofs.Tests.{each-map, each-append}
 use Rattle.description.proofs.Fits.{CodesBelow}
 use Rattle.written_form.specs.Writable.{AreNames, Distinct}
 use Rattle.text.specs.Bytes.{newline, comma, cut}
+use Rattle.text.specs.Names.{literal}
 use Rattle.text.specs.Lists.{codes, itemsCut, itemsIn, items, added, listFrom, listOf}
 use Rattle.written_form.specs.Writing.{literalText, listText}
 use Rattle.written_form.proofs.WrittenLines.{Lacks, cut-there, cut-nowhere}
@@ -21,6 +22,15 @@ items-of : (bs : List ℕ) → 1 ≤ length bs → items bs ≡ itemsIn (suc (le
 unfolding items
 items-of [] h = absurd (omega arith)
 items-of (b ∷ bs) h = refl
+
+-- a run without a comma is one item
+item-of : (k : ℕ) (bs : List ℕ) → Lacks comma bs → itemsIn (suc k) bs ≡ bs ∷ []
+item-of k bs lacks = ap (λ o. itemsCut bs o (λ back. itemsIn k back)) (cut-nowhere comma bs lacks)
+
+pub one-item : (names : List (List ℕ)) (low high : ℕ) (bs : List ℕ) → 1 ≤ length bs → Lacks comma bs
+    → listOf names low high 6 bs ≡ added [] (literal names low high bs) codes
+unfolding listOf
+one-item names low high bs long lacks = ap (listFrom names low high 6 []) (items-of bs long ∙ item-of (length bs) bs lacks)
 
 -- codes of the names from place low up to, not including, place high
 abbrev pub CodesIn : ℕ → ℕ → List ℕ → Type 0
@@ -54,9 +64,7 @@ module _ (names : List (List ℕ)) (are : AreNames names) where
 
   items-from : (k c : ℕ) (cs : List ℕ) → CodesBelow (2 * length names) (c ∷ cs) → length cs ≤ k
       → itemsIn (suc k) (listText names (c ∷ cs)) ≡ map (literalText names) (c ∷ cs)
-  items-from k c [] h enough =
-      ap (λ o. itemsCut (literalText names c) o (λ back. itemsIn k back))
-      (cut-nowhere comma (literalText names c) (literal-lacks names are comma refl refl c (h .0)))
+  items-from k c [] h enough = item-of k (literalText names c) (literal-lacks names are comma refl refl c (h .0))
   items-from zero c (d ∷ cs) h enough = absurd (omega arith)
   items-from (suc k) c (d ∷ cs) h enough =
       let rest = listText names (d ∷ cs) in

@@ -11,7 +11,7 @@ use borrow.Author.Tests.{le-leb, lt-ltb, eq-eqb, ne-eqb, eqb-true, eqb-false}
 use lib.Dec.{eqb}
 use lib.ListN.{length, getD}
 use Rattle.search.specs.Search.{Each, first}
-use Rattle.search.proofs.Tests.{not-both, each-map, each-at, each-append}
+use Rattle.search.proofs.Tests.{not-both, and-iff, each-map, each-at, each-append}
 use Rattle.search.proofs.Lists.{none-iff}
 use Rattle.description.specs.declared.Head.{Head}
 use Rattle.description.specs.declared.Head.the-variants.{Lit, False}
@@ -40,6 +40,14 @@ name-lacks b apart bs e =
 pub same-refl : (xs : List ℕ) → same xs xs ≡ true
 same-refl [] = refl
 same-refl (x ∷ xs) = rw (eq-eqb x x refl) (same-refl xs)
+
+pub same-equal : (xs ys : List ℕ) → same xs ys ≡ true → xs ≡ ys
+same-equal [] [] e = refl
+same-equal [] (y ∷ ys) e = absurd (not-both e refl)
+same-equal (x ∷ xs) [] e = absurd (not-both e refl)
+same-equal (x ∷ xs) (y ∷ ys) e =
+    let (here, later) = and-iff (eqb x y) (same xs ys) .0 e in
+    rw (eqb-true x y here, same-equal xs ys later)
 
 pub distinct-front : (xs ys : List (List ℕ)) → Distinct (xs ++ ys) → Distinct xs
 distinct-front [] ys d = tt

@@ -3,7 +3,7 @@
 use mathlib.Core.Path.{_≡_}
 use mathlib.Core.Bool.{Bool, true, false, cond}
 use mathlib.Core.List.{List, [], _∷_, _++_}
-use Prim.Native.Nat.{ℕ, _+_, _*_, _/_, _%_, _≤_}
+use Prim.Native.Nat.{ℕ, suc, _+_, _*_, _/_, _%_, _≤_}
 use native.Mathlib.Omega.{arith}
 use lib.Dec.{ltb}
 use lib.ListN.{length, getD, length-append}
@@ -17,15 +17,18 @@ use Rattle.description.specs.declared.Law.{Law}
 use Rattle.description.specs.Laws.{ifList, afterList}
 use Rattle.description.proofs.Fits.{HeadBelow}
 use Rattle.reader_bounds.specs.Accepts.{aftersOf}
-use Rattle.written_form.specs.Writable.{lawLines, lawsLines, linesWritten, Writable, AreNames}
+use Rattle.written_form.specs.Writable.{formLines, lawsLines, linesWritten, Writable, AreNames}
 use Rattle.text.specs.Bytes.{newline, equalsSign}
 use Rattle.text.specs.Lines.{keys, horizonKey, fluentKey, actionKey, staticKey, dynamicKey, ifKey, afterKey, endKey}
+use Rattle.text.specs.Lines.{defaultKey, inertialKey, causesKey, byKey, nonexecutableKey}
 use Rattle.text.specs.Names.{isName}
-use Rattle.written_form.specs.Writing.{lineText, horizonText, listText, headText, lawText, lawsText, namesText, descriptionText}
+use Rattle.written_form.specs.Writing.{Form, inFull, asDefault, asInertial, asCauses, asNonexecutable, hasForm, writtenAs}
+use Rattle.written_form.specs.Writing.{lineText, horizonText, listText, headText, fullText, formText, lawText, lawsText, namesText, descriptionText}
 use Rattle.written_form.proofs.WrittenNames.{literal-size}
 use Rattle.text.proofs.Spelling.{named}
 use Rattle.written_form.proofs.WrittenLists.{list-size}
 use Rattle.written_form.proofs.Written.{Bounded, written-laws}
+use Rattle.written_form.proofs.WrittenForms.{form-had, causes-dynamic, nonexecutable-dynamic, dynamic-afters}
 
 pub line-size : (k : ℕ) (value : List ℕ) → length (lineText k value) ≡ length (getD keys k []) + length value + 2
 line-size k value =
@@ -54,9 +57,9 @@ module _ (names : List (List ℕ)) (are : AreNames names) (n : ℕ) (held : n �
   head-size (Lit c) below = literal-size names are c (omega arith) .1
   head-size False below = omega arith
 
-  law-size : (l : Law) → Bounded n (length names) l
-      → (lawLines (l .kind) ≤ length (lawText names (l .kind) l)) × (length (lawText names (l .kind) l) ≤ 256)
-  law-size l b = go (l .kind) (list-size names are (aftersOf (l .kind) l) (b .afters)) (b .few-afters)
+  full-size : (l : Law) → Bounded n (length names) l
+      → (formLines inFull (l .kind) ≤ length (fullText names (l .kind) l)) × (length (fullText names (l .kind) l) ≤ 256)
+  full-size l b = go (l .kind) (list-size names are (aftersOf (l .kind) l) (b .afters)) (b .few-afters)
     where
       head : length (headText names (l .head)) ≤ 17
       head = head-size (l .head) (b .head)
@@ -67,7 +70,7 @@ module _ (names : List (List ℕ)) (are : AreNames names) (n : ℕ) (held : n �
       go : (k : Kind)
           → (length (aftersOf k l) ≤ length (listText names (aftersOf k l))) × (length (listText names (aftersOf k l)) ≤ 18 * length (aftersOf k l))
           → length (aftersOf k l) ≤ 6
-          → (lawLines k ≤ length (lawText names k l)) × (length (lawText names k l) ≤ 256)
+          → (formLines inFull k ≤ length (fullText names k l)) × (length (fullText names k l) ≤ 256)
       go Static afters few =
           omega (
             arith,
@@ -94,11 +97,38 @@ module _ (names : List (List ℕ)) (are : AreNames names) (n : ℕ) (held : n �
             length-append front middle,
           )
 
-  laws-size : (ls : List Law) → Each (Bounded n (length names)) ls
-      → (lawsLines ls ≤ length (lawsText names ls)) × (length (lawsText names ls) ≤ 256 * length ls)
-  laws-size [] b = omega arith
-  laws-size (l ∷ ls) b =
-      omega (arith, law-size l (b .0), laws-size ls (b .1), length-append (lawText names (l .kind) l) (lawsText names ls))
+  -- a short law is no longer than one in full may be
+  form-size : (form : Form) (l : Law) → Bounded n (length names) l → hasForm form l ≡ true
+      → (formLines form (l .kind) ≤ length (formText names form l)) × (length (formText names form l) ≤ 256)
+  form-size inFull l b has = full-size l b
+  form-size asDefault l b has = omega (arith, head-size (l .head) (b .head), line-size defaultKey (headText names (l .head)))
+  form-size asInertial l b has = omega (arith, head-size (l .head) (b .head), line-size inertialKey (headText names (l .head)))
+  form-size asCauses l b has =
+      let (below, few) = dynamic-afters n (length names) l b (causes-dynamic l has) in
+      let front = lineText causesKey (headText names (l .head)) in
+      let back = lineText byKey (listText names (afterList l)) in
+      omega (
+        arith,
+        head-size (l .head) (b .head),
+        list-size names are (afterList l) below .1,
+        line-size causesKey (headText names (l .head)),
+        line-size byKey (listText names (afterList l)),
+        length-append front back,
+      )
+  form-size asNonexecutable l b has =
+      let (below, few) = dynamic-afters n (length names) l b (nonexecutable-dynamic l has) in
+      omega (arith, list-size names are (afterList l) below .1, line-size nonexecutableKey (listText names (afterList l)))
+
+  laws-size : (forms : ℕ → Form) (i : ℕ) (ls : List Law) → Each (Bounded n (length names)) ls
+      → (lawsLines forms i ls ≤ length (lawsText names forms i ls)) × (length (lawsText names forms i ls) ≤ 256 * length ls)
+  laws-size forms i [] b = omega arith
+  laws-size forms i (l ∷ ls) b =
+      omega (
+        arith,
+        form-size (writtenAs (forms i) l) l (b .0) (form-had (forms i) l),
+        laws-size forms (suc i) ls (b .1),
+        length-append (lawText names (forms i) l) (lawsText names forms (suc i) ls),
+      )
 
 horizon-size : (k : ℕ) → length (horizonText k) ≤ 2
 horizon-size k = go (ltb k 10)
@@ -107,17 +137,17 @@ horizon-size k = go (ltb k 10)
     go true = omega arith
     go false = omega arith
 
-pub description-size : (lent T : ℕ) (fluents actions : List (List ℕ)) (ls : List Law) → Writable lent T fluents actions ls
-    → (linesWritten fluents actions ls ≤ length (descriptionText T fluents actions ls)) × (length (descriptionText T fluents actions ls) ≤ 20000)
+pub description-size : (lent T : ℕ) (fluents actions : List (List ℕ)) (forms : ℕ → Form) (ls : List Law) → Writable lent T fluents actions ls
+    → (linesWritten fluents actions forms ls ≤ length (descriptionText T fluents actions forms ls)) × (length (descriptionText T fluents actions forms ls) ≤ 20000)
 unfolding descriptionText
-description-size lent T fluents actions ls w =
+description-size lent T fluents actions forms ls w =
     let names = fluents ++ actions in
     let (are-fluents, are-actions) = each-append (λ x. isName x ≡ true) fluents actions .0 (w .are-names) in
     let size = length-append fluents actions in
     let top = lineText horizonKey (horizonText T) in
     let first = top ++ namesText fluentKey fluents in
     let declared = first ++ namesText actionKey actions in
-    let body = declared ++ lawsText names ls in
+    let body = declared ++ lawsText names forms 0 ls in
     omega (
       arith,
       w,
@@ -125,9 +155,9 @@ description-size lent T fluents actions ls w =
       horizon-size T,
       names-size fluentKey fluents (omega arith) are-fluents,
       names-size actionKey actions (omega arith) are-actions,
-      laws-size names (w .are-names) (length fluents) (omega arith) ls (written-laws lent T fluents actions ls w),
+      laws-size names (w .are-names) (length fluents) (omega arith) forms 0 ls (written-laws lent T fluents actions ls w),
       length-append body (lineText endKey []),
-      length-append declared (lawsText names ls),
+      length-append declared (lawsText names forms 0 ls),
       length-append first (namesText actionKey actions),
       length-append top (namesText fluentKey fluents),
     )

@@ -1,4 +1,5 @@
--- The text that is written for a description and for a history.
+-- The text that is written for a description and for a history, and what short laws stand for.
 pub mod Writing
 pub mod Writable
 pub mod HistoryWriting
+pub mod Shorthand

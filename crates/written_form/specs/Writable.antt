@@ -3,7 +3,7 @@
 use mathlib.Core.Path.{_≡_}
 use mathlib.Core.Bool.{true, false}
 use mathlib.Core.List.{List, [], _∷_, _++_}
-use Prim.Native.Nat.{ℕ, _+_, _≤_}
+use Prim.Native.Nat.{ℕ, suc, _+_, _≤_}
 use lib.ListN.{length}
 use Rattle.search.specs.Search.{Each}
 use Rattle.description.specs.declared.Kind.{Kind}
@@ -14,6 +14,7 @@ use Rattle.text.specs.Bytes.{same}
 use Rattle.text.specs.Names.{isName}
 use Rattle.description_reader.specs.LineSteps.{Draft}
 use Rattle.reader_bounds.specs.Accepts.{Tidy}
+use Rattle.written_form.specs.Writing.{Form, inFull, asDefault, asInertial, asCauses, asNonexecutable, writtenAs}
 
 abbrev pub AreNames : List (List ℕ) → Type 0
 AreNames xs = Each (λ x. isName x ≡ true) xs
@@ -36,17 +37,24 @@ pub record Writable (lent T : ℕ) (fluents actions : List (List ℕ)) (ls : Lis
   pub laws-fit : Each (λ l. lawFits (length fluents) (length actions) l ≡ true) ls
   pub laws-tidy : Each Tidy ls
 
--- how many lines are written
-abbrev pub lawLines : Kind → ℕ
-lawLines Static = 2
-lawLines Dynamic = 3
+-- how many lines are written, by the form
+abbrev pub formLines : Form → Kind → ℕ
+formLines inFull Static = 2
+formLines inFull Dynamic = 3
+formLines asDefault kind = 1
+formLines asInertial kind = 1
+formLines asCauses kind = 2
+formLines asNonexecutable kind = 1
 
-abbrev pub lawsLines : List Law → ℕ
-lawsLines [] = 0
-lawsLines (l ∷ ls) = lawLines (l .kind) + lawsLines ls
+abbrev pub lawLines : Form → Law → ℕ
+lawLines form l = formLines (writtenAs form l) (l .kind)
 
-abbrev pub linesWritten : List (List ℕ) → List (List ℕ) → List Law → ℕ
-linesWritten fluents actions ls = 1 + length fluents + length actions + lawsLines ls + 1
+abbrev pub lawsLines : (ℕ → Form) → ℕ → List Law → ℕ
+lawsLines forms i [] = 0
+lawsLines forms i (l ∷ ls) = lawLines (forms i) l + lawsLines forms (suc i) ls
+
+abbrev pub linesWritten : List (List ℕ) → List (List ℕ) → (ℕ → Form) → List Law → ℕ
+linesWritten fluents actions forms ls = 1 + length fluents + length actions + lawsLines forms 0 ls + 1
 
 abbrev pub draft : ℕ → ℕ → List (List ℕ) → List Law → Draft
 draft T fluents names laws = record { horizon = T; fluents = fluents; names = names; laws = laws }

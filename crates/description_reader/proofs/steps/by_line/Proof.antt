@@ -3,13 +3,14 @@
 use mathlib.Core.Path.{_∙_, ap}
 use Rattle.description_reader.specs.LineSteps.{next, lawDue, whole}
 use Rattle.description_reader.specs.Internal.{draftOf}
-use Rattle.description_reader.proofs.Stepping.{law-by}
+use Rattle.description.specs.declared.Kind.the-variants.{Dynamic}
+use Rattle.line_values.specs.Internal.{noPlaces, lawWith}
 use borrow.Author.Needs.{needs}
 use Rattle.description_reader.proofs.steps.by_line.Statement.{statement}
 use Rattle.description_reader.proofs.steps.by_line.Tie as tie
 
-cast-causes-law : tie.Need-cast-causes-law
-cast-causes-law c = search needs
+places-requires : tie.Need-places-requires
+places-requires c κs = search needs
 
 causes-law-requires : tie.Need-causes-law-requires
 causes-law-requires c κs = search needs
@@ -19,11 +20,11 @@ whole-law-requires c κs = search needs
 
 returns : tie.Need-returns
 returns c =
-    let a = c .before .before .before .before .before in (
+    let a = c .before .before .before .before in (
       λ text. c .whole-law .ensures .0 text
-          ∙ ap (λ l. next lawDue (whole (draftOf text (a .args .state .reading)) l)) (c .before .causes-law .ensures ∙ law-by (a .args .list) (a .pre .2) (a .args .state .law .head)),
+          ∙ ap (λ l. next lawDue (whole (draftOf text (a .args .state .reading)) l)) (c .before .causes-law .ensures ∙ ap (lawWith Dynamic (a .args .state .law .head) noPlaces) (c .before .before .places .ensures)),
       c .whole-law .ensures .1,
     )
 
 pub by-line-spec : {M : Type 1} → statement M
-by-line-spec = tie.close (tie.spec cast-causes-law causes-law-requires whole-law-requires returns)
+by-line-spec = tie.close (tie.spec places-requires causes-law-requires whole-law-requires returns)

@@ -2,14 +2,14 @@
 -- Assumes nothing.
 use native.Mathlib.Omega.{arith}
 use mathlib.Core.Path.{_≡_, sym, _∙_}
-use mathlib.Core.Bool.{true}
+use mathlib.Core.Bool.{true, cond}
 use mathlib.Core.Option.{Option}
 use Prim.Native.Nat.{ℕ}
 use Rattle.search.proofs.Loops.{at-place, no-place}
 use Rattle.text.specs.Names.{literal}
 use Rattle.text.specs.Internal.{spelled}
 use Rattle.text.proofs.Spelling.{literal-small}
-use Rattle.line_values.specs.ShortLaws.{literalLaw}
+use Rattle.line_values.specs.ShortLaws.{defaultLaw, inertialLaw}
 use Rattle.description_reader.specs.LineSteps.{Draft, roomFor}
 use Rattle.description_reader.specs.Internal.{draftOf}
 use Rattle.description_reader.proofs.Stepping.{room-here, room-64, refused-some, literal-unknown, literal-full, literal-room, literal-whole}
@@ -57,7 +57,7 @@ returns c =
     let h = l .before in
     let a = start h .args in (
       c .refused .ensures .0 (a .text .now)
-          ∙ literal-unknown (draft-at h) (a .lent) (h .has-room .result) (room h) (literalLaw (a .kind)) (a .value .now) _
+          ∙ literal-unknown (draft-at h) (a .lent) (h .has-room .result) (room h) (cond (a .inertial) inertialLaw defaultLaw) (a .value .now) _
           (no-place {found = literal-at h} (l .literal .ensures) (c .before .before .enum-told .given .1)) (c .before .refusal .ensures),
       c .refused .ensures .1,
     )
@@ -73,7 +73,7 @@ returns-2 c =
     let h = c .before .before .before .before .before .before .before in
     let a = start h .args in (
       c .refused2 .ensures .0 (a .text .now)
-          ∙ literal-full (draft-at h) (a .lent) (h .has-room .result) (room h) (literalLaw (a .kind)) (a .value .now) _ (c .before .before .refusal2 .ensures) (c .before .if1 .taken),
+          ∙ literal-full (draft-at h) (a .lent) (h .has-room .result) (room h) (cond (a .inertial) inertialLaw defaultLaw) (a .value .now) _ (c .before .before .refusal2 .ensures) (c .before .if1 .taken),
       c .refused2 .ensures .1,
     )
 
@@ -108,7 +108,7 @@ returns-3 c =
     let h = l .before in
     let a = start h .args in (
       c .whole-law .ensures .0 (a .text .now)
-          ∙ literal-whole (draft-at h) (a .lent) (h .has-room .result) (room h) (literalLaw (a .kind)) (a .value .now) _ _ (has e)
+          ∙ literal-whole (draft-at h) (a .lent) (h .has-room .result) (room h) (cond (a .inertial) inertialLaw defaultLaw) (a .value .now) _ _ (has e)
           (at-place {found = literal-at h} (l .literal .ensures) (e .before .before .before .code .given .1)) (c .before .literal-law .ensures),
       c .whole-law .ensures .1,
     )

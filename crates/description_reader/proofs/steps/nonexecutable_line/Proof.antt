@@ -1,6 +1,6 @@
 -- `steps::nonexecutable_line` meets its contract: there is no room for the law, or it is whole.
 -- Assumes nothing.
-use mathlib.Core.Path.{_≡_, sym, _∙_}
+use mathlib.Core.Path.{_≡_, sym, _∙_, ap}
 use mathlib.Core.List.{List}
 use mathlib.Core.Bool.{true}
 use Prim.Native.Nat.{ℕ}
@@ -8,9 +8,11 @@ use borrow.Author.Tests.{not-true, not-false}
 use lib.ListN.{take}
 use Rattle.text.specs.Lists.{codes}
 use Rattle.description.specs.declared.Head.the-variants.{False}
+use Rattle.description.specs.declared.Kind.the-variants.{Dynamic}
+use Rattle.line_values.specs.Internal.{noPlaces, lawWith}
 use Rattle.description_reader.specs.LineSteps.{roomFor}
 use Rattle.description_reader.specs.Internal.{draftOf}
-use Rattle.description_reader.proofs.Stepping.{law-by, room-here, room-64, list-full, list-whole}
+use Rattle.description_reader.proofs.Stepping.{room-here, room-64, list-full, list-whole}
 use borrow.Author.Needs.{needs}
 use Rattle.description_reader.proofs.steps.nonexecutable_line.Statement.{statement}
 use Rattle.description_reader.proofs.steps.nonexecutable_line.Tie as tie
@@ -33,8 +35,8 @@ returns c =
       c .refused .ensures .1,
     )
 
-cast-nonexecutable-law : tie.Need-cast-nonexecutable-law
-cast-nonexecutable-law c = search needs
+places-requires : tie.Need-places-requires
+places-requires c κs = search needs
 
 nonexecutable-law-requires : tie.Need-nonexecutable-law-requires
 nonexecutable-law-requires c κs = search needs
@@ -45,18 +47,18 @@ has c = not-false (c .before .has-room .result) (c .if1 .left)
 
 whole-law-requires : tie.Need-whole-law-requires
 whole-law-requires c κs =
-    let e = c .before .before .before in
+    let e = c .before .before in
     let a = e .before .before .before .before in
     (room-64 (a .args .state .reading .run .count) (a .args .lent) (sym (e .before .has-room .ensures) ∙ has e), a .pre .0)
 
 returns-2 : tie.Need-returns-2
 returns-2 c =
-    let e = c .before .before .before .before in
+    let e = c .before .before .before in
     let h = e .before in
     let a = h .before .before .before in (
       λ text. c .whole-law .ensures .0 text
           ∙ list-whole (draftOf text (a .args .state .reading)) (a .args .lent) (h .has-room .result) (room h text) (take (a .args .list .count) (a .args .list .codes)) _ (has e)
-          (c .before .nonexecutable-law .ensures ∙ law-by (a .args .list) (a .pre .1) False),
+          (c .before .nonexecutable-law .ensures ∙ ap (lawWith Dynamic False noPlaces) (c .before .before .places .ensures)),
       c .whole-law .ensures .1,
     )
 
@@ -67,7 +69,7 @@ nonexecutable-line-spec =
     has-room-requires
     refused-requires
     returns
-    cast-nonexecutable-law
+    places-requires
     nonexecutable-law-requires
     whole-law-requires
     returns-2)

@@ -1,0 +1,27 @@
+-- The worked examples of the short laws hold.
+-- Assumes nothing.
+use mathlib.Core.Path.{refl}
+use Rattle.search.specs.Search.{Each}
+use Rattle.text.specs.Bytes.{cut}
+use Rattle.text.specs.Lines.{keyNumber, firstLine}
+use Rattle.text.specs.Names.{isName, literal}
+use Rattle.text.specs.Lists.{items, listOf}
+use Rattle.line_values.specs.HorizonText.{horizonOf}
+use Rattle.description_reader.specs.LineSteps.{headOf, lineStep}
+use Rattle.description_reader.specs.Descriptions.{described}
+use Rattle.shown_names.specs.Shown.{shownFluent}
+use Rattle.history_reader.specs.Histories.{readHistory}
+use Rattle.rule_words.specs.RuleForms.{complement}
+use Rattle.translation.specs.Rules.{translation}
+use Rattle.written_form.specs.Writing.{descriptionText}
+use Rattle.worked_examples.specs.Examples.{Holds}
+use Rattle.worked_examples.specs.Short.{shortRecipeExamples, shortExamples}
+use Rattle.worked_examples.proofs.WorkedTexts.{recipe-writable}
+
+pub short-recipe : Each Holds shortRecipeExamples
+unfolding cut keyNumber firstLine isName literal items listOf horizonOf headOf lineStep described readHistory shownFluent complement translation descriptionText
+short-recipe = (refl, (refl, (refl, (refl, ((refl, recipe-writable), tt)))))
+
+pub short-examples : Each Holds shortExamples
+unfolding cut keyNumber firstLine isName literal items listOf horizonOf headOf lineStep described
+short-examples = (refl, (refl, (refl, (refl, (refl, (refl, (refl, (refl, (refl, (refl, (refl, (refl, (refl, (refl, (refl, (refl, (refl, (refl, (refl, (refl, (refl, (refl, (refl, (refl, (refl, (refl, (refl, (refl, (refl, (refl, (refl, (refl, (refl, (refl, (refl, (refl, (refl, (refl, (refl, (refl, (refl, (refl, (refl, (refl, (refl, (refl, (refl, (refl, tt))))))))))))))))))))))))))))))))))))))))))))))))

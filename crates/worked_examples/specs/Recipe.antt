@@ -1,0 +1,18 @@
+-- What the description reader is left with of 01's full recipe.
+-- Assumes nothing.
+use mathlib.Core.List.{List, [], _∷_, _++_}
+use Prim.Native.Nat.{ℕ}
+use Rattle.description.specs.Examples.{recipeLaws}
+use Rattle.description_reader.specs.LineSteps.{Draft}
+
+-- locked, flowed
+abbrev pub recipeFluents : List (List ℕ)
+recipeFluents = (108 ∷ 111 ∷ 99 ∷ 107 ∷ 101 ∷ 100 ∷ []) ∷ (102 ∷ 108 ∷ 111 ∷ 119 ∷ 101 ∷ 100 ∷ []) ∷ []
+
+-- reflow
+abbrev pub recipeActions : List (List ℕ)
+recipeActions = (114 ∷ 101 ∷ 102 ∷ 108 ∷ 111 ∷ 119 ∷ []) ∷ []
+
+-- what the description reader is left with
+abbrev pub recipeDraft : Draft
+recipeDraft = record { horizon = 1; fluents = 2; names = recipeFluents ++ recipeActions; laws = recipeLaws }
