@@ -21,7 +21,7 @@ use Rattle.text.specs.Names.{falseBytes, isName, absent, declaredAt, isNew, lit
 use Rattle.text.specs.Lists as lists
 use Rattle.text.specs.Lists.{Listed, codes, items, added, listOf}
 use Rattle.line_values.specs.HorizonText.{horizonOf}
-use Rattle.line_values.specs.ShortLaws.{defaultLaw, inertialLaw, causesLaw, nonexecutableLaw, literalLaw}
+use Rattle.line_values.specs.ShortLaws.{defaultLaw, inertialLaw, causesLaw, nonexecutableLaw}
 use Rattle.description_reader.specs.LineSteps.{Due, fluentDue, actionDue, lawDue, ifDue, byDue, Draft, startsLaw, allowed, Step, refused, next, finish, horizonLine, nameLine}
 use Rattle.description_reader.specs.LineSteps.{headOf, begun, roomFor, whole, withIf, ifLine, afterLine, wholeByLiteral, wholeByList, endLine, lawIn, fluentList, anyList, lineStep}
 use Rattle.description_reader.specs.Descriptions.{described}
@@ -34,6 +34,11 @@ use Rattle.written_form.proofs.WrittenLists.{one-item}
 use Rattle.written_form.proofs.WrittenSteps.{if-step, after-step, starts}
 use Rattle.written_form.proofs.ReadLiterals.{literal-item}
 use Rattle.written_form.proofs.RoundTrip.{read-written}
+
+-- the short law of a literal, by the kind of its long lines
+abbrev literalLaw : Kind → ℕ → Law
+literalLaw Static c = defaultLaw c
+literalLaw Dynamic c = inertialLaw c
 
 -- a law's first line where the key may stand and there is a place for a law: 2, then 5
 abbrev tested : Bool → Bool → Step → Step

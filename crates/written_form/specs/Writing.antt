@@ -1,4 +1,4 @@
--- Writing a description: the text that 01's "Text" gives for its names, horizon and laws.
+-- Writing a description: the text that 01's "Text" and 02, §1, give for its names, horizon and laws.
 -- Assumes nothing.
 use mathlib.Core.Bool.{Bool, true, false, not, cond, _&&_}
 use mathlib.Core.List.{List, [], _∷_, _++_}
