@@ -59,24 +59,16 @@ pub fn new_law(kind: Kind, head: Head) -> Law
 pub fn default_law(code: u8) -> Law
     ensures { λ r. ⌜ r ≡ defaultLaw code ⌝ }
 {
-    law_with(
-        Kind::Static,
-        Head::Lit(code),
-        alone(true, code),
-        alone(false, code),
-    )
+    let head = Head::Lit(code);
+    law_with(Kind::Static, head, alone(true, code), alone(false, code))
 }
 
 // The law of `inertial`.
 pub fn inertial_law(code: u8) -> Law
     ensures { λ r. ⌜ r ≡ inertialLaw code ⌝ }
 {
-    law_with(
-        Kind::Dynamic,
-        Head::Lit(code),
-        alone(true, code),
-        alone(true, code),
-    )
+    let head = Head::Lit(code);
+    law_with(Kind::Dynamic, head, alone(true, code), alone(true, code))
 }
 
 // The law of `causes` and `by`.
