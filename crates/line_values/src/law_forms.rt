@@ -52,7 +52,14 @@ fn law_with(kind: Kind, head: Head, ifs: Places, afters: Places) -> Law
 pub fn new_law(kind: Kind, head: Head) -> Law
     ensures { λ r. ⌜ r ≡ lawOf kind head [] [] ⌝ }
 {
-    law_with(kind, head, alone(false, 0), alone(false, 0))
+    Law {
+        kind,
+        head,
+        if_count: 0,
+        if_codes: [0; 6],
+        after_count: 0,
+        after_codes: [0; 6],
+    }
 }
 
 // The law of `default`.
@@ -82,5 +89,5 @@ pub fn causes_law(head: Head, afters: Places) -> Law
 pub fn nonexecutable_law(afters: Places) -> Law
     ensures { λ r. ⌜ r ≡ lawWith Dynamic False noPlaces afters ⌝ }
 {
-    law_with(Kind::Dynamic, Head::False, alone(false, 0), afters)
+    causes_law(Head::False, afters)
 }
