@@ -32,7 +32,7 @@ pub(crate) fn with_item(list: Codes, code: Found) -> Codes
 {
     let count = list.count;
     let mut codes = list.codes;
-    let seventh = 6 <= count;
+    let seventh = orders::list_is_full(count);
     let Found::At(c) = code else {
         return Codes {
             codes,

@@ -10,6 +10,7 @@ use description::Head;
 use description::Kind;
 use description::Law;
 use line_values::law_forms;
+use line_values::orders;
 use text::lines;
 use text::lists;
 use text::names::Names;
@@ -134,7 +135,7 @@ fn read_lines(text: &[u8], laws: [Law; 64], lent: usize) -> Ending
         }
         state = steps::line_step(text, from, list, l.key, gathered, state, lent);
         at = l.next;
-        if states::stops(state) {
+        if orders::stops(state.refused, state.ended) {
             break 'lines;
         }
         line += 1;

@@ -5,7 +5,6 @@ use text::lines;
 use text::names::Names;
 ghost use mathlib.Core.Path.{_≡_};
 ghost use Prim.Native.Nat.{min};
-ghost use mathlib.Core.Bool.{_||_};
 ghost use lib.Dec.{ltb};
 ghost use Rattle.description.specs.declared.Law.{Law};
 ghost use Rattle.description_reader.specs.LineSteps.{lawDue, startsLaw, allowed};
@@ -110,14 +109,4 @@ pub(crate) fn is_allowed(due: Due, key: usize) -> bool
         Due::After => key == lines::AFTER,
         Due::By => key == lines::BY,
     }
-}
-
-// Whether the reader stops: a line was refused, or it was the end line.
-pub(crate) fn stops(state: State) -> bool
-    ensures { λ r. ⌜ r ≡ (ltb 0 (state .refused) || state .ended) ⌝ }
-{
-    if 0 < state.refused {
-        return true;
-    }
-    state.ended
 }

@@ -15,6 +15,9 @@ use Rattle.description_reader.proofs.codes.with_item.Tie as tie
 places : (a : tie.Start) → length (a .args .list .codes) ≡ 6
 places a = sym (length-map (a .args .list .codes) (λ v. v)) ∙ a .good .0 .1 .1 .0 .1 .0 .1
 
+list-is-full-requires : tie.Need-list-is-full-requires
+list-is-full-requires c κs = search needs
+
 enum-known-code : tie.Need-enum-known-code
 enum-known-code c = search needs
 
@@ -26,11 +29,13 @@ refusal-requires c κs = search needs
 
 returns : tie.Need-returns
 returns c =
-    let a = c .before .before .before .before in
+    let f = c .before .before .before in
+    let a = f .before .before in
     let cs = a .args .list .codes in
-    let n = a .args .list .count in (
-      rw (c .before .enum-told .given .1) (item-unknown cs n (places a) (c .refusal .result) (c .refusal .ensures)),
-      λ e. absurd (omega (arith, unknown-refused cs n (places a) (c .refusal .result) (c .refusal .ensures))),
+    let n = a .args .list .count in
+    let said = rw (f .list-is-full .ensures) at (c .refusal .ensures) in (
+      rw (c .before .enum-told .given .1) (item-unknown cs n (places a) (c .refusal .result) said),
+      λ e. absurd (omega (arith, unknown-refused cs n (places a) (c .refusal .result) said)),
     )
 
 refusal-requires-2 : tie.Need-refusal-requires-2
@@ -38,23 +43,26 @@ refusal-requires-2 c κs = search needs
 
 returns-2 : tie.Need-returns-2
 returns-2 c =
-    let a = c .before .before .before .before .before .before in
+    let f = c .before .before .before .before .before in
+    let a = f .before .before in
     let r = c .before .refusal2 in
-    (item-seventh (a .args .list .codes) (a .args .list .count) (places a) (r .result) (r .ensures) (c .if1 .taken) _, λ e. absurd (omega arith))
+    (item-seventh (a .args .list .codes) (a .args .list .count) (places a) (r .result) (rw (f .list-is-full .ensures) at (r .ensures)) (c .if1 .taken) _, λ e. absurd (omega arith))
 
 cast-codes : tie.Need-cast-codes
 cast-codes c =
-    let a = c .before .before .before .before .before .before in
+    let a = c .before .before .before .before .before .before .before in
     omega (arith, rw (ap placeOf (c .before .before .before .code .given .1)) at (a .pre .1))
 
 -- the item has a place
-room : (c : tie.Else1) → c .before .before .before .before .before .before .args .list .count < 6
+room : (c : tie.Else1) → c .before .before .before .before .before .before .before .args .list .count < 6
 room c =
-    let a = c .before .before .before .before .before .before in
-    item-room (a .args .list .codes) (a .args .list .count) (places a) (c .before .refusal2 .result) (c .before .refusal2 .ensures) (c .if1 .left)
+    let f = c .before .before .before .before .before in
+    let a = f .before .before in
+    let r = c .before .refusal2 in
+    item-room (a .args .list .codes) (a .args .list .count) (places a) (r .result) (rw (f .list-is-full .ensures) at (r .ensures)) (c .if1 .left)
 
 array-write-codes : tie.Need-array-write-codes
-array-write-codes c = omega (arith, room c, places (c .before .before .before .before .before .before))
+array-write-codes c = omega (arith, room c, places (c .before .before .before .before .before .before .before))
 
 add-t16 : tie.Need-add-t16
 add-t16 c = search needs
@@ -62,7 +70,7 @@ add-t16 c = search needs
 returns-3 : tie.Need-returns-3
 unfolding listedOf
 returns-3 c =
-    let a = c .before .before .before .before .before .before in
+    let a = c .before .before .before .before .before .before .before in
     let cs = a .args .list .codes in
     let n = a .args .list .count in
     let h = room c in (
@@ -74,6 +82,7 @@ pub with-item-spec : {M : Type 1} → statement M
 with-item-spec =
     tie.close
     (tie.spec
+    list-is-full-requires
     enum-known-code
     enum-told
     refusal-requires
