@@ -9,8 +9,7 @@ use native.Mathlib.Nat.{mul-le-mul-left}
 use native.Mathlib.Omega.{arith}
 use borrow.Author.Tests.{eq-eqb, ne-eqb, lt-ltb, ltb-true, ltb-false}
 use lib.Dec.{eqb, ltb}
-use lib.ListN.{length, getD, take, set, length-take}
-use lib.Seq.{take-set-lt, take-set-le, set-out, getD-take}
+use lib.ListN.{length, getD, set}
 use Rattle.search.specs.Replies.{Reply, refused, answered}
 use Rattle.text.specs.Lines.{noKey, Line, keyed, firstLine}
 use Rattle.text.specs.Internal.{keyIn, itemAt, nextAt, itemsAt}
@@ -19,7 +18,8 @@ use Rattle.text.specs.Lists as lists
 use Rattle.text.specs.Lists.{Listed, codes, items, listFrom, listOf}
 use Rattle.text.specs.Names.{literal}
 use Rattle.description_reader.specs.LineSteps.{Draft}
-use Rattle.history_reader.specs.Histories.{withTrue, withFalse, marked, historyEnd, listed, listLine, actLine, most, statesFrom}
+use Rattle.history_values.specs.Values.{withTrue, withFalse, marked}
+use Rattle.history_reader.specs.Histories.{historyEnd, listed, listLine, undoneFalse, actLine, most, statesFrom}
 use Rattle.history_reader.specs.Internal.{recordFrom, isState, keyAt, placeFrom}
 
 -- one literal after others
@@ -27,25 +27,6 @@ pub marked-more : (base : ℕ) (vs : List ℕ) (done : List ℕ) (c : ℕ) → m
 marked-more base vs [] c = refl
 marked-more base vs (x ∷ done) c =
     marked-more base (set vs (base + x / 2) (cond (eqb (x % 2) 0) (withTrue (getD vs (base + x / 2) 0)) (withFalse (getD vs (base + x / 2) 0)))) done c
-
--- the first n values of an array
-module _ (xs : List ℕ) (n base c : ℕ) where
-  marked-by : (b : Bool) → ltb (base + c / 2) n ≡ b
-      → take n (set xs (base + c / 2) (cond (eqb (c % 2) 0) (withTrue (getD xs (base + c / 2) 0)) (withFalse (getD xs (base + c / 2) 0))))
-      ≡ marked base (take n xs) (c ∷ [])
-  marked-by true e =
-      let h : base + c / 2 < n = ltb-true (base + c / 2) n e in
-      rw (getD-take n xs (base + c / 2) 0 h) (take-set-lt n xs (base + c / 2) _ h)
-  marked-by false e =
-      let h : n ≤ base + c / 2 = ltb-false (base + c / 2) n e in
-      take-set-le n xs (base + c / 2) _ h ∙ sym (set-out (take n xs) (base + c / 2) _ (omega (arith, length-take n xs)))
-
-  pub marked-inside : take n (set xs (base + c / 2) (cond (eqb (c % 2) 0) (withTrue (getD xs (base + c / 2) 0)) (withFalse (getD xs (base + c / 2) 0))))
-      ≡ marked base (take n xs) (c ∷ [])
-  marked-inside = marked-by (ltb (base + c / 2) n) refl
-
-  pub marked-outside : n ≤ base + c / 2 → take n xs ≡ marked base (take n xs) (c ∷ [])
-  marked-outside h = sym (set-out (take n xs) (base + c / 2) _ (omega (arith, length-take n xs)))
 
 -- a line of literals with what follows it
 list-line : (d : Draft) (key low high : ℕ) (o : Option Line) (line base : ℕ) (vs : List ℕ) (f g : List ℕ → List ℕ → Reply (List ℕ))
@@ -59,7 +40,7 @@ list-line d key low high (some l) line base vs f g h = go (eqb (l .key) key) (li
     go true (codes cs) = h (marked base vs cs) (l .rest)
     go false list = refl
 
--- states and acts in turn are the lines in turn
+-- states and acts in turn are the lines in turn; behind a state line nothing is filled
 act-turn : (k : ℕ) (d : Draft) (t line : ℕ) → line ≡ 2 * t + 1
     → ((ws rest : List ℕ) → statesFrom k d (suc t) (suc (suc line)) ws rest ≡ recordFrom (suc (k + k)) d (suc (suc line)) ws rest)
     → (ws rest : List ℕ) → actLine d (firstLine rest) (suc line) t ws (λ ws′ rest′. statesFrom k d (suc t) (suc (suc line)) ws′ rest′)
@@ -69,19 +50,23 @@ act-turn k d t line e again ws rest =
     let time : (suc line - 1) / 2 ≡ t = omega arith in
     rw (even, time)
     (list-line d 8 (d .fluents) (length (d .names)) (firstLine rest) (suc line) (t * length (d .names)) ws
-    (λ ws′ rest′. statesFrom k d (suc t) (suc (suc line)) ws′ rest′) (λ ws′ rest′. recordFrom (suc (k + k)) d (suc (suc line)) ws′ rest′) again)
+    (λ ws′ rest′. statesFrom k d (suc t) (suc (suc line)) (undoneFalse d t ws′) rest′)
+    (λ ws′ rest′. recordFrom (suc (k + k)) d (suc (suc line)) (undoneFalse d t ws′) rest′)
+    (λ ws′ rest′. again (undoneFalse d t ws′) rest′))
 
 pub states-lines : (k : ℕ) (d : Draft) (t line : ℕ) (vs text : List ℕ) → line ≡ 2 * t + 1
     → statesFrom k d t line vs text ≡ recordFrom (suc (k + k)) d line vs text
 states-lines zero d t line vs text e =
     let odd : line % 2 ≡ 1 = omega arith in
     let time : (line - 1) / 2 ≡ t = omega arith in
-    rw (odd, time)
+    let no-actions : d .fluents - d .fluents ≡ 0 = omega arith in
+    rw (odd, time, no-actions)
 states-lines (suc k) d t line vs text e =
     let odd : line % 2 ≡ 1 = omega arith in
     let time : (line - 1) / 2 ≡ t = omega arith in
+    let no-actions : d .fluents - d .fluents ≡ 0 = omega arith in
     let left : suc k + suc k ≡ suc (suc (k + k)) = omega arith in
-    rw (left, odd, time)
+    rw (left, odd, time, no-actions)
     (list-line d 7 0 (d .fluents) (firstLine text) line (t * length (d .names)) vs
     (λ ws rest. actLine d (firstLine rest) (suc line) t ws (λ ws′ rest′. statesFrom k d (suc t) (suc (suc line)) ws′ rest′))
     (λ ws rest. recordFrom (suc (suc (k + k))) d (suc line) ws rest)

@@ -25,10 +25,12 @@ use Rattle.text.specs.Lists as lists
 use Rattle.text.specs.Lists.{Listed, codes, listFrom, listOf}
 use Rattle.description_reader.specs.LineSteps.{Draft}
 use Rattle.description_reader.specs.Descriptions.{read}
-use Rattle.history_reader.specs.Histories.{marked, historyEnd, listed, listLine, most, statesFrom, byNames}
+use Rattle.history_values.specs.Values.{marked, filled}
+use Rattle.history_values.proofs.Filling.{take-marked, take-filled}
+use Rattle.history_reader.specs.Histories.{historyEnd, listed, listLine, most, statesFrom, byNames}
 use Rattle.text.specs.Internal.{lineOf, spelled, itemAt, nextAt, itemsAt}
 use Rattle.description_reader.specs.Internal.{draftOf}
-use Rattle.history_reader.specs.Internal.{recordFrom, isState, keyAt, lowAt, highAt, baseAt, wantedAt, placeFrom, leftOf, endingOf, valuesRead, atomsOf}
+use Rattle.history_reader.specs.Internal.{recordFrom, isState, keyAt, lowAt, highAt, baseAt, filledAt, wantedAt, placeFrom, leftOf, endingOf, valuesRead, atomsOf}
 use Rattle.description_reader.specs.Internal.{Limits}
 use Rattle.text.proofs.Spelling.{spelled-length}
 use Rattle.text.proofs.Items.{next-later}
@@ -38,20 +40,20 @@ use Rattle.history_reader.proofs.Marking.{marked-more, item-marked, ite
 pub record Marked (names : List (List ℕ)) (w : Wanted) (list : List ℕ) (start i : ℕ) (old new : List ℕ) : Type 0 where
   pub done : List ℕ
   pub few : length done ≤ i
-  pub values : (n : ℕ) → n ≤ 1024 → take n new ≡ marked (w .base) (take n old) done
+  pub values : new ≡ marked (w .base) old done
   pub left : listFrom names (w .low) (w .high) most done (itemsAt list i) ≡ listFrom names (w .low) (w .high) most [] (itemsAt list start)
 
 pub marked-none : (names : List (List ℕ)) (w : Wanted) (list : List ℕ) (i : ℕ) (old : List ℕ) → Marked names w list i i old old
-marked-none names w list i old = record { done = []; few = omega arith; values = λ n h. refl; left = refl }
+marked-none names w list i old = record { done = []; few = omega arith; values = refl; left = refl }
 
 pub marked-one : (names : List (List ℕ)) (w : Wanted) (list : List ℕ) (start i : ℕ) (old new : List ℕ) → Marked names w list start i old new
     → i ≤ length list → length list ≤ 65535 → (c next : ℕ) → literal names (w .low) (w .high) (itemAt list i) ≡ some c → next ≡ nextAt list i
-    → (more : List ℕ) → ((n : ℕ) → n ≤ 1024 → take n more ≡ marked (w .base) (take n new) (c ∷ [])) → Marked names w list start next old more
+    → (more : List ℕ) → more ≡ marked (w .base) new (c ∷ []) → Marked names w list start next old more
 marked-one names w list start i old new m inside short c next e f more one =
     record {
       done = m .done ++ (c ∷ []);
       few = omega (arith, length-append (m .done) (c ∷ []), m .few, next-later list i inside);
-      values = λ n h. one n h ∙ ap (λ vs. marked (w .base) vs (c ∷ [])) (m .values n h) ∙ sym (marked-more (w .base) (take n old) (m .done) c);
+      values = one ∙ ap (λ vs. marked (w .base) vs (c ∷ [])) (m .values) ∙ sym (marked-more (w .base) old (m .done) c);
       left = item-marked names (w .low) (w .high) list i inside (m .done) (omega (arith, m .few)) (m .left) c next e f;
     }
 
@@ -64,7 +66,7 @@ module _ (names-text text : List ℕ) (r : Reading) (m line at : ℕ) (vs : List
   counted : (o : Option Line) → lineOf text l ≡ o
       → recordFrom (suc m) (draftOf names-text r) line vs (drop at text)
       ≡ listLine (draftOf names-text r) (keyAt line) (lowAt (r .fluents) line) (highAt (r .fluents) (r .names .count) line) (lineOf text l) line (baseAt (r .names .count) line) vs
-      (λ ws rest. recordFrom m (draftOf names-text r) (suc line) ws rest)
+      (λ ws rest. recordFrom m (draftOf names-text r) (suc line) (filledAt (r .fluents) (r .names .count) line ws) rest)
   counted o e = rw (spelled-length names-text (r .names), is)
 
   pub turn-other : (l .key ≡ keyAt line → ⊥) → Here ≡ refused 2 line
@@ -75,12 +77,12 @@ module _ (names-text text : List ℕ) (r : Reading) (m line at : ℕ) (vs : List
 
   module _ (same : l .key ≡ keyAt line) where
     due : Here ≡ listed (listOf (spelled names-text (r .names)) (lowAt (r .fluents) line) (highAt (r .fluents) (r .names .count) line) most (take (l .to - l .from) (drop (l .from) text)))
-        line (baseAt (r .names .count) line) vs (λ ws. recordFrom m (draftOf names-text r) (suc line) ws (drop (l .next) text))
+        line (baseAt (r .names .count) line) vs (λ ws. recordFrom m (draftOf names-text r) (suc line) (filledAt (r .fluents) (r .names .count) line ws) (drop (l .next) text))
     unfolding lineOf
     due =
         counted (lineOf text l) refl
         ∙ sym (line-due (draftOf names-text r) (keyAt line) (lowAt (r .fluents) line) (highAt (r .fluents) (r .names .count) line) line (baseAt (r .names .count) line) vs
-        (λ ws rest. recordFrom m (draftOf names-text r) (suc line) ws rest)
+        (λ ws rest. recordFrom m (draftOf names-text r) (suc line) (filledAt (r .fluents) (r .names .count) line ws) rest)
         (take (l .to - l .from) (drop (l .from) text)) (drop (l .next) text) (l .key) same (key-below line))
 
     pub turn-refused : listOf (spelled names-text (r .names)) (lowAt (r .fluents) line) (highAt (r .fluents) (r .names .count) line) most (take (l .to - l .from) (drop (l .from) text)) ≡ lists.refused 6
@@ -89,7 +91,8 @@ module _ (names-text text : List ℕ) (r : Reading) (m line at : ℕ) (vs : List
 
     pub turn-read : (done : List ℕ)
         → listOf (spelled names-text (r .names)) (lowAt (r .fluents) line) (highAt (r .fluents) (r .names .count) line) most (take (l .to - l .from) (drop (l .from) text)) ≡ codes done
-        → Here ≡ recordFrom m (draftOf names-text r) (suc line) (marked (baseAt (r .names .count) line) vs done) (drop (l .next) text)
+        → Here
+        ≡ recordFrom m (draftOf names-text r) (suc line) (filledAt (r .fluents) (r .names .count) line (marked (baseAt (r .names .count) line) vs done)) (drop (l .next) text)
     turn-read done e = due ∙ rw e
 
 -- the same, as the loops find it: w is what the line must be
@@ -111,15 +114,24 @@ module _ (names-text text : List ℕ) (r : Reading) (m line at : ℕ) (old : Lis
         let names = spelled names-text (r .names) in
         ap (λ v. listOf names (v .low) (v .high) most value) (sym is-due) ∙ sym (list-all names (w .low) (w .high) value start starts) ∙ sym e
 
-    pub line-read : length (take (l .to - l .from) (drop (l .from) text)) < i → (n : ℕ) → n ≤ 1024
-        → Left n ≡ recordFrom m (draftOf names-text r) (suc line) (take n new) (drop (l .next) text)
-    line-read past n few =
+    -- the values behind the line, of which the first n are asked for
+    filled-first : (full : List ℕ) → full ≡ filled (w .base + r .fluents) (w .high - r .fluents) new → (n : ℕ)
+        → take n full ≡ filledAt (r .fluents) (r .names .count) line (marked (baseAt (r .names .count) line) (take n old) (passed .done))
+    filled-first full e n =
+        ap (take n) e
+        ∙ take-filled n (w .base + r .fluents) (w .high - r .fluents) new
+        ∙ ap (filled (w .base + r .fluents) (w .high - r .fluents)) (ap (take n) (passed .values) ∙ take-marked n (w .base) old (passed .done))
+        ∙ ap (λ v. filled (v .base + r .fluents) (v .high - r .fluents) (marked (v .base) (take n old) (passed .done))) is-due
+
+    pub line-read : length (take (l .to - l .from) (drop (l .from) text)) < i
+        → (full : List ℕ) → full ≡ filled (w .base + r .fluents) (w .high - r .fluents) new → (n : ℕ)
+        → Left n ≡ recordFrom m (draftOf names-text r) (suc line) (take n full) (drop (l .next) text)
+    line-read past full e n =
         let value = take (l .to - l .from) (drop (l .from) text) in
         let names = spelled names-text (r .names) in
         turn-read names-text text r m line at (take n old) l is (same ∙ ap (λ v. v .key) is-due) (passed .done)
         (whole (list-done names (w .low) (w .high) value i (passed .done) past (passed .left)))
-        ∙ ap (λ vs. recordFrom m (draftOf names-text r) (suc line) vs (drop (l .next) text))
-        (sym (passed .values n few ∙ ap (λ v. marked (v .base) (take n old) (passed .done)) is-due))
+        ∙ ap (λ vs. recordFrom m (draftOf names-text r) (suc line) vs (drop (l .next) text)) (sym (filled-first full e n))
 
     pub line-refused : i ≤ length (take (l .to - l .from) (drop (l .from) text)) → length (take (l .to - l .from) (drop (l .from) text)) ≤ 65535
         → literal (spelled names-text (r .names)) (w .low) (w .high) (itemAt (take (l .to - l .from) (drop (l .from) text)) i) ≡ none

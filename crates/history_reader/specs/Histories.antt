@@ -1,11 +1,12 @@
--- Reading a history: state, act, state, .., act, state, then end (01, "Text").
+-- Reading a history: state, act, state, .., act, state, then end (01, "Text"; 02, §2).
 -- Assumes nothing.
+use mathlib.Core.Path.{_≡_}
 use mathlib.Core.Bool.{cond}
 use mathlib.Core.List.{List, [], _∷_}
 use mathlib.Core.Option.{Option, none, some}
-use Prim.Native.Nat.{ℕ, zero, suc, _+_, _-_, _*_, _/_, _%_}
+use Prim.Native.Nat.{ℕ, zero, suc, _+_, _-_, _*_}
 use lib.Dec.{eqb, ltb}
-use lib.ListN.{length, getD, set, replicate}
+use lib.ListN.{length, replicate}
 use Rattle.search.specs.Replies.{Reply, refused, answered, orRefuse, leftAfter}
 use Rattle.description.specs.Atoms.{atomCount, wrongLength}
 use Rattle.history_reader.specs.declared.HistoryAnswer.{HistoryAnswer}
@@ -15,21 +16,7 @@ use Rattle.text.specs.Lists as lists
 use Rattle.text.specs.Lists.{Listed, codes, listOf}
 use Rattle.description_reader.specs.LineSteps.{Draft}
 use Rattle.description_reader.specs.Descriptions.{Taken, read, described}
-
--- a value byte with one more literal of its atom: 0 none, 1 true, 2 false, 3 both
-abbrev pub withTrue : ℕ → ℕ
-withTrue v = cond (eqb (v % 2) 0) (v + 1) v
-
-abbrev pub withFalse : ℕ → ℕ
-withFalse v = cond (ltb v 2) (v + 2) v
-
--- the values with the literals of some codes at one time, where the values of that time begin at place `base`
-abbrev pub marked : ℕ → List ℕ → List ℕ → List ℕ
-marked base vs [] = vs
-marked base vs (c ∷ cs) =
-    let at = base + c / 2 in
-    let v = getD vs at 0 in
-    marked base (set vs at (cond (eqb (c % 2) 0) (withTrue v) (withFalse v))) cs
+use Rattle.history_values.specs.Values.{marked, filled, ActionsValued}
 
 -- where bytes remain behind the end line: 7 at the next line
 abbrev pub atEnd : List ℕ → ℕ → List ℕ → Reply (List ℕ)
@@ -64,8 +51,14 @@ listLine d key low high (some l) line base vs go =
 abbrev pub stateLine : Draft → Option Line → ℕ → ℕ → List ℕ → (List ℕ → List ℕ → Reply (List ℕ)) → Reply (List ℕ)
 stateLine d first line t vs go = listLine d stateKey 0 (d .fluents) first line (t * length (d .names)) vs go
 
+-- an action absent from its act line has value false (02, §2)
+abbrev pub undoneFalse : Draft → ℕ → List ℕ → List ℕ
+undoneFalse d t vs = filled (t * length (d .names) + d .fluents) (length (d .names) - d .fluents) vs
+
 abbrev pub actLine : Draft → Option Line → ℕ → ℕ → List ℕ → (List ℕ → List ℕ → Reply (List ℕ)) → Reply (List ℕ)
-actLine d first line t vs go = listLine d actKey (d .fluents) (length (d .names)) first line (t * length (d .names)) vs go
+actLine d first line t vs go =
+    listLine d actKey (d .fluents) (length (d .names)) first line (t * length (d .names)) vs
+    (λ vs′ rest. go (undoneFalse d t vs′) rest)
 
 -- the state at time t, and k more steps: two lines a step
 abbrev pub statesFrom : ℕ → Draft → ℕ → ℕ → List ℕ → List ℕ → Reply (List ℕ)
@@ -105,3 +98,10 @@ historyReplyOf Complete = answered tt
 abbrev pub historyReplied : Reply (List ℕ) → Reply Unit
 historyReplied (refused number place) = refused number place
 historyReplied (answered vs) = answered tt
+
+-- unless the reader refuses, no action atom is left at 0: for whatever description the names are taken from
+abbrev pub ActionsFilled : List ℕ → HistoryAnswer → List ℕ → Type 0
+ActionsFilled description (Refused number place) vs = Unit
+ActionsFilled description Complete vs =
+    (d : Draft) (rest : List ℕ) (lines : ℕ) → described 64 description ≡ answered (read d rest lines)
+    → ActionsValued (d .fluents) (length (d .names) - d .fluents) (d .horizon) vs

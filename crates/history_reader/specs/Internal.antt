@@ -14,6 +14,7 @@ use Rattle.history_reader.specs.declared.histories.Wanted.{Wanted}
 use Rattle.description_reader.specs.declared.states.Reading.{Reading}
 use Rattle.text.specs.Lines.{firstLine, stateKey, actKey}
 use Rattle.description_reader.specs.LineSteps.{Draft}
+use Rattle.history_values.specs.Values.{filled}
 use Rattle.history_reader.specs.Histories.{historyEnd, listLine}
 
 unfoldable pub endingOf : EndAt → List ℕ → Reply (List ℕ)
@@ -35,12 +36,16 @@ highAt fluents count line = cond (isState line) fluents count
 abbrev pub baseAt : ℕ → ℕ → ℕ
 baseAt count line = (line - 1) / 2 * count
 
+-- the actions that a line does not list: between the fluents and the end of the line's sort, which is none in a state line
+abbrev pub filledAt : ℕ → ℕ → ℕ → List ℕ → List ℕ
+filledAt fluents count line vs = filled (baseAt count line + fluents) (highAt fluents count line - fluents) vs
+
 -- n more lines of literals, then the end line
 abbrev pub recordFrom : ℕ → Draft → ℕ → List ℕ → List ℕ → Reply (List ℕ)
 recordFrom zero d line vs text = historyEnd (firstLine text) line vs
 recordFrom (suc n) d line vs text =
     listLine d (keyAt line) (lowAt (d .fluents) line) (highAt (d .fluents) (length (d .names)) line) (firstLine text) line (baseAt (length (d .names)) line) vs
-    (λ vs′ rest. recordFrom n d (suc line) vs′ rest)
+    (λ vs′ rest. recordFrom n d (suc line) (filledAt (d .fluents) (length (d .names)) line vs′) rest)
 
 abbrev pub wantedAt : ℕ → ℕ → ℕ → Wanted
 wantedAt fluents count line =

@@ -10,41 +10,10 @@ ghost use Prim.Native.Nat.{ℕ, _+_, _≤_, _<_};
 ghost use lib.Dec.{eqb};
 ghost use lib.ListN.{length, take, drop, replicate};
 ghost use Rattle.text.specs.Lines.{firstLine};
-ghost use Rattle.history_reader.specs.Histories.{withTrue, withFalse, marked, historyEnd, statesFrom, valuesLeft};
+ghost use Rattle.history_reader.specs.Histories.{historyEnd, statesFrom, valuesLeft};
 ghost use Rattle.description_reader.specs.Internal.{draftOf};
 ghost use Rattle.history_reader.specs.Internal.{endingOf, wantedAt, placeFrom, leftOf, LinesFit, valuesRead, atomsOf};
 ghost use Rattle.description_reader.specs.Internal.{Limits};
-
-// A value byte with one more literal of its atom.
-fn with_literal(v: u8, sign: usize) -> u8
-    ensures { λ r. ⌜ r ≡ cond (eqb sign 0) (withTrue v) (withFalse v) ⌝ }
-{
-    if sign == 0 {
-        if v % 2 == 0 {
-            return v + 1;
-        }
-        return v;
-    }
-    if v < 2 {
-        return v + 2;
-    }
-    v
-}
-
-// The values with a literal of one time, whose values begin at place base.
-fn with_code(values: [u8; 1024], base: usize, code: usize) -> [u8; 1024]
-    requires { ⌜ (base ≤ 1024) × (code < 256) ⌝ }
-    ensures { λ r. ⌜ ((n : ℕ) → n ≤ 1024 → take n r ≡ marked base (take n values) (code ∷ [])) ⌝ }
-{
-    let place = base + code / 2;
-    if 1024 <= place {
-        return values;
-    }
-    let mut next = values;
-    let v = next[place];
-    next[place] = with_literal(v, code % 2);
-    next
-}
 
 // How the end line is: a refusal's number (0: none) and place.
 struct EndAt {
@@ -159,10 +128,12 @@ fn read_lines(description: &[u8], text: &[u8], reading: Reading) -> Lines
                 refused = 6;
                 break 'lines;
             };
-            let marked = with_code(values, w.base, c);
+            let marked = history_values::with_code(values, w.base, c);
             values = marked;
             i = item.next;
         }
+        let whole = history_values::fill_absent(values, w.base, reading.fluents, w.high);
+        values = whole;
         at = l.next;
         line += 1;
     }

@@ -4,7 +4,7 @@ mod histories;
 use description_reader::descriptions;
 ghost use mathlib.Core.Path.{_≡_};
 ghost use lib.ListN.{length};
-ghost use Rattle.history_reader.specs.Histories.{readHistory, valuesLeft, historyReplyOf, historyReplied};
+ghost use Rattle.history_reader.specs.Histories.{readHistory, valuesLeft, historyReplyOf, historyReplied, ActionsFilled};
 
 // The refusal's number and place, or that the whole history is read.
 pub enum HistoryAnswer {
@@ -16,6 +16,7 @@ pub enum HistoryAnswer {
 pub fn read_history(description: &[u8], text: &[u8], values: &mut [u8]) -> HistoryAnswer
     ensures { λ r. ⌜ historyReplyOf r ≡ historyReplied (readHistory (now (description .entry)) (now (text .entry)) (length (now (values .entry)))) ⌝ }
     ensures { λ r. ⌜ now (values .exit) ≡ valuesLeft (readHistory (now (description .entry)) (now (text .entry)) (length (now (values .entry)))) (now (values .entry)) ⌝ }
+    ensures { λ r. ⌜ ActionsFilled (now (description .entry)) r (now (values .exit)) ⌝ }
 {
     let end = descriptions::read_alone(description);
     let state = end.state;

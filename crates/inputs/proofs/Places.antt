@@ -11,7 +11,7 @@ use Rattle.search.specs.Replies.{Reply, refused, answered}
 use Rattle.text.specs.Lists as lists
 use Rattle.text.specs.Lists.{Listed, codes, listOf}
 use Rattle.description_reader.specs.LineSteps.{Draft}
-use Rattle.history_reader.specs.Histories.{atEnd, historyEnd, listed, listLine, statesFrom}
+use Rattle.history_reader.specs.Histories.{atEnd, historyEnd, listed, listLine, undoneFalse, statesFrom}
 use Rattle.history_reader.specs.Histories as histories
 use Rattle.reader_bounds.proofs.Drafts.{chosen}
 
@@ -59,5 +59,5 @@ states-place (suc n) d t line vs text =
     list-place line (line + 2 * suc n + 2) (omega arith) d _ _ _ (firstLine text) _ vs _
     (λ vs′ rest.
     list-place (suc line) (line + 2 * suc n + 2) (omega arith) d _ _ _ (firstLine rest) _ vs′ _
-    (λ vs″ rest′. place-within (suc (suc line) + 2 * n + 2) (line + 2 * suc n + 2) (omega arith) (statesFrom n d (suc t) (suc (suc line)) vs″ rest′)
-    (states-place n d (suc t) (suc (suc line)) vs″ rest′)))
+    (λ vs″ rest′. place-within (suc (suc line) + 2 * n + 2) (line + 2 * suc n + 2) (omega arith) (statesFrom n d (suc t) (suc (suc line)) (undoneFalse d t vs″) rest′)
+    (states-place n d (suc t) (suc (suc line)) (undoneFalse d t vs″) rest′)))

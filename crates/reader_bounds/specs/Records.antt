@@ -1,13 +1,14 @@
--- What the history reader takes is one value, 0 to 3, for each atom of the description.
+-- What the history reader takes is one value, 0 to 3, for each atom of the description, and never 0 for an action.
 -- Assumes nothing.
 use mathlib.Core.Path.{_≡_}
 use mathlib.Core.List.{List}
-use Prim.Native.Nat.{ℕ, _≤_}
+use Prim.Native.Nat.{ℕ, _-_, _≤_}
 use lib.ListN.{length}
 use Rattle.search.specs.Search.{Each}
 use Rattle.search.specs.Replies.{answered}
 use Rattle.description_reader.specs.LineSteps.{Draft}
 use Rattle.description_reader.specs.Descriptions.{read, described}
+use Rattle.history_values.specs.Values.{ActionsValued}
 use Rattle.history_reader.specs.Histories.{atoms, readHistory}
 
 pub record Valued (description : List ℕ) (room : ℕ) (values : List ℕ) : Type 0 where
@@ -21,6 +22,8 @@ pub record Valued (description : List ℕ) (room : ℕ) (values : List ℕ) : Ty
   pub count : length values ≡ atoms draft
   -- 0 none, 1 true, 2 false, 3 both
   pub each : Each (λ v. v ≤ 3) values
+  -- no action atom is left at 0
+  pub acted : ActionsValued (draft .fluents) (length (draft .names) - draft .fluents) (draft .horizon) values
 
 -- for every history that the reader takes
 abbrev pub TakenValued : Type 0

@@ -5,7 +5,7 @@ use mathlib.Core.Path.{_≡_, refl, sym, ap, subst, _∙_}
 use mathlib.Core.Bool.{Bool, true, false}
 use mathlib.Core.List.{List, [], _∷_, append-nil}
 use mathlib.Core.Option.{Option, none, some}
-use Prim.Native.Nat.{ℕ, _≤_}
+use Prim.Native.Nat.{ℕ, _-_, _≤_}
 use native.Mathlib.Omega.{arith}
 use borrow.Author.Tests.{eq-eqb, eqb-true}
 use lib.Dec.{eqb, ltb}
@@ -31,7 +31,9 @@ use Rattle.causal.specs.Verdicts.{causalVerdict}
 use Rattle.causal.specs.Readings.{notOneValue, reading}
 use Rattle.description_reader.specs.LineSteps.{Draft}
 use Rattle.description_reader.specs.Descriptions.{read, described, descriptionOf}
+use Rattle.history_values.specs.Values.{ActionsValued}
 use Rattle.history_reader.specs.Histories.{atoms, readHistory}
+use Rattle.history_reader.proofs.Kept.{OfTaken}
 use Rattle.reader_bounds.specs.Accepts.{Accepted}
 use Rattle.reader_bounds.proofs.Accepting.{taken-accepted}
 use Rattle.reader_bounds.proofs.Recording.{taken-valued}
@@ -119,6 +121,11 @@ module _ (input : List ℕ) (d : Draft) (rest : List ℕ) (lines : ℕ) (vs : Li
 
   pub values-small : Each (λ v. v ≤ 3) vs
   values-small = taken-valued input rest (atoms d) vs from-history .each
+
+  pub values-acted : ActionsValued (d .fluents) (length (d .names) - d .fluents) (d .horizon) vs
+  values-acted =
+      let v = taken-valued input rest (atoms d) vs from-history in
+      subst (OfTaken (λ x. ActionsValued (x .fluents) (length (x .names) - x .fluents) (x .horizon) vs)) (sym (v .is) ∙ is) (v .acted)
 
   pub is-read : reading (descriptionOf d) (d .laws) 64 vs
       ≡ orRefuse (first notOneValue 0 vs) 11 (answered (causalVerdict (d .fluents) (descriptionOf d .actions) (d .horizon) (lawsOf (descriptionOf d) (d .laws)) vs))

@@ -22,7 +22,7 @@ use Rattle.description_reader.specs.LineSteps as step
 use Rattle.description_reader.specs.LineSteps.{Due, horizonDue, Draft, Step, next, finish, withIf, lineStep}
 use Rattle.description_reader.specs.Descriptions.{Taken, read, afterStep, afterFirst, blank, linesFrom, described}
 use Rattle.history_reader.specs.Histories as histories
-use Rattle.history_reader.specs.Histories.{atEnd, historyEnd, listed, listLine, statesFrom, atoms, recorded, byNames, readHistory}
+use Rattle.history_reader.specs.Histories.{atEnd, historyEnd, listed, listLine, undoneFalse, statesFrom, atoms, recorded, byNames, readHistory}
 use Rattle.reader_bounds.proofs.LineCases.{chosen, list-cases, Cases, line-cases}
 use Rattle.inputs.specs.Inputs.{movedBy, afterDescription, recordedIn}
 use Rattle.refusals.specs.Refusals.{among, RefusedBy}
@@ -147,7 +147,7 @@ states-by zero d t line vs text = list-line-by line d _ _ _ (firstLine text) _ v
 states-by (suc n) d t line vs text =
     list-line-by line d _ _ _ (firstLine text) _ vs _
     (λ vs′ rest.
-    list-line-by (suc line) d _ _ _ (firstLine rest) _ vs′ _ (λ vs″ rest′. states-by n d (suc t) (suc (suc line)) vs″ rest′))
+    list-line-by (suc line) d _ _ _ (firstLine rest) _ vs′ _ (λ vs″ rest′. states-by n d (suc t) (suc (suc line)) (undoneFalse d t vs″) rest′))
 
 -- behind the test of the buffer's length
 behind-length : (d : Draft) (text : List ℕ) → Seven (cond (ltb 65535 (length text)) (refused 1 0) (statesFrom (d .horizon) d 0 1 (replicate (atoms d) 0) text))

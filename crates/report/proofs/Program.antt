@@ -34,7 +34,7 @@ use Rattle.inputs.specs.Inputs.{recordedIn}
 use Rattle.inputs.proofs.Known.{recorded-refused}
 use Rattle.refusals.specs.Refusals.{among, RefusedBy}
 use Rattle.refusals.proofs.Readers.{input-by}
-use Rattle.refusals.proofs.Checks.{fits, in-time, small-table, is-written, values-count, values-small}
+use Rattle.refusals.proofs.Checks.{fits, in-time, small-table, is-written, values-count, values-small, values-acted}
 use Rattle.output_lines.specs.Printed.{refusal, causalAfter}
 use Rattle.report.specs.Output.{room, afterOutcome, afterInput, output}
 use Rattle.report.specs.Program.{Refused, causalShown, missingOrClash, Judged, Program}
@@ -190,6 +190,7 @@ module _ (input : List ℕ) (d : Draft) (rest : List ℕ) (lines : ℕ) (vs : Li
     recorded-so = e;
     size = size;
     each = values-small input d rest lines vs is e;
+    acted = values-acted input d rest lines vs is e;
     found = found;
     causal = shownAfter found reply;
     printed = is-printed ∙ rw (out-written, is-checked, after-shown input found reply) refl;

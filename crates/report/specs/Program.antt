@@ -5,7 +5,7 @@ use mathlib.Core.Logic.{_↔_, _⊎_}
 use mathlib.Core.Bool.{Bool, true, false}
 use mathlib.Core.List.{List, _++_}
 use mathlib.Core.Option.{Option, none, some}
-use Prim.Native.Nat.{ℕ, _≤_, _<_}
+use Prim.Native.Nat.{ℕ, _-_, _≤_, _<_}
 use lib.ListN.{length, getD}
 use Rattle.search.specs.Search.{Each}
 use Rattle.search.specs.Replies.{answered}
@@ -16,6 +16,7 @@ use Rattle.causal.specs.Verdicts.{Causal, path}
 use Rattle.correctness.specs.Demand3.{OneValue, PathOf}
 use Rattle.description_reader.specs.LineSteps.{Draft}
 use Rattle.description_reader.specs.Descriptions.{read, described, descriptionOf}
+use Rattle.history_values.specs.Values.{ActionsValued}
 use Rattle.history_reader.specs.Histories.{atoms}
 use Rattle.inputs.specs.Inputs.{recordedIn}
 use Rattle.output_lines.specs.Printed.{refusal, countLines, findingLines, causalLines, noCausal}
@@ -58,6 +59,8 @@ pub record Judged (input out : List ℕ) : Type 0 where
   pub recorded-so : recordedIn input ≡ answered values
   pub size : length values ≡ atoms draft
   pub each : Each (λ v. v ≤ 3) values
+  -- an action that its act line does not list is false: none is left at 0
+  pub acted : ActionsValued (draft .fluents) (length (draft .names) - draft .fluents) (draft .horizon) values
   -- what is printed of them
   pub found : Finding
   pub causal : Option Causal

@@ -137,7 +137,7 @@ returns-2 c =
     let last = rh .read-history .last .1 .1 .0 in
     let whole : length last ≡ m = omega (arith, rh .read-history .kept .1 .1 .0, size (v .no-values .ensures) few) in
     let filled : length (last ++ drop m zs) ≡ 1024 = omega (arith, length-append last (drop m zs), length-drop m zs, whole, few, ap length (v .no-values .ensures)) in
-    let vs = values-read input k (k .part) enough m zs last few (v .no-values .ensures) whole (rh .read-history .ensures .1) in (
+    let vs = values-read input k (k .part) enough m zs last few (v .no-values .ensures) whole (rh .read-history .ensures .1 .0) in (
       c .moved-up .ensures ∙ says input k (k .part) enough (historyReplyOf (rh .read-history .result)) (rh .read-history .ensures .0),
       (
         rd .read-run .ensures .1 .0,

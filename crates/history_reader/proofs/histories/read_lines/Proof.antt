@@ -125,15 +125,7 @@ enum-told : tie.Need-enum-told Inv-loop μ-loop Inv-lines μ-lines
 enum-told c = search needs
 
 with-code-requires : tie.Need-with-code-requires Inv-loop μ-loop Inv-lines μ-lines
-with-code-requires c κs =
-    let i = c .before .before .before in
-    let h = i .before .before in
-    let n = start-at h in
-    let p = entry n .pre .1 in
-    let t : (n .lines .line - 1) / 2 ≤ 30 = omega (arith, p .time, h .before .before .before .before .before .before .before .before .lines-test .taken) in
-    let b = base-bound (entry n .args .reading .names .count) (n .lines .line) 30 t (omega (arith, p .few, p .actions)) in
-    let small = literal-small (spelled (entry n .args .description .now) (entry n .args .reading .names)) (due-at h .low) (due-at h .high) (itemAt (list-at h) (h .loop .i)) (high h) in
-    (rw (h .before .before .before .before .before .before .line-due .ensures) (omega (arith, b)), rw (at-place {found = item-at h} (i .next-item .ensures .0) (c .before .code .given .1)) at small)
+with-code-requires c κs = search needs
 
 loop-less : tie.Need-loop-less Inv-loop μ-loop Inv-lines μ-lines
 loop-less c =
@@ -161,30 +153,36 @@ one-left n more k few =
     let e : suc (2 * a .reading .horizon + 1 + 1 - suc (n .lines .line)) ≡ 2 * a .reading .horizon + 1 + 1 - n .lines .line = omega (arith, more) in
     ap (λ m. recordFrom m (draftOf (a .description .now) (a .reading)) (n .lines .line) (take k (n .lines .values)) (drop (n .lines .at) (a .text .now))) e ∙ n .lines .inv .4 k few
 
+fill-absent-requires : tie.Need-fill-absent-requires Inv-loop μ-loop Inv-lines μ-lines
+fill-absent-requires c κs = search needs
+
 add-line : tie.Need-add-line Inv-loop μ-loop Inv-lines μ-lines
 add-line c =
-    let t = c .before .before .before .before .before .before .before .before .before .lines-test .taken in
-    omega (arith, t, entry (start-at (c .before)) .pre .1 .time)
+    let n = start-at (c .before .before) in
+    let t = c .before .before .before .before .before .before .before .before .before .before .lines-test .taken in
+    omega (arith, t, entry n .pre .1 .time)
 
 lines-less : tie.Need-lines-less Inv-loop μ-loop Inv-lines μ-lines
 lines-less c =
-    let t = c .before .before .before .before .before .before .before .before .before .lines-test .taken in
+    let t = c .before .before .before .before .before .before .before .before .before .before .lines-test .taken in
     omega (arith, t)
 
 lines-again : tie.Need-lines-again Inv-loop μ-loop Inv-lines μ-lines
 lines-again c =
-    let h = c .before in
+    let h = c .before .before in
     let l = h .before .before .before .before .before .before .before in
     let n = start-at h in
     let a = entry n .args in
-    let t = l .before .lines-test .taken in (
+    let t = l .before .lines-test .taken in
+    let full = c .fill-absent .result in (
       h .loop .inv .0 ∙ n .lines .inv .0,
       omega arith,
       omega (arith, t),
       l .line-at .ensures .1 .within,
-      λ k few. ap (λ q. recordFrom (2 * a .reading .horizon + 1 + 1 - q) (draftOf (a .description .now) (a .reading)) q (take k (h .loop .values)) (drop (line-at h .next) (a .text .now))) (add-one (n .lines .line))
+      λ k few. ap (λ q. recordFrom (2 * a .reading .horizon + 1 + 1 - q) (draftOf (a .description .now) (a .reading)) q (take k full) (drop (line-at h .next) (a .text .now))) (add-one (n .lines .line))
           ∙ sym (line-read (a .description .now) (a .text .now) (a .reading) (2 * a .reading .horizon + 1 + 1 - suc (n .lines .line)) (n .lines .line) (n .lines .at) (n .lines .values) (line-at h) (l .line-at .ensures .0) (due-at h)
-          (h .before .before .before .before .before .before .line-due .ensures) (h .before .before .before .if1 .left) _ (h .loop .i) (h .loop .values) (h .before .first-place .ensures) (h .loop .inv .2) (c .loop-test .left) k few)
+          (h .before .before .before .before .before .before .line-due .ensures) (h .before .before .before .if1 .left) _ (h .loop .i) (h .loop .values) (h .before .first-place .ensures) (h .loop .inv .2) (c .before .loop-test .left)
+          full (c .fill-absent .ensures) k)
           ∙ one-left n t k few,
     )
 
@@ -253,6 +251,7 @@ read-lines-spec =
     with-code-requires
     loop-less
     loop-again
+    fill-absent-requires
     add-line
     lines-less
     lines-again

@@ -1,9 +1,9 @@
--- `histories::with_literal` meets its contract.
+-- `with_literal` meets its contract.
 -- Assumes nothing.
 use borrow.Author.Tests.{eq-eqb, ne-eqb, lt-ltb, le-ltb}
 use borrow.Author.Needs.{needs}
-use Rattle.history_reader.proofs.histories.with_literal.Statement.{statement}
-use Rattle.history_reader.proofs.histories.with_literal.Tie as tie
+use Rattle.history_values.proofs.with_literal.Statement.{statement}
+use Rattle.history_values.proofs.with_literal.Tie as tie
 
 add-result : tie.Need-add-result
 add-result c = search needs

@@ -1,0 +1,2 @@
+-- What the functions' proofs share, and what the crates above use.
+pub mod Filling

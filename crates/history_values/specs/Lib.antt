@@ -1,0 +1,2 @@
+-- What a line of a history does to the values.
+pub mod Values
