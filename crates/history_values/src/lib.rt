@@ -55,7 +55,7 @@ fn or_false(v: u8) -> u8
 pub fn fill_absent(values: [u8; 1024], base: usize, fluents: usize, high: usize) -> [u8; 1024]
     ensures { λ r. ⌜ r ≡ filled (base + fluents) (high - fluents) values ⌝ }
 {
-    if 1024 <= base {
+    if 1023 < base {
         return values;
     }
     let mut next = values;

@@ -6,6 +6,7 @@ pub mod WorkedRecords
 pub mod WorkedCodes
 pub mod WorkedTexts
 pub mod WorkedShort
+pub mod WorkedLog
 pub mod WorkedFormat
 pub mod WorkedLong
 pub mod WorkedOutputs

@@ -6,6 +6,7 @@ use Rattle.search.proofs.Tests.{each-append}
 use Rattle.worked_examples.specs.Examples.{Example, Holds}
 use Rattle.worked_examples.specs.Format.{readerExamples, lineExamples, historyExamples, longExamples}
 use Rattle.worked_examples.specs.Short.{shortRecipeExamples, shortOutputExamples, shortExamples}
+use Rattle.worked_examples.specs.Log.{logExamples, callerExamples, logOutputs}
 use Rattle.worked_examples.specs.Worked.{worked, gathered, recordExamples, largestExamples, engineExamples, paperExamples, textExamples}
 use Rattle.worked_examples.specs.Worked.{outputExamples, longOutputs, codeExamples}
 use Rattle.worked_examples.proofs.WorkedRecords.{record-examples, engine-examples, paper-examples}
@@ -14,7 +15,8 @@ use Rattle.worked_examples.proofs.WorkedTexts.{text-examples}
 use Rattle.worked_examples.proofs.WorkedFormat.{reader-examples, line-examples, history-examples}
 use Rattle.worked_examples.proofs.WorkedLong.{long-examples, long-outputs}
 use Rattle.worked_examples.proofs.WorkedShort.{short-recipe, short-examples}
-use Rattle.worked_examples.proofs.WorkedOutputs.{output-examples, short-outputs}
+use Rattle.worked_examples.proofs.WorkedLog.{log-examples, caller-examples}
+use Rattle.worked_examples.proofs.WorkedOutputs.{output-examples, short-outputs, log-outputs}
 
 all-hold : (ess : List (List Example)) → Each (λ es. Each Holds es) ess → Each Holds (gathered ess)
 all-hold [] h = tt
@@ -23,5 +25,5 @@ all-hold (es ∷ ess) h = each-append Holds es (gathered ess) .1 (h .0, all-hold
 pub worked-examples : Each Holds worked
 worked-examples =
     all-hold
-    (recordExamples ∷ largestExamples ∷ engineExamples ∷ paperExamples ∷ textExamples ∷ readerExamples ∷ lineExamples ∷ historyExamples ∷ longExamples ∷ outputExamples ∷ shortRecipeExamples ∷ shortExamples ∷ shortOutputExamples ∷ longOutputs ∷ codeExamples ∷ [])
-    (record-examples, (largest-examples, (engine-examples, (paper-examples, (text-examples, (reader-examples, (line-examples, (history-examples, (long-examples, (output-examples, (short-recipe, (short-examples, (short-outputs, (long-outputs, (code-examples, tt)))))))))))))))
+    (recordExamples ∷ largestExamples ∷ engineExamples ∷ paperExamples ∷ textExamples ∷ readerExamples ∷ lineExamples ∷ historyExamples ∷ longExamples ∷ outputExamples ∷ shortRecipeExamples ∷ shortExamples ∷ shortOutputExamples ∷ logExamples ∷ callerExamples ∷ logOutputs ∷ longOutputs ∷ codeExamples ∷ [])
+    (record-examples, (largest-examples, (engine-examples, (paper-examples, (text-examples, (reader-examples, (line-examples, (history-examples, (long-examples, (output-examples, (short-recipe, (short-examples, (short-outputs, (log-examples, (caller-examples, (log-outputs, (long-outputs, (code-examples, tt))))))))))))))))))

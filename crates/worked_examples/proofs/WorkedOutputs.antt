@@ -27,6 +27,7 @@ use Rattle.output_lines.specs.Writing.{decimal}
 use Rattle.report.specs.Output.{output}
 use Rattle.worked_examples.specs.Examples.{Holds}
 use Rattle.worked_examples.specs.Short.{shortOutputExamples}
+use Rattle.worked_examples.specs.Log.{logOutputs}
 use Rattle.worked_examples.specs.Worked.{outputExamples}
 
 pub output-examples : Each Holds outputExamples
@@ -36,3 +37,7 @@ output-examples = (refl, (refl, (refl, (refl, (refl, (refl, (refl, (refl, (refl,
 pub short-outputs : Each Holds shortOutputExamples
 unfolding output decimal shownFluent engine.answer verdict rulesOf badRule setOf holdsTrue holdsFalse complement badRecord badHorizon translation translated.outcome history.checked causalVerdict causal.reading cut keyNumber firstLine isName literal items listOf horizonOf headOf lineStep described readHistory recordedIn
 short-outputs = (refl, (refl, tt))
+
+pub log-outputs : Each Holds logOutputs
+unfolding output decimal shownFluent engine.answer verdict rulesOf badRule setOf holdsTrue holdsFalse complement badRecord badHorizon translation translated.outcome history.checked causalVerdict causal.reading cut keyNumber firstLine isName literal items listOf horizonOf headOf lineStep described readHistory recordedIn
+log-outputs = (refl, (refl, (refl, (refl, (refl, tt)))))

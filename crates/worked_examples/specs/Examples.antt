@@ -22,6 +22,7 @@ use Rattle.description_reader.specs.Answers.{recordOf, lawsLeft}
 use Rattle.shown_names.specs.Shown.{shownFluent, shownAction}
 use Rattle.history_reader.specs.Histories.{readHistory}
 use Rattle.written_form.specs.Writing.{Form, descriptionText}
+use Rattle.history_values.specs.Values.{ActionsValued}
 use Rattle.written_form.specs.HistoryWriting.{valuesText}
 use Rattle.written_form.specs.Writable.{Writable}
 use Rattle.report.specs.Output.{room, output}
@@ -63,7 +64,10 @@ pub data Example : Type 0 where
   textTable : List ℕ → List ℕ → Example
   -- the text written for a horizon, fluents, actions, the form of each law, and laws, which meet the conditions of the round trip
   writes : ℕ → List (List ℕ) → List (List ℕ) → (ℕ → Form) → List Law → List ℕ → Example
-  writesHistory : ℕ → List (List ℕ) → List (List ℕ) → List ℕ → List ℕ → Example
+  -- a history written by a choice of the false actions that are listed
+  writesHistory : ℕ → List (List ℕ) → List (List ℕ) → (ℕ → ℕ → Bool) → List ℕ → List ℕ → Example
+  -- values of n fluents, m actions and a horizon of which some action has none
+  lacksAction : ℕ → ℕ → ℕ → List ℕ → Example
   -- an input of the program and what it prints
   prints : List ℕ → List ℕ → Example
   -- the name shown for a fluent's number and for an action's
@@ -87,7 +91,8 @@ Holds (reads lent text reply) = described lent text ≡ reply
 Holds (readsHistory description text values reply) = readHistory description text values ≡ reply
 Holds (textTable text ws) = translated.tableFor (recordOf (described 64 text)) (lawsLeft (described 64 text) []) ≡ ws
 Holds (writes T fluents actions forms ls text) = (descriptionText T fluents actions forms ls ≡ text) × Writable (length ls) T fluents actions ls
-Holds (writesHistory T fluents actions vs text) = valuesText T fluents actions vs ≡ text
+Holds (writesHistory T fluents actions listed vs text) = valuesText T fluents actions listed vs ≡ text
+Holds (lacksAction n m T vs) = ActionsValued n m T vs → ⊥
 Holds (prints input bytes) = output input ≡ bytes
 Holds (showsFluent text f name) = shownFluent text f ≡ name
 Holds (showsAction text k name) = shownAction text k ≡ name

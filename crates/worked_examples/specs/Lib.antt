@@ -7,4 +7,5 @@ pub mod Examples
 pub mod Format
 pub mod Recipe
 pub mod Short
+pub mod Log
 pub mod Worked

@@ -24,7 +24,7 @@ returns c =
     filled-outside (s .args .base + s .args .fluents) (s .args .high - s .args .fluents) (s .args .values) (omega (arith, size, c .if1 .taken))
 
 loop-holds : tie.Need-loop-holds Inv-loop μ-loop
-loop-holds c = (c .if1 .left, c .before .good .0 .1 .0 .1, refl)
+loop-holds c = (omega (arith, c .if1 .left), c .before .good .0 .1 .0 .1, refl)
 
 sub-if2 : tie.Need-sub-if2 Inv-loop μ-loop
 sub-if2 c = search needs

@@ -1,5 +1,6 @@
 -- `with_code` meets its contract: a place past the values, or one of them.
 -- Assumes nothing.
+use mathlib.Core.Path.{refl}
 use native.Mathlib.Omega.{arith}
 use borrow.Author.Needs.{needs}
 use Rattle.history_values.proofs.Filling.{marked-outside}
@@ -29,7 +30,7 @@ array-write-next : tie.Need-array-write-next
 array-write-next c = search needs
 
 returns-3 : tie.Need-returns-3
-returns-3 c = rw (c .with-literal .ensures)
+returns-3 c = rw (c .with-literal .ensures) refl
 
 pub with-code-spec : {M : Type 1} → statement M
 with-code-spec =

@@ -1,0 +1,47 @@
+-- The worked examples of the command log hold.
+-- Assumes nothing.
+use mathlib.Core.Path.{refl}
+use native.Mathlib.Omega.{arith}
+use Rattle.search.specs.Search.{Each}
+use Rattle.logic_programs.specs.Literals.{setOf, holdsTrue, holdsFalse}
+use Rattle.answer_sets.specs.Verdicts.{verdict}
+use Rattle.logic_programs.specs.Words.{rulesOf, badRule}
+use Rattle.answer_sets.specs.Answers as engine
+use Rattle.description.specs.Acceptance.{badRecord, badHorizon}
+use Rattle.rule_words.specs.RuleForms.{complement}
+use Rattle.translation.specs.Rules.{translation}
+use Rattle.translation.specs.Translated as translated
+use Rattle.history.specs.Checks as history
+use Rattle.causal.specs.Verdicts.{causalVerdict}
+use Rattle.causal.specs.Readings as causal
+use Rattle.text.specs.Bytes.{cut}
+use Rattle.text.specs.Lines.{keyNumber, firstLine}
+use Rattle.text.specs.Names.{isName, literal}
+use Rattle.text.specs.Lists.{items, listOf}
+use Rattle.line_values.specs.HorizonText.{horizonOf}
+use Rattle.description_reader.specs.LineSteps.{headOf, lineStep}
+use Rattle.description_reader.specs.Descriptions.{described}
+use Rattle.history_reader.specs.Histories.{readHistory}
+use Rattle.written_form.specs.HistoryWriting.{valuesText}
+use Rattle.worked_examples.specs.Examples.{Holds}
+use Rattle.worked_examples.specs.Log.{logExamples, callerExamples}
+
+pub log-examples : Each Holds logExamples
+unfolding cut keyNumber firstLine isName literal items listOf horizonOf headOf lineStep described readHistory valuesText
+log-examples = (refl, (refl, (refl, (refl, (refl, (refl, (refl, (refl, (refl, (refl, (refl, (refl, (refl, (refl, (refl, (refl, (refl, tt)))))))))))))))))
+
+pub caller-examples : Each Holds callerExamples
+unfolding engine.answer verdict rulesOf badRule setOf holdsTrue holdsFalse complement badRecord badHorizon translation translated.outcome history.checked causalVerdict causal.reading
+caller-examples = (
+  refl,
+  (
+    refl,
+    (
+      refl,
+      (
+        (λ h. h 0 0 (omega arith) (omega arith) refl),
+        ((λ h. h 1 1 (omega arith) (omega arith) refl), ((λ h. h 1 1 (omega arith) (omega arith) refl), tt)),
+      ),
+    ),
+  ),
+)
