@@ -25,8 +25,19 @@ pub fn values_fit(description: &Description, length: usize) -> Result<(), Refusa
     Ok(())
 }
 
-/// Reads the history's own text; its lines count from 1.
+/// Reads the history's own text; its lines count from 1. An action absent from its act line has value false.
 pub fn read_lines(names: &Description, history: &[u8]) -> Result<Vec<u8>, Refusal> {
+    let mut values = listed_values(names, history)?;
+    for (atom, value) in values.iter_mut().enumerate() {
+        if *value == 0 && names.is_action(atom) {
+            *value = 2;
+        }
+    }
+    Ok(values)
+}
+
+/// The values of what the lines list, and 0 for all else.
+pub fn listed_values(names: &Description, history: &[u8]) -> Result<Vec<u8>, Refusal> {
     if history.len() > MAX_TEXT {
         return Err(Refusal::new(1, 0));
     }

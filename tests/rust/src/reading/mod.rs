@@ -12,6 +12,8 @@ pub mod report;
 pub mod translation;
 
 #[cfg(test)]
+mod command_log;
+#[cfg(test)]
 mod examples;
 #[cfg(test)]
 mod refusals;

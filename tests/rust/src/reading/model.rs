@@ -39,6 +39,11 @@ impl Description {
         self.horizon * self.stride() + self.fluents.len()
     }
 
+    /// Is the atom an action's? At each time the fluents come first, then the actions.
+    pub fn is_action(&self, atom: usize) -> bool {
+        atom % self.stride() >= self.fluents.len()
+    }
+
     /// The number a name stands for: fluents first, then actions.
     pub fn symbol(&self, name: &[u8]) -> Option<usize> {
         let mut declared = self.fluents.iter().chain(&self.actions);

@@ -86,11 +86,8 @@ fn dynamic_rules(description: &Description, law: &Law, after: &[u16], table: &mu
 
 /// Two rules for each atom that no law needs to explain: fluents at time 0 and all actions.
 fn choice_rules(description: &Description, table: &mut Table) {
-    let stride = description.stride();
-    let fluents = description.fluents.len();
-    for atom in 0..description.horizon * stride {
-        let is_action = atom % stride >= fluents;
-        if atom < fluents || is_action {
+    for atom in 0..description.horizon * description.stride() {
+        if atom < description.fluents.len() || description.is_action(atom) {
             let yes = (2 * atom) as u16;
             let no = yes + 1;
             table.rule(no, std::iter::once(yes), std::iter::empty());
