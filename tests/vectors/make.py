@@ -3,16 +3,17 @@
 
 READING is the program `reading` of tests/rust, an independent reading of the contract: the stored outputs are what it says, so
 that the checker is held against a second reading and never against itself. The inputs: every verdict and causal verdict, every
-refusal that a text can meet, limits from both sides, damaged lines of each kind, the same for short laws (short_laws.py), and
-byte values 0 to 255 in names."""
+refusal that a text can meet, limits from both sides, damaged lines of each kind, the same for short laws (short_laws.py) and
+for command logs (command_log.py), and byte values 0 to 255 in names."""
 import sys
 
 sys.dont_write_bytecode = True
 
 import subprocess
 
+import command_log
 import short_laws
-from recipes import FULL, PASSING, RECIPE, TOP, history, inertia, still, swapped
+from recipes import FULL, PASSING, RECIPE, TOP, history, inertia, largest, still, swapped
 
 CRATE = TOP / "crates" / "vectors"
 
@@ -28,7 +29,7 @@ def verdicts():
         "m4": FULL + history("-locked", "reflow", "-locked,flowed"),
         "m5": FULL + history("-locked,locked,-flowed", "reflow", "-locked,flowed"),
         "missing_last_atom": FULL + history("-locked,-flowed", "reflow", "-locked"),
-        "missing_action": FULL + history("-locked,-flowed", "", "-locked,flowed"),
+        "m2_act_line_empty": FULL + history("-locked,-flowed", "", "-locked,flowed"),
         "missing_before_clash": FULL + history("locked,-locked", "reflow", "-locked,flowed"),
         "contradicted_at_time_0": static + history("-p,q", "", "p,q"),
         "contradicted_at_the_end": swapped("fluent=q\n", "fluent=q\naction=a\n", static) + history("p,q", "a", "-p,q"),
@@ -73,17 +74,6 @@ def lengths():
         cases[f"bytes_{size}"] = FULL + history("-locked,-flowed" + states, "reflow" + ",reflow" * sevens, "-locked,flowed")
         assert len(cases[f"bytes_{size}"]) == size
     return cases
-
-
-def largest():
-    """The most words: 64 dynamic laws with six literals in each list, over 24 fluents, 8 actions and 30 steps."""
-    names = [f"f{i}" for i in range(24)]
-    laws = ""
-    for i in range(64):
-        sign = "" if i % 2 == 0 else "-"
-        name = names[i // 2 % 24]
-        laws += f"dynamic={sign}{name}\nif=" + ",".join([sign + name] * 6) + "\nafter=" + ",".join([sign + name] * 6) + "\n"
-    return still(30, 24, 8, laws)
 
 
 def damaged():
@@ -157,7 +147,9 @@ def main():
     def say(raw):
         return subprocess.run([sys.argv[1]], input=raw, stdout=subprocess.PIPE, check=True).stdout
 
-    cases = verdicts() | limits() | damaged() | misspelt() | short_laws.cases()
+    parts = [verdicts(), limits(), damaged(), misspelt(), short_laws.cases(), command_log.cases()]
+    cases = {name: text for part in parts for name, text in part.items()}
+    assert len(cases) == sum(map(len, parts)), "a name is given twice"
     data = CRATE / "data"
     for old in data.glob("*"):
         old.unlink()

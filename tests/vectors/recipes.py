@@ -1,4 +1,5 @@
-"""Recipes that stored inputs are made from: the contract's full recipe, long and short, and one in which nothing happens."""
+"""Recipes that stored inputs are made from: the contract's full recipe, long and short, a command log, one in which nothing
+happens, and the largest one."""
 import pathlib
 
 TOP = pathlib.Path(__file__).resolve().parents[2]
@@ -10,6 +11,9 @@ PASSING = RECIPE[len(FULL) :]
 SHORT_RECIPE = (TOP / "tests" / "recipes" / "full_short.txt").read_text()
 # The same description with all laws written short.
 SHORT = SHORT_RECIPE[: -len(PASSING)]
+
+# The same laws and two more, with a history that lists only what was done.
+LOG_RECIPE = (TOP / "tests" / "recipes" / "log.txt").read_text()
 
 
 def history(*lines):
@@ -32,6 +36,17 @@ def still(horizon, fluents, actions, laws=""):
     state = ",".join(f"-{n}" for n in names)
     act = ",".join(f"-{n}" for n in commands)
     return text + f"state={state}\n" + f"act={act}\nstate={state}\n" * int(horizon) + "end=\n"
+
+
+def largest():
+    """The most words: 64 dynamic laws with six literals in each list, over 24 fluents, 8 actions and 30 steps."""
+    names = [f"f{i}" for i in range(24)]
+    laws = ""
+    for i in range(64):
+        sign = "" if i % 2 == 0 else "-"
+        name = names[i // 2 % 24]
+        laws += f"dynamic={sign}{name}\nif=" + ",".join([sign + name] * 6) + "\nafter=" + ",".join([sign + name] * 6) + "\n"
+    return still(30, 24, 8, laws)
 
 
 def swapped(old, new, text=RECIPE):
