@@ -7,9 +7,9 @@ use crate::reading::causal::causal_reading;
 use crate::reading::check::check_history;
 use crate::reading::description::read_description;
 use crate::reading::engine::check_set;
-use crate::reading::history::read_values;
+use crate::reading::history::{read_lines, values_fit};
 use crate::reading::model::Description;
-use crate::reading::report::{printed, with_history};
+use crate::reading::report::{printed, with_history, Input};
 use crate::reading::translation::translate;
 use crate::reading::{Refusal, MAX_LAWS};
 
@@ -23,20 +23,29 @@ pub trait Calls {
     fn causal_reading(&self, input: &[u8]) -> Answer;
 }
 
-/// A reader of descriptions for which 64 law records are lent. All calls are made over it, so that a reader with a slip
-/// is a library with that slip, on which the comparison can be tried.
+/// A reader of texts. All calls are made over it, so that a reader with a slip is a library with that slip, on which the
+/// comparison can be tried.
 pub trait Reader {
-    fn read(&self, text: &[u8]) -> Result<Description, Refusal>;
+    /// The description at a text's start, for which 64 law records are lent.
+    fn read(&self, text: &[u8]) -> Result<Description, Refusal> {
+        read_description(text, MAX_LAWS)
+    }
+
+    /// The values of a history's own text.
+    fn history(&self, names: &Description, text: &[u8]) -> Result<Vec<u8>, Refusal> {
+        read_lines(names, text)
+    }
+
+    /// A description and the history behind it.
+    fn input(&self, input: &[u8]) -> Result<Input, Refusal> {
+        with_history(self.read(input)?, input, |names, text| self.history(names, text))
+    }
 }
 
 /// The independent reading of the contract.
 pub struct Reading;
 
-impl Reader for Reading {
-    fn read(&self, text: &[u8]) -> Result<Description, Refusal> {
-        read_description(text, MAX_LAWS)
-    }
-}
+impl Reader for Reading {}
 
 /// One number for an answer or a refusal.
 fn settle(answer: Result<Answer, Refusal>) -> Answer {
@@ -45,10 +54,7 @@ fn settle(answer: Result<Answer, Refusal>) -> Answer {
 
 impl<R: Reader> Calls for R {
     fn report(&self, input: &[u8], out: &mut [u8]) -> usize {
-        let read = self
-            .read(input)
-            .and_then(|description| with_history(description, input));
-        let printed = printed(read);
+        let printed = printed(self.input(input));
         let common = printed.len().min(out.len());
         out[..common].copy_from_slice(&printed[..common]);
         printed.len()
@@ -68,8 +74,8 @@ impl<R: Reader> Calls for R {
 
     fn read_history(&self, description: &[u8], history: &[u8], values: &mut [u8]) -> Answer {
         settle(self.read(description).and_then(|names| {
-            let read = read_values(&names, history, values.len())?;
-            values.copy_from_slice(&read);
+            values_fit(&names, values.len())?;
+            values.copy_from_slice(&self.history(&names, history)?);
             Ok(Answer::new(READ, 0))
         }))
     }
@@ -83,8 +89,7 @@ impl<R: Reader> Calls for R {
     }
 
     fn causal_reading(&self, input: &[u8]) -> Answer {
-        settle(self.read(input).and_then(|description| {
-            let read = with_history(description, input)?;
+        settle(self.input(input).and_then(|read| {
             let causal = causal_reading(&read.description, &read.values)?;
             Ok(Answer::from(causal))
         }))

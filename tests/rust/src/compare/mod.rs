@@ -1,10 +1,13 @@
 //! The comparison of a library's calls with the independent reading.
 
 pub mod brute;
+pub mod logs;
 pub mod tables;
 pub mod tally;
 pub mod texts;
 
+#[cfg(test)]
+mod command_log;
 #[cfg(test)]
 mod mutants;
 #[cfg(test)]

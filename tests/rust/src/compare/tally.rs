@@ -1,5 +1,6 @@
 //! How many cases of each kind and how many answers of each code were seen.
 
+use super::logs::{Log, LOGS};
 use crate::answer::{meaning, BROKEN, CLASH, CONTRADICTED, MISSING, PASSES, PATH, READ, UNCAUSED, UNFOUNDED, WRITTEN};
 use crate::generate::{tables, texts};
 use crate::reading::lines::Key;
@@ -70,6 +71,8 @@ pub struct Tally {
     passing: [u64; MAX_HORIZON + 1],
     /// Laws of texts whose description is taken, by the key they begin with.
     laws: [u64; LAWS.len()],
+    /// Histories as command logs.
+    logs: [u64; LOGS.len()],
 }
 
 impl Default for Tally {
@@ -88,6 +91,7 @@ impl Tally {
             defined: [0; 2],
             passing: [0; MAX_HORIZON + 1],
             laws: [0; LAWS.len()],
+            logs: [0; LOGS.len()],
         }
     }
 
@@ -121,6 +125,10 @@ impl Tally {
         }
     }
 
+    pub fn log(&mut self, log: Log) {
+        self.logs[log as usize] += 1;
+    }
+
     pub fn print(&self, out: &mut impl Write) -> io::Result<()> {
         for ((_, name, _), count) in texts::KINDS.iter().zip(self.texts) {
             writeln!(out, "texts, {name}: {count}")?;
@@ -140,6 +148,9 @@ impl Tally {
         for ((_, name), count) in LAWS.iter().zip(self.laws) {
             writeln!(out, "laws by {name}: {count}")?;
         }
+        for ((_, name), count) in LOGS.iter().zip(self.logs) {
+            writeln!(out, "histories, {name}: {count}")?;
+        }
         let [no, yes] = self.defined;
         writeln!(
             out,
@@ -156,9 +167,17 @@ impl Tally {
         Ok(())
     }
 
-    /// The codes of each call, and the forms of laws, that were seen fewer times than asked for.
+    /// The kinds of command logs that were seen fewer times than asked for.
+    pub fn rare_logs(&self, least: u64) -> Vec<String> {
+        let counts = LOGS.iter().zip(self.logs);
+        let rare = counts.filter(|(_, count)| *count < least);
+        rare.map(|((_, name), count)| format!("histories, {name}: {count}, wanted {least}"))
+            .collect()
+    }
+
+    /// The codes of each call, the forms of laws and the kinds of command logs that were seen fewer times than asked for.
     pub fn too_rare(&self, least: u64) -> Vec<String> {
-        let mut rare = Vec::new();
+        let mut rare = self.rare_logs(least);
         for ((_, name), count) in LAWS.iter().zip(self.laws) {
             if count < least {
                 rare.push(format!("laws by {name}: {count}, wanted {least}"));

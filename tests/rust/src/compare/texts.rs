@@ -1,5 +1,6 @@
 //! One text, put through all calls that take a text, by both sides.
 
+use super::logs::{examples, Log};
 use super::tally::{Call, Tally};
 use super::Difference;
 use crate::answer::{Answer, BROKEN, CLASH, CONTRADICTED, MISSING, PASSES, PATH, UNCAUSED, UNFOUNDED};
@@ -7,7 +8,7 @@ use crate::calls::{Calls, Reading};
 use crate::generate::texts::text;
 use crate::random::Random;
 use crate::reading::description::read_description;
-use crate::reading::history::read_lines;
+use crate::reading::history::{filled, listed_values};
 use crate::reading::lines::first_lines;
 use crate::reading::model::Description;
 use crate::reading::report::output;
@@ -20,8 +21,14 @@ struct Known {
     description: Description,
     /// Words of the translation.
     need: usize,
-    /// The history's values, if it can be read.
-    values: Option<Vec<u8>>,
+    /// The history, if it can be read.
+    history: Option<History>,
+}
+
+/// A history: what its lines list, and its values.
+struct History {
+    listed: Vec<u8>,
+    values: Vec<u8>,
 }
 
 /// A text at work.
@@ -59,11 +66,15 @@ pub fn compare(library: &impl Calls, random: &mut Random, tally: &mut Tally) -> 
 fn known(text: &[u8]) -> Option<Known> {
     let description = read_description(&text[..text.len().min(MAX_TEXT)], MAX_LAWS).ok()?;
     let need = all_rules(&description).words.len();
-    let values = read_lines(&description, &text[description.length..]).ok();
+    let listed = listed_values(&description, &text[description.length..]).ok();
+    let history = listed.map(|listed| History {
+        values: filled(&description, &listed),
+        listed,
+    });
     Some(Known {
         description,
         need,
-        values,
+        history,
     })
 }
 
@@ -72,6 +83,7 @@ impl<'a, C: Calls> Case<'a, C> {
     fn report(&mut self) -> Result<(), Difference> {
         let printed = output(self.text);
         self.count_report(&printed);
+        self.count_logs(&printed);
         let longer = printed.len() + self.random.below(20);
         let shorter = self.random.below(printed.len() + 1);
         for room in [longer, shorter] {
@@ -140,6 +152,7 @@ impl<'a, C: Calls> Case<'a, C> {
         let wanted = Reading.check_history(text, &values, &mut ours);
         let given = self.library.check_history(text, &values, &mut theirs);
         self.count(Call::CheckHistory, wanted);
+        self.count_own(wanted);
         if wanted != given || ours != theirs {
             let change = first_change(&ours, &theirs);
             let lent = format!("first {} bytes, values {values:?}, room {room}, {change}", text.len());
@@ -188,6 +201,30 @@ impl<'a, C: Calls> Case<'a, C> {
         }
     }
 
+    /// Counts what the history is an example of.
+    fn count_logs(&mut self, printed: &[u8]) {
+        if let Some(Known {
+            description,
+            history: Some(History { listed, values }),
+            ..
+        }) = &self.known
+        {
+            let passes = String::from_utf8_lossy(printed).contains("answer=passes\n");
+            for log in examples(description, listed, values, passes) {
+                self.tally.log(log);
+            }
+        }
+    }
+
+    /// Counts values lent to the history check that lack an action's.
+    fn count_own(&mut self, answer: Answer) {
+        if let (MISSING, Some(known)) = (answer.code, &self.known) {
+            if known.description.is_action(answer.value as usize) {
+                self.tally.log(Log::OwnMissing);
+            }
+        }
+    }
+
     /// Room for a table: as needed, one word short, more, or any.
     fn room(&mut self) -> usize {
         let Some(known) = &self.known else {
@@ -212,13 +249,16 @@ impl<'a, C: Calls> Case<'a, C> {
         }
     }
 
-    /// Values for the history check: the history's own, or some, and often spoilt in one place.
+    /// Values for the history check: the history's own, only what it lists, or some, and often spoilt in one place.
     fn values(&mut self) -> Vec<u8> {
         let length = self.values_length();
         let mut values = match &self.known {
             Some(Known {
-                values: Some(values), ..
-            }) => values.clone(),
+                history: Some(history), ..
+            }) if self.random.chance(1, 6) => history.listed.clone(),
+            Some(Known {
+                history: Some(history), ..
+            }) => history.values.clone(),
             _ => vec![1; length],
         };
         values.resize(length, 2);

@@ -111,8 +111,9 @@ fn caused(description: &Description, before: &[bool], next: &[bool]) -> Option<V
     Some(marks)
 }
 
-/// Spoils a history a little: a value turned round, taken away or doubled, at one place or a few.
-pub fn spoil(random: &mut Random, values: &mut [u8]) {
+/// Spoils a history a little: a value turned round, taken away or doubled, at one place or a few; now and then an action
+/// has both values.
+pub fn spoil(random: &mut Random, description: &Description, values: &mut [u8]) {
     let times = if random.chance(3, 4) { 1 } else { random.between(2, 4) };
     for _ in 0..times {
         let index = random.below(values.len());
@@ -121,6 +122,10 @@ pub fn spoil(random: &mut Random, values: &mut [u8]) {
             1 => 3,
             _ => 3 - values[index].min(3),
         };
+    }
+    let actions: Vec<usize> = (0..values.len()).filter(|atom| description.is_action(*atom)).collect();
+    if !actions.is_empty() && random.chance(1, 12) {
+        values[*random.pick(&actions)] = 3;
     }
 }
 

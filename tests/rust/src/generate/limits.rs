@@ -3,7 +3,7 @@
 use super::descriptions::{any_law, description, effect, names, spelled, Size};
 use super::histories::explained_values;
 use super::render::{
-    description_text, history_lines, history_lists, history_text, join, line, list_line, mixed_law, mixed_lines,
+    description_lines, history_lines, join, line, list_line, log_lines, log_lists, mixed_law, mixed_lines,
 };
 use crate::random::Random;
 use crate::reading::model::{Description, Head, Law};
@@ -67,7 +67,7 @@ pub fn text(random: &mut Random) -> Vec<u8> {
 /// history are those of the description given here, which may be fewer than the lines hold.
 fn with_history(random: &mut Random, description: &Description, mut lines: Vec<Vec<u8>>) -> Vec<u8> {
     let values = explained_values(random, description);
-    lines.extend(history_lines(description, &history_lists(description, &values)));
+    lines.extend(log_lines(random, description, &values));
     join(&lines)
 }
 
@@ -246,7 +246,7 @@ fn any_horizon(random: &mut Random) -> Vec<u8> {
 fn long_history_lists(random: &mut Random) -> Vec<u8> {
     let made = description(random, SMALL);
     let values = explained_values(random, &made);
-    let mut lists = history_lists(&made, &values);
+    let mut lists = log_lists(random, &made, &values);
     for list in &mut lists {
         let more = random.below(20);
         for _ in 0..more {
@@ -284,7 +284,8 @@ pub fn long_text(random: &mut Random) -> Vec<u8> {
         Long::Whole => text.extend(history_of(random, &made, wanted - head.len())),
         Long::History => text.extend(history_of(random, &made, wanted)),
         Long::Tail => {
-            text.extend(history_text(&made, &explained_values(random, &made)));
+            let values = explained_values(random, &made);
+            text.extend(join(&log_lines(random, &made, &values)));
             text.resize(wanted, b'x');
         }
     }
@@ -295,7 +296,7 @@ pub fn long_text(random: &mut Random) -> Vec<u8> {
 /// literal stands behind the end line.
 fn history_of(random: &mut Random, description: &Description, wanted: usize) -> Vec<u8> {
     let values = explained_values(random, description);
-    let mut lines = history_lines(description, &history_lists(description, &values));
+    let mut lines = log_lines(random, description, &values);
     let first: Vec<u8> = lines[0][b"state=".len()..].to_vec();
     let item = first.split(|byte| *byte == b',').next().unwrap_or(&first).to_vec();
     let mut missing = wanted.saturating_sub(join(&lines).len());
@@ -309,19 +310,22 @@ fn history_of(random: &mut Random, description: &Description, wanted: usize) -> 
     text
 }
 
-/// The largest description, or one law short of it, with a passing history that may be spoilt in one place.
+/// The largest description, or one law short of it, with a history in which everything is done and that passes, or in
+/// which nothing is done; it may be spoilt in one place.
 pub fn largest_text(random: &mut Random) -> Vec<u8> {
     let mut made = largest_description();
     made.horizon = random.between(28, 30);
     if random.chance(1, 2) {
         made.laws.pop();
     }
-    let mut values = vec![1; made.atoms()];
+    let of_actions = *random.pick(&[1, 1, 2]);
+    let value = |atom: usize| if made.is_action(atom) { of_actions } else { 1 };
+    let mut values: Vec<u8> = (0..made.atoms()).map(value).collect();
     if random.chance(1, 2) {
         let index = random.below(values.len());
         values[index] = random.below(4) as u8;
     }
-    let mut text = description_text(&made);
-    text.extend(history_text(&made, &values));
-    text
+    let mut lines = description_lines(&made);
+    lines.extend(log_lines(random, &made, &values));
+    join(&lines)
 }

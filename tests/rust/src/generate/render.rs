@@ -100,7 +100,7 @@ pub fn short_laws(description: &Description, law: &Law) -> Vec<Vec<Vec<u8>>> {
     forms
 }
 
-/// The lists of a history, state and act in turn, as literal codes in the order of the atoms.
+/// The lists of a history, state and act in turn, as literal codes in the order of the atoms: all that the values hold.
 pub fn history_lists(description: &Description, values: &[u8]) -> Vec<Vec<u16>> {
     let fluents = description.fluents.len();
     let stride = description.stride();
@@ -111,6 +111,41 @@ pub fn history_lists(description: &Description, values: &[u8]) -> Vec<Vec<u16>> 
         if time < description.horizon {
             lists.push(codes_of(&values[base + fluents..base + stride], fluents));
         }
+    }
+    lists
+}
+
+/// What a command log leaves out of its act lines.
+#[derive(Clone, Copy, Debug, PartialEq, Eq)]
+enum LeftOut {
+    Nothing,
+    /// All that was not done in some of the lines.
+    InSomeLines,
+    /// Some of what was not done.
+    Some,
+    /// All that was not done.
+    All,
+}
+
+const LEFT_OUT: [LeftOut; 4] = [LeftOut::Nothing, LeftOut::InSomeLines, LeftOut::Some, LeftOut::All];
+
+/// The lists of a history of which an act line may leave out what was not done. A reader takes them for the same values.
+pub fn log_lists(random: &mut Random, description: &Description, values: &[u8]) -> Vec<Vec<u16>> {
+    let left_out = *random.pick(&LEFT_OUT);
+    let mut lists = history_lists(description, values);
+    for act in lists.iter_mut().skip(1).step_by(2) {
+        let whole = act.clone();
+        let line = random.chance(1, 2);
+        act.retain(|code| {
+            let undone = code % 2 == 1 && !whole.contains(&(code - 1));
+            let left_out = match left_out {
+                LeftOut::Nothing => false,
+                LeftOut::InSomeLines => line,
+                LeftOut::Some => random.chance(1, 2),
+                LeftOut::All => true,
+            };
+            !(undone && left_out)
+        });
     }
     lists
 }
@@ -141,6 +176,11 @@ pub fn history_lines(description: &Description, lists: &[Vec<u16>]) -> Vec<Vec<u
     lines
 }
 
+/// The lines of a history that may leave out what was not done.
+pub fn log_lines(random: &mut Random, description: &Description, values: &[u8]) -> Vec<Vec<u8>> {
+    history_lines(description, &log_lists(random, description, values))
+}
+
 /// Lines put together, each ended by byte 10.
 pub fn join(lines: &[Vec<u8>]) -> Vec<u8> {
     let mut text = Vec::new();
@@ -156,7 +196,7 @@ pub fn description_text(description: &Description) -> Vec<u8> {
     join(&description_lines(description))
 }
 
-/// A history's text.
+/// A history's text, in which all is listed.
 pub fn history_text(description: &Description, values: &[u8]) -> Vec<u8> {
     join(&history_lines(description, &history_lists(description, values)))
 }
@@ -166,6 +206,7 @@ mod tests {
     use super::*;
     use crate::generate::descriptions::{description, size};
     use crate::reading::description::read_description;
+    use crate::reading::history::read_lines;
     use crate::reading::{Refusal, MAX_LAWS};
 
     /// Where the laws of some lines start, counted from 1.
@@ -193,6 +234,25 @@ mod tests {
             short += usize::from(lines.len() < description_lines(&made).len());
         }
         assert!(short > 1_000, "{short}");
+    }
+
+    /// A text has no way to say that an action is without a value; all other values are read back.
+    #[test]
+    fn what_is_listed_or_left_out_is_read_back() {
+        let mut random = Random::new(8);
+        for _ in 0..2_000 {
+            let size = size(&mut random);
+            let made = description(&mut random, size);
+            let values: Vec<u8> = (0..made.atoms()).map(|_| random.below(4) as u8).collect();
+            let mut wanted = values.clone();
+            for atom in (0..made.atoms()).filter(|atom| made.is_action(*atom)) {
+                wanted[atom] = [2, 1, 2, 3][usize::from(values[atom])];
+            }
+            let log = join(&log_lines(&mut random, &made, &values));
+            for text in [log, history_text(&made, &values)] {
+                assert_eq!(read_lines(&made, &text), Ok(wanted.clone()));
+            }
+        }
     }
 
     #[test]

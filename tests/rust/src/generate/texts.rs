@@ -4,7 +4,7 @@ use super::damage::damage;
 use super::descriptions::{description, size, SIZES};
 use super::histories::{explained_values, reorder, spoil};
 use super::limits;
-use super::render::{history_lines, history_lists, join, mixed_lines};
+use super::render::{history_lines, join, log_lines, log_lists, mixed_lines};
 use crate::random::Random;
 
 /// What sort of text a case is.
@@ -48,9 +48,9 @@ fn whole(random: &mut Random, spoilt: bool) -> Vec<u8> {
     let made = description(random, size);
     let mut values = explained_values(random, &made);
     if spoilt {
-        spoil(random, &mut values);
+        spoil(random, &made, &mut values);
     }
-    let mut lists = history_lists(&made, &values);
+    let mut lists = log_lists(random, &made, &values);
     reorder(random, &mut lists);
     let mut lines = mixed_lines(random, &made);
     lines.extend(history_lines(&made, &lists));
@@ -65,7 +65,7 @@ fn damaged(random: &mut Random) -> Vec<u8> {
         let made = description(random, SIZES[0]);
         let values = explained_values(random, &made);
         let mut lines = mixed_lines(random, &made);
-        lines.extend(history_lines(&made, &history_lists(&made, &values)));
+        lines.extend(log_lines(random, &made, &values));
         join(&lines)
     };
     damage(random, &mut text);

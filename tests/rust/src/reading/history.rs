@@ -8,13 +8,9 @@ use super::{Refusal, MAX_ATOMS, MAX_LAWS, MAX_TEXT};
 /// Reads a history into one value an atom, for a caller who lends the description's text again and a buffer of
 /// `values_length` bytes.
 pub fn read_history(description: &[u8], history: &[u8], values_length: usize) -> Result<Vec<u8>, Refusal> {
-    read_values(&read_description(description, MAX_LAWS)?, history, values_length)
-}
-
-/// The same, where the description is read already.
-pub fn read_values(names: &Description, history: &[u8], values_length: usize) -> Result<Vec<u8>, Refusal> {
-    values_fit(names, values_length)?;
-    read_lines(names, history)
+    let names = read_description(description, MAX_LAWS)?;
+    values_fit(&names, values_length)?;
+    read_lines(&names, history)
 }
 
 /// Condition 10 for a history: as many values as atoms, and no more than 1,024.
@@ -25,18 +21,21 @@ pub fn values_fit(description: &Description, length: usize) -> Result<(), Refusa
     Ok(())
 }
 
-/// Reads the history's own text; its lines count from 1. An action absent from its act line has value false.
+/// Reads the history's own text; its lines count from 1.
 pub fn read_lines(names: &Description, history: &[u8]) -> Result<Vec<u8>, Refusal> {
-    let mut values = listed_values(names, history)?;
-    for (atom, value) in values.iter_mut().enumerate() {
-        if *value == 0 && names.is_action(atom) {
-            *value = 2;
-        }
-    }
-    Ok(values)
+    Ok(filled(names, &listed_values(names, history)?))
 }
 
-/// The values of what the lines list, and 0 for all else.
+/// The values of what is listed and of what is not: an action absent from its act line has value false.
+pub fn filled(names: &Description, listed: &[u8]) -> Vec<u8> {
+    let value = |(atom, value): (usize, &u8)| match value {
+        0 if names.is_action(atom) => 2,
+        _ => *value,
+    };
+    listed.iter().enumerate().map(value).collect()
+}
+
+/// The values of what the history's lines list, and 0 for all else.
 pub fn listed_values(names: &Description, history: &[u8]) -> Result<Vec<u8>, Refusal> {
     if history.len() > MAX_TEXT {
         return Err(Refusal::new(1, 0));

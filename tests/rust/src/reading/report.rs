@@ -18,12 +18,16 @@ pub struct Input {
 /// Reads a description and the history behind it. Lines count over the whole input, so a history's refusal is moved up
 /// by the description's lines; a place that is no line stays as it is.
 pub fn read_input(input: &[u8]) -> Result<Input, Refusal> {
-    with_history(read_description(input, MAX_LAWS)?, input)
+    with_history(read_description(input, MAX_LAWS)?, input, read_lines)
 }
 
-/// The same, where the description at the input's start is read already.
-pub fn with_history(description: Description, input: &[u8]) -> Result<Input, Refusal> {
-    let values = read_lines(&description, &input[description.length..]).map_err(|refusal| match refusal.number {
+/// The same, where the description at the input's start is read already, and the reader of a history's text is given.
+pub fn with_history(
+    description: Description,
+    input: &[u8],
+    read: impl Fn(&Description, &[u8]) -> Result<Vec<u8>, Refusal>,
+) -> Result<Input, Refusal> {
+    let values = read(&description, &input[description.length..]).map_err(|refusal| match refusal.number {
         1 => refusal,
         _ => Refusal::new(refusal.number, refusal.place + description.lines),
     })?;
