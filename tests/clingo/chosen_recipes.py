@@ -1,6 +1,6 @@
 """Recipes picked by hand: the full recipe of the contract with M1 to M5, the
-two examples of the paper's section 2, recipes for each known slip, and recipes
-whose laws are written short.
+two examples of the paper's section 2, recipes for each known slip, recipes whose
+laws are written short, and command logs, which list only what was done.
 
 A law is written `head if list` (static) or `head if list after list` (dynamic);
 either list may be left empty, and a law is dynamic if the word `after` is there.
@@ -183,6 +183,44 @@ SHORT = [
 ]
 
 
+SWITCH = inertial("p", "q") + ["p after a", "-p after b"]
+BELT = ["r after load", "-r after -load", "q after r", "-q after -r", "p after q", "-p after -q"]
+BANNED = ["p after -a", "false after a,-b"]
+
+# Command logs: an action absent from its act line was not done. Each history has the verdict
+# that follows from the contract, where one was worked out.
+LOGS = [
+    # M2 and M3 without the command that was not given, and other histories of the full recipe
+    (LOCK, [("-locked,-flowed; ; -locked,flowed", "unfounded 8"),
+            ("locked,-flowed; ; -locked,-flowed", "unfounded 7"),
+            ("locked,-flowed; ; locked,-flowed", "passes"),
+            ("-locked,-flowed; reflow,-reflow; -locked,flowed", "clash 2"),
+            ("-locked,-flowed; ; -locked", "missing 4")]),
+    (DOOR, [("closed;;closed", "passes"), ("closed;;-closed", SOME_FAULT),
+            ("-closed;;closed", "passes"), ("-closed;;-closed", SOME_FAULT)]),
+    # two actions of which one is listed, or both literals of one
+    ((1, "p q", "a b", SWITCH),
+     [("-p,q;a;p,q", "passes"), ("p,q;b;-p,q", "passes"), ("p,q;-a;p,q", "passes"),
+      ("-p,q;b;p,q", "broken 5"), ("p,q;-b,b;p,q", "clash 3"), ("p,q;a,-a,-b;p,q", "clash 2")]),
+    # what was not done is a cause, and forbids what was done
+    ((1, "p", "a b", BANNED), [("-p;;p", "passes"), ("-p;a;p", "broken 1"),
+                               ("-p;a,b;p", "unfounded 6"), ("-p;;-p", "broken 0")]),
+    # several steps, of which only some list an action
+    ((5, "p q r", "load", BELT),
+     [("-p,-q,-r;load;-p,-q,r;;-p,q,-r;;p,-q,-r;load;-p,-q,r;;-p,q,-r", "passes"),
+      ("-p,-q,-r;load;-p,-q,r;;-p,q,-r;;p,-q,-r;;-p,-q,r;;-p,q,-r", SOME_FAULT),
+      ("-p,-q,-r;;-p,-q,r;load;-p,q,-r;;p,-q,-r;load;-p,-q,r;;-p,q,-r", SOME_FAULT),
+      ("-p,-q,-r;;-p,-q,-r;-load;-p,-q,-r;;-p,-q,-r;;-p,-q,-r;load,-load;-p,-q,r", "clash 19"),
+      ("-p,-q,-r;;-p,-q,-r;;-p,-q,-r;;-p,-q,-r;;-p,-q,-r;;-p,-q", "missing 22")]),
+    ((30, "p", "a", inertial("p") + ["-p after a"]),
+     [("p" + 30 * ";;p", "passes"), ("p" + 29 * ";;p" + ";a;-p", "passes"),
+      ("p" + 29 * ";;p" + ";;-p", "unfounded 121")]),
+    # eight actions
+    ((2, "p", "a b c d e f g h", inertial("p") + ["p after h"]),
+     [("-p;;-p;;-p", "passes"), ("-p;h;p;a,b,c,d,e,f,g;p", "passes"), ("-p;;p;;p", SOME_FAULT)]),
+]
+
+
 def each_way_by_turns():
     """Writes the first law out, the second in its first short form, and so on."""
     turns = itertools.count()
@@ -257,6 +295,13 @@ def unstated(examples):
         yield description, [(history_of(description, text), None) for text in texts]
 
 
+def command_logs():
+    """Histories that leave out what was not done, with the verdicts worked out for them."""
+    for example, histories in LOGS:
+        description = description_of(*example)
+        yield description, [(history_of(description, text), verdict) for text, verdict in histories]
+
+
 def picked_cases(picked, new_spelling):
     cases = []
     for description, histories in picked:
@@ -273,4 +318,5 @@ def chosen_recipes():
     short = [lock_histories(), every_transition(DOOR, DOOR_TRANSITIONS), *unstated(SHORT)]
     mixed = [lock_histories(), *unstated(SHORT[-4:])]
     return (picked_cases(long, lambda: written_out) + largest_cases()
-            + picked_cases(short, lambda: written_short) + picked_cases(mixed, each_way_by_turns))
+            + picked_cases(short, lambda: written_short) + picked_cases(mixed, each_way_by_turns)
+            + picked_cases(command_logs(), lambda: written_short))

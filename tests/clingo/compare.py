@@ -45,14 +45,16 @@ PROGRAM = os.path.join(ROOT, "target", "bin", "solver_cases")
 VERDICTS = ["passes", "broken", "unfounded", "missing", "clash"]
 
 BATCH_BYTES = 65000  # each file of one run of the program stays below this
-STORE_BYTES = 60000  # so does each stored file
-STORED_RECIPES, STORED_TABLES = 210, 320
+STORE_BYTES = 64000  # so does each stored file
+STORED_RECIPES, STORED_TABLES = 240, 320
 
 
 def make_cases(seed, recipes, tables):
     """Hand-picked cases first, then random ones up to the numbers asked for."""
     picked = chosen_recipes()[:recipes]
-    recipe_list = picked + random_recipes(random.Random("recipes %d" % seed), recipes - len(picked))
+    recipe_list = picked + random_recipes(random.Random("recipes %d" % seed),
+                                          random.Random("act lines %d" % seed),
+                                          recipes - len(picked))
     picked = chosen_tables()[:tables]
     table_list = picked + random_tables(random.Random("tables %d" % seed), tables - len(picked))
     return recipe_list, table_list
@@ -193,6 +195,17 @@ def writing(case):
     return {(0, 0): "no laws", (0, 1): "long", (1, 0): "short", (1, 1): "mixed"}[short, long]
 
 
+def listing(case):
+    """How much of what was not done the act lines of a recipe list."""
+    description, history = language.read_recipe(case.text)
+    absent, listed = 0, 0
+    for act in history.acts:
+        absent += len(language.absent_actions(description, act))
+        listed += sum(code % 2 == 1 and language.complement(code) not in act for code in act)
+    names = {(0, 0): "nothing undone", (0, 1): "all", (1, 0): "none", (1, 1): "some"}
+    return names[absent > 0, listed > 0]
+
+
 def report(recipes, recipe_lines, tables, table_lines):
     for kind, cases, lines in (("recipes", recipes, recipe_lines), ("tables", tables, table_lines)):
         groups = [case.group for case in cases]
@@ -205,6 +218,8 @@ def report(recipes, recipe_lines, tables, table_lines):
         if kind == "recipes":
             print("  horizons: " + tally_ranges(map(horizon, cases), [0, 1, 5, 15, 29, 30]))
             print("  laws: " + tally(map(writing, cases), ["long", "short", "mixed", "no laws"]))
+            print("  listed of what was not done: "
+                  + tally(map(listing, cases), ["none", "some", "all", "nothing undone"]))
 
 
 def compare(options):

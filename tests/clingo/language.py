@@ -27,7 +27,7 @@ class Description(NamedTuple):
 
 class History(NamedTuple):
     states: Tuple[Tuple[int, ...], ...]  # as listed: any order, repeats kept
-    acts: Tuple[Tuple[int, ...], ...]
+    acts: Tuple[Tuple[int, ...], ...]  # what is absent was not done
 
 
 # ---------------------------------------------------------------- text
@@ -250,22 +250,37 @@ def all_literals(description):
     return found
 
 
-def history_literals(description, history):
-    """The set a history lists, in the solver's spelling."""
+def absent_actions(description, act):
+    """The places among all names of the actions that an act line does not list."""
+    names = len(description.fluents) + len(description.actions)
+    listed = {code // 2 for code in act}
+    return [place for place in range(len(description.fluents), names) if place not in listed]
+
+
+def filled_history(description, history):
+    """The set a history stands for, as pairs of time and code: what it lists, and the
+    negative literal of each action absent from its act line."""
     found = set()
-    for time, state in enumerate(history.states):
-        found.update(solver_literal(description, code, time) for code in state)
+    for lists in (history.states, history.acts):
+        for time, codes in enumerate(lists):
+            found.update((time, code) for code in codes)
     for time, act in enumerate(history.acts):
-        found.update(solver_literal(description, code, time) for code in act)
-    return frozenset(found)
+        found.update((time, 2 * place + 1) for place in absent_actions(description, act))
+    return found
+
+
+def history_literals(description, history):
+    """The set a history stands for, in the solver's spelling."""
+    return frozenset(solver_literal(description, code, time)
+                     for time, code in filled_history(description, history))
 
 
 def history_constraints(description, history):
     """Requires each literal of the history, forbids each other literal."""
-    listed = history_literals(description, history)
+    held = history_literals(description, history)
     lines = []
     for literal in all_literals(description):
-        lines.append(":- %s%s." % ("not " if literal in listed else "", literal))
+        lines.append(":- %s%s." % ("not " if literal in held else "", literal))
     return "\n".join(lines) + "\n"
 
 
@@ -317,10 +332,6 @@ def coded_program(description):
 
 
 def coded_history(description, history):
-    """The set of literal codes over atoms that a history lists."""
+    """The set of literal codes over atoms that a history stands for."""
     width = 2 * (len(description.fluents) + len(description.actions))
-    found = set()
-    for lists in (history.states, history.acts):
-        for time, codes in enumerate(lists):
-            found.update(width * time + code for code in codes)
-    return frozenset(found)
+    return frozenset(width * time + code for time, code in filled_history(description, history))

@@ -1,6 +1,7 @@
 """Recipes drawn at random: descriptions of many shapes, histories that clingo
 finds for them, and histories got from those by small changes. Laws that have a
-short form are written short by chance."""
+short form are written short by chance, and act lines leave out by chance none,
+some or all of what was not done."""
 
 import solver
 from cases import Case
@@ -187,6 +188,17 @@ def write_history(rng, description, chosen):
     return History(tuple(map(tuple, states)), tuple(map(tuple, acts)))
 
 
+def left_out(rng, history):
+    """The history with some share of what was not done left out of its act lines;
+    where both literals of an action are listed, they stay."""
+    share = rng.choice([0.0, 0.5, 1.0])
+    acts = []
+    for act in history.acts:
+        acts.append(tuple(code for code in act if code % 2 == 0 or complement(code) in act
+                          or rng.random() >= share))
+    return history._replace(acts=tuple(acts))
+
+
 def opposite(place):
     return place[0], place[1], complement(place[2])
 
@@ -258,7 +270,7 @@ CHANGES = {
 }
 
 
-def draw_histories(rng, description, passing, count):
+def draw_histories(rng, log_rng, description, passing, count):
     """So many histories with the names of their changes."""
     places, literals = literal_places(description), all_literals(description)
     sets = [listed_places(places, literals, one) for one in passing]
@@ -269,7 +281,7 @@ def draw_histories(rng, description, passing, count):
         how = rng.choices(names, weights)[0]
         first, second = (rng.choice(sets), rng.choice(sets)) if sets else (set(), set())
         chosen = CHANGES[how][1](rng, first, second, places)
-        histories.append(write_history(rng, description, chosen))
+        histories.append(left_out(log_rng, write_history(rng, description, chosen)))
         groups.append(how)
     return histories, groups
 
@@ -316,14 +328,16 @@ def recipe_cases(description, histories, groups, stated=None, found=None,
     return cases
 
 
-def random_recipes(rng, wanted):
+def random_recipes(rng, log_rng, wanted):
+    """So many recipes; `log_rng` settles only what act lines leave out."""
     cases = []
     while len(cases) < wanted:
         description = random_description(rng)
         passing, found = complete_sets(rng, description, solver_program(description))
         if not passing and rng.random() < 0.75:
             continue  # keeps descriptions without any passing history rarer
-        histories, groups = draw_histories(rng, description, passing, rng.randint(3, 7))
+        histories, groups = draw_histories(rng, log_rng, description, passing,
+                                           rng.randint(3, 7))
         cases += recipe_cases(description, histories, groups, None, found,
                               lambda: mixed_spelling(rng))
     return cases[:wanted]
