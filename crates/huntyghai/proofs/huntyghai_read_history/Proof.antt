@@ -22,7 +22,7 @@ returns c =
     let rh = c .before .before .before .read-history in
     let a = c .before .before .before .before .before .before .before .before .args in
     let is = c .of-history .ensures ∙ ap (replyCode readCode) (rh .ensures .0) in
-    (is, (rh .ensures .1, as-listed historyCodes is (history-codes (a .description .now) (a .text .now) (length (a .values .now)))))
+    (is, (rh .ensures .1 .0, as-listed historyCodes is (history-codes (a .description .now) (a .text .now) (length (a .values .now)))))
 
 pub huntyghai-read-history-spec : {M : Type 1} → statement M
 huntyghai-read-history-spec =
