@@ -30,7 +30,7 @@ use Rattle.history_values.proofs.Filling.{take-marked, take-filled}
 use Rattle.history_reader.specs.Histories.{historyEnd, listed, listLine, most, statesFrom, byNames}
 use Rattle.text.specs.Internal.{lineOf, spelled, itemAt, nextAt, itemsAt}
 use Rattle.description_reader.specs.Internal.{draftOf}
-use Rattle.history_reader.specs.Internal.{recordFrom, isState, keyAt, lowAt, highAt, baseAt, filledAt, wantedAt, placeFrom, leftOf, endingOf, valuesRead, atomsOf}
+use Rattle.history_reader.specs.Internal.{recordFrom, keyAt, lowAt, highAt, baseAt, filledAt, wantedAt, placeFrom, leftOf, endingOf, valuesRead, atomsOf}
 use Rattle.description_reader.specs.Internal.{Limits}
 use Rattle.text.proofs.Spelling.{spelled-length}
 use Rattle.text.proofs.Items.{next-later}
@@ -143,13 +143,6 @@ module _ (names-text text : List ℕ) (r : Reading) (m line at : ℕ) (old : Lis
         (whole (sym (item-refused names (w .low) (w .high) value i inside (passed .done) (omega (arith, passed .few)) (passed .left) e)))
 
 -- bounds
-pub wanted-high : (r : Reading) (line : ℕ) → Limits r → highAt (r .fluents) (r .names .count) line ≤ 32
-wanted-high r line h = go (isState line)
-  where
-    go : (b : Bool) → cond b (r .fluents) (r .names .count) ≤ 32
-    go true = omega (arith, h .few)
-    go false = omega (arith, h .few, h .actions)
-
 pub place-bound : (size : ℕ) → placeFrom size ≤ size + 1
 place-bound size = go (ltb 0 size)
   where

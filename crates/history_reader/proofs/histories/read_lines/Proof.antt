@@ -6,7 +6,7 @@ use native.Mathlib.Omega.{arith}
 use mathlib.Core.Path.{_≡_, refl, sym, _∙_, ap}
 use mathlib.Core.List.{List}
 use mathlib.Core.Option.{Option}
-use Prim.Native.Nat.{ℕ, suc, _+_, _-_, _*_, _/_, _≤_}
+use Prim.Native.Nat.{ℕ, suc, _+_, _-_, _*_, _≤_}
 use native.Mathlib.Numerals.{add-one}
 use lib.ListN.{length, take, drop, replicate, length-take, length-drop}
 use Rattle.search.proofs.Loops.{at-place, no-place}
@@ -17,10 +17,8 @@ use Rattle.history_reader.specs.Histories.{statesFrom}
 use Rattle.text.specs.Internal.{spelled, itemAt}
 use Rattle.description_reader.specs.Internal.{draftOf}
 use Rattle.history_reader.specs.Internal.{recordFrom, leftOf}
-use Rattle.text.proofs.Spelling.{literal-small}
 use Rattle.text.proofs.Items.{next-later}
-use Rattle.history_reader.proofs.Marking.{base-bound}
-use Rattle.history_reader.proofs.Recording.{Marked, marked-none, marked-one, line-wrong, line-read, line-refused, wanted-high, place-bound, record-starts, left-done}
+use Rattle.history_reader.proofs.Recording.{Marked, marked-none, marked-one, line-wrong, line-read, line-refused, place-bound, record-starts, left-done}
 use Rattle.history_reader.proofs.histories.read_lines.Statement.{statement}
 use Rattle.history_reader.proofs.histories.read_lines.Tie as tie
 
@@ -98,11 +96,6 @@ entry n = n .before .before .before .before .before .before
 
 abbrev list-at : tie.At-loop Inv-loop μ-loop Inv-lines μ-lines → List ℕ
 list-at h = take (line-at h .to - line-at h .from) (drop (line-at h .from) (entry (start-at h) .args .text .now))
-
-high : (h : tie.At-loop Inv-loop μ-loop Inv-lines μ-lines) → due-at h .high ≤ 32
-high h =
-    let a = entry (start-at h) in
-    rw (h .before .before .before .before .before .before .line-due .ensures) (wanted-high (a .args .reading) (start-at h .lines .line) (a .pre .1))
 
 short : (h : tie.At-loop Inv-loop μ-loop Inv-lines μ-lines) → length (list-at h) ≤ 65535
 short h =
