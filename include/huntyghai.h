@@ -48,13 +48,15 @@ uint64_t huntyghai_check_set(const uint8_t *values, size_t values_length, const 
  * rules. */
 uint64_t huntyghai_translate(const uint8_t *text, size_t text_length, uint16_t *table, size_t table_length);
 
-/* Reads a history's text, which begins behind the description's end line, into one value an atom. Codes 1 to 7, 10, 112;
- * the description's own refusal comes first. Lines are counted within the text that is refused. */
+/* Reads a history's text, which begins behind the description's end line, into one value an atom. An action that its act
+ * line does not list has value 2, false; a fluent that its state line does not list has 0. Codes 1 to 7, 10, 112; the
+ * description's own refusal comes first. Lines are counted within the text that is refused. */
 uint64_t huntyghai_read_history(const uint8_t *description, size_t description_length, const uint8_t *history,
                                 size_t history_length, uint8_t *values, size_t values_length);
 
-/* The history check on the description at the text's start, which is read as by huntyghai_translate. Codes 1 to 6, 9 to
- * 11, 64 to 68. After every verdict the table's first words are the description's rules. */
+/* The history check on the description at the text's start, which is read as by huntyghai_translate. The values are taken
+ * as they are: where an atom, an action's too, has value 0, the answer is missing. Codes 1 to 6, 9 to 11, 64 to 68. After
+ * every verdict the table's first words are the description's rules. */
 uint64_t huntyghai_check_history(const uint8_t *text, size_t text_length, const uint8_t *values, size_t values_length,
                                  uint16_t *table, size_t table_length);
 
