@@ -7,7 +7,7 @@ use mathlib.Core.Option.{Option, none, some}
 use Prim.Native.Nat.{ℕ, zero, suc, _+_, _-_, _*_, _≤_, _<_}
 use native.Mathlib.Nat.{mul-le-mul-right, suc-mul}
 use native.Mathlib.Omega.{arith}
-use borrow.Author.Tests.{ltb-true, ltb-false}
+use borrow.Author.Tests.{eqb-true, ltb-true, ltb-false}
 use lib.Dec.{eqb, ltb}
 use lib.ListN.{length, getD, replicate, length-replicate}
 use Rattle.search.specs.Replies.{Reply, refused, answered}
@@ -28,7 +28,7 @@ OfAnswer P (refused number place) = Unit
 OfAnswer P (answered vs) = P vs
 
 module _ (P : List ℕ → Type 0) where
-  end-keeps : (o : Option Line) (line : ℕ) (vs : List ℕ) → P vs → OfAnswer P (historyEnd o line vs)
+  pub end-keeps : (o : Option Line) (line : ℕ) (vs : List ℕ) → P vs → OfAnswer P (historyEnd o line vs)
   end-keeps none line vs p = tt
   end-keeps (some l) line vs p = by (eqb (l .key) endKey) refl (l .value) refl (l .rest) refl
     where
@@ -39,16 +39,18 @@ module _ (P : List ℕ → Type 0) where
       by true e (b ∷ bs) f rest g = rw (e, f) tt
       by false e value f rest g = rw e tt
 
-  -- a line of literals, with what follows it
-  list-keeps : (d : Draft) (key low high : ℕ) (o : Option Line) (line base : ℕ) (vs : List ℕ) (go : List ℕ → List ℕ → Reply (List ℕ))
-      → ((cs rest : List ℕ) → OfAnswer P (go (marked base vs cs) rest)) → OfAnswer P (listLine d key low high o line base vs go)
+  -- a line of literals, with what follows it where the line is due and its list is taken
+  pub list-keeps : (d : Draft) (key low high : ℕ) (o : Option Line) (line base : ℕ) (vs : List ℕ) (go : List ℕ → List ℕ → Reply (List ℕ))
+      → ((l : Line) → o ≡ some l → l .key ≡ key → (cs : List ℕ) → listOf (d .names) low high most (l .value) ≡ codes cs → OfAnswer P (go (marked base vs cs) (l .rest)))
+      → OfAnswer P (listLine d key low high o line base vs go)
   list-keeps d key low high none line base vs go h = tt
-  list-keeps d key low high (some l) line base vs go h = by (eqb (l .key) key) (listOf (d .names) low high most (l .value))
+  list-keeps d key low high (some l) line base vs go h = by (eqb (l .key) key) refl (listOf (d .names) low high most (l .value)) refl
     where
-      by : (b : Bool) (list : Listed) → OfAnswer P (cond b (listed list line base vs (λ ws. go ws (l .rest))) (refused 2 line))
-      by true (lists.refused k) = tt
-      by true (codes cs) = h cs (l .rest)
-      by false list = tt
+      by : (b : Bool) → eqb (l .key) key ≡ b → (list : Listed) → listOf (d .names) low high most (l .value) ≡ list
+          → OfAnswer P (cond b (listed list line base vs (λ ws. go ws (l .rest))) (refused 2 line))
+      by true e (lists.refused k) f = tt
+      by true e (codes cs) f = h l refl (eqb-true (l .key) key e) cs f
+      by false e list f = tt
 
 -- P holds of the values before the lines of a time; each list keeps it, and an act line's filling takes it to the next time
 module _ (d : Draft) (T : ℕ) (P : ℕ → List ℕ → Type 0)
@@ -58,11 +60,11 @@ module _ (d : Draft) (T : ℕ) (P : ℕ → List ℕ → Type 0)
   states-keep zero t line vs text e p =
       let last : t ≡ T = omega arith in
       list-keeps (P T) d _ _ _ (firstLine text) line _ vs _
-      (λ cs rest. end-keeps (P T) (firstLine rest) (suc line) _ (subst (λ s. P s (marked (t * length (d .names)) vs cs)) last (keeps-marked t _ vs cs p)))
+      (λ l _ _ cs _. end-keeps (P T) (firstLine (l .rest)) (suc line) _ (subst (λ s. P s (marked (t * length (d .names)) vs cs)) last (keeps-marked t _ vs cs p)))
   states-keep (suc k) t line vs text e p =
       list-keeps (P T) d _ _ _ (firstLine text) line _ vs _
-      (λ cs rest. list-keeps (P T) d _ _ _ (firstLine rest) (suc line) _ _ _
-      (λ cs′ rest′. states-keep k (suc t) (suc (suc line)) _ rest′ (omega arith)
+      (λ l _ _ cs _. list-keeps (P T) d _ _ _ (firstLine (l .rest)) (suc line) _ _ _
+      (λ l′ _ _ cs′ _. states-keep k (suc t) (suc (suc line)) _ (l′ .rest) (omega arith)
       (keeps-filled t (omega arith) _ (keeps-marked t _ _ cs′ (keeps-marked t _ vs cs p)))))
 
 -- the actions before time t have values

@@ -2,13 +2,13 @@
 -- Assumes nothing.
 use mathlib.Core.Path.{_≡_, refl, sym, ap, _∙_}
 use mathlib.Core.Bool.{Bool, true, false, cond}
-use mathlib.Core.List.{List, [], _∷_}
+use mathlib.Core.List.{List, [], _∷_, _++_, map}
 use Prim.Native.Nat.{ℕ, zero, suc, _+_, _-_, _/_, _%_, _≤_, _<_}
 use native.Mathlib.Omega.{arith}
 use borrow.Author.Tests.{eqb-true, eqb-false}
 use lib.Dec.{eqb, ltb}
-use lib.ListN.{length, getD, take, set, length-set}
-use lib.Seq.{set-out, getD-set-same}
+use lib.ListN.{length, getD, take, set, length-set, length-append}
+use lib.Seq.{append-snoc, set-out, set-at, getD-at, getD-set-same}
 use Rattle.history_values.specs.Values.{withTrue, withFalse, marked, orFalse, filled}
 
 -- the value of a code's atom, with the code's literal
@@ -49,6 +49,17 @@ filled-turn base i high vs h left =
     let one : high - i ≡ suc (high - (i + 1)) = omega arith in
     let next : base + (i + 1) ≡ suc (base + i) = omega arith in
     rw next (rw one at left)
+
+-- the places behind p
+pub filled-middle : (at : ℕ) (p xs zs : List ℕ) → length p ≡ at → filled at (length xs) (p ++ (xs ++ zs)) ≡ p ++ (map orFalse xs ++ zs)
+filled-middle at p [] zs there = refl
+filled-middle at p (x ∷ xs) zs there =
+    ap (filled (suc at) (length xs)) (here ∙ sym (append-snoc p (orFalse x) (xs ++ zs)))
+    ∙ filled-middle (suc at) (p ++ (orFalse x ∷ [])) xs zs (omega (arith, length-append p (orFalse x ∷ [])))
+    ∙ append-snoc p (orFalse x) (map orFalse xs ++ zs)
+  where
+    here : set (p ++ x ∷ (xs ++ zs)) at (orFalse (getD (p ++ x ∷ (xs ++ zs)) at 0)) ≡ p ++ orFalse x ∷ (xs ++ zs)
+    here = ap (λ (w : ℕ). set (p ++ x ∷ (xs ++ zs)) at (orFalse w)) (getD-at p x (xs ++ zs) 0 at there) ∙ set-at p x (xs ++ zs) (orFalse x) at there
 
 -- as many values as before
 pub length-marked : (base : ℕ) (vs cs : List ℕ) → length (marked base vs cs) ≡ length vs

@@ -1,7 +1,7 @@
 -- What holds of every description that the reader takes: its limits, its short names, no more laws than are lent, and that the
 -- rest of the text stands behind it.
 -- Assumes nothing.
-use mathlib.Core.Path.{_≡_, refl, sym, _∙_}
+use mathlib.Core.Path.{_≡_, refl, sym, subst, _∙_}
 use mathlib.Core.Bool.{true, not, _&&_}
 use mathlib.Core.List.{List, [], _∷_, _++_, append-assoc}
 use mathlib.Core.Option.{Option, none, some}
@@ -213,3 +213,7 @@ module _ (lent : ℕ) where
       fewer : (o : Reply Taken) → length text ≤ 65535 → BoundedReply text (min 64 lent) (1 + suc (length text)) o → BoundedReply text (min 64 lent) 65537 o
       fewer (refused k place) small t = tt
       fewer (answered (read d rest last)) small t = record { limited = t .limited; behind = t .behind; counted = omega (arith, t .counted) }
+
+-- the fluents are among the names
+pub names-declared : (text : List ℕ) (d : Draft) (rest : List ℕ) (lines : ℕ) → described 64 text ≡ answered (read d rest lines) → d .fluents ≤ length (d .names)
+names-declared text d rest lines is = subst (BoundedReply text (min 64 64) 65537) is (bounded 64 text) .limited .named

@@ -3,7 +3,7 @@
 use mathlib.Core.Path.{_≡_, refl, subst, _∙_}
 use mathlib.Core.Bool.{Bool, true, false, cond}
 use mathlib.Core.List.{List, [], _∷_}
-use Prim.Native.Nat.{ℕ, zero, suc, _+_, _-_, _*_, _/_, _%_, min, _≤_}
+use Prim.Native.Nat.{ℕ, zero, suc, _+_, _-_, _*_, _/_, _%_, _≤_}
 use native.Mathlib.Omega.{arith}
 use borrow.Author.Tests.{eqb-true, ltb-true}
 use lib.Dec.{eqb, ltb}
@@ -16,7 +16,7 @@ use Rattle.history_values.specs.Values.{withTrue, withFalse, marked, orFalse, f
 use Rattle.history_reader.specs.Histories.{statesFrom, atoms, recorded, byNames, readHistory}
 use Rattle.history_reader.proofs.Kept.{OfAnswer, states-keep, states-act}
 use Rattle.reader_bounds.specs.Records.{Valued, TakenValued}
-use Rattle.reader_bounds.proofs.Drafts.{chosen, BoundedReply, bounded}
+use Rattle.reader_bounds.proofs.Drafts.{chosen, names-declared}
 
 -- n values, each 0 to 3
 abbrev Good : ℕ → List ℕ → Type 0
@@ -71,9 +71,7 @@ module _ (description text : List ℕ) (room : ℕ) (d : Draft) (rest : List ℕ
   m = length (d .names) - d .fluents
 
   size : length (d .names) ≡ d .fluents + m
-  size =
-      let limits = subst (BoundedReply description (min 64 64) 65537) is (bounded 64 description) .limited in
-      omega (arith, limits .named)
+  size = omega (arith, names-declared description d rest lines is)
 
   lines-valued : room ≡ atoms d → (r : Reply (List ℕ)) → OfAnswer (Good (atoms d)) r → OfAnswer (ActionsValued (d .fluents) m (d .horizon)) r
       → ValuedReply description room r

@@ -2,16 +2,17 @@
 -- Assumes nothing.
 use mathlib.Core.Path.{_≡_, refl, sym, ap, _∙_}
 use mathlib.Core.Bool.{Bool, true, false, cond, not, _&&_}
-use mathlib.Core.List.{List, [], _∷_, _++_, map, append-nil}
+use mathlib.Core.List.{List, [], _∷_, _++_, map, append-assoc}
 use Prim.Native.Nat.{ℕ, zero, suc, _+_, _*_, _/_, _%_, _≤_, _<_}
 use native.Mathlib.Omega.{arith}
 use borrow.Author.Tests.{ne-eqb}
 use lib.Dec.{eqb}
-use lib.ListN.{length, getD, set, take, drop, replicate, length-append, length-take, take-append-drop}
+use lib.ListN.{length, take, drop, replicate, length-append, length-take, take-append-drop}
 use lib.Seq.{append-snoc, getD-at, set-at, getD-take, getD-drop}
 use Rattle.search.specs.Search.{Each}
 use Rattle.search.proofs.Tests.{each-at, each-map, each-append}
 use Rattle.history_values.specs.Values.{withTrue, withFalse, marked, orFalse, filled, ActionsValued}
+use Rattle.history_values.proofs.Filling.{filled-middle}
 use Rattle.written_form.specs.HistoryWriting.{listedAt, codesFrom, actionsOrFalse}
 use Rattle.written_form.proofs.WrittenLists.{CodesIn}
 
@@ -90,20 +91,21 @@ marked-all i (w ∷ ws) = rw (marked-all (suc i) ws) (ap (λ (v : ℕ). v ∷ ws
 fill-marked : (b : Bool) (v : ℕ) → v ≤ 3 → orFalse (markedAt b v) ≡ orFalse v
 fill-marked = by-listed (λ b v. orFalse (markedAt b v) ≡ orFalse v) (λ b. refl) (λ b. refl) refl refl (λ b. refl)
 
-fill-value : (at : ℕ) (p q : List ℕ) (u v : ℕ) → length p ≡ at → orFalse u ≡ orFalse v
-    → set (p ++ u ∷ q) at (orFalse (getD (p ++ u ∷ q) at 0)) ≡ p ++ orFalse v ∷ q
-fill-value at p q u v there same = ap (set (p ++ u ∷ q) at) (ap orFalse (getD-at p u q 0 at there) ∙ same) ∙ set-at p u q (orFalse v) at there
+fill-same : (f : ℕ → Bool) (i : ℕ) (ws : List ℕ) → Values ws → map orFalse (markedFrom f i ws) ≡ map orFalse ws
+fill-same f i [] h = refl
+fill-same f i (w ∷ ws) h = rw (fill-same f (suc i) ws (h .1)) (ap (λ (v : ℕ). v ∷ map orFalse ws) (fill-marked (f i) w (h .0)))
+
+length-marked-from : (f : ℕ → Bool) (i : ℕ) (ws : List ℕ) → length (markedFrom f i ws) ≡ length ws
+length-marked-from f i [] = refl
+length-marked-from f i (w ∷ ws) = ap suc (length-marked-from f (suc i) ws)
 
 pub fill-values : (f : ℕ → Bool) (at i : ℕ) (p ws zs : List ℕ) → length p ≡ at → Values ws
     → filled at (length ws) (p ++ (markedFrom f i ws ++ zs)) ≡ p ++ map orFalse ws ++ zs
-fill-values f at i p [] zs there h = rw (append-nil p)
-fill-values f at i p (w ∷ ws) zs there h =
-    let v = orFalse w in
-    let rest : List ℕ = markedFrom f (suc i) ws ++ zs in
-    ap (filled (suc at) (length ws))
-    (fill-value at p rest (markedAt (f i) w) w there (fill-marked (f i) w (h .0)) ∙ sym (append-snoc p v rest))
-    ∙ fill-values f (suc at) (suc i) (p ++ (v ∷ [])) ws zs (omega (arith, length-append p (v ∷ []))) (h .1)
-    ∙ ap (λ vs. vs ++ zs) (append-snoc p v (map orFalse ws))
+fill-values f at i p ws zs there h =
+    ap (λ (k : ℕ). filled at k (p ++ (markedFrom f i ws ++ zs))) (sym (length-marked-from f i ws))
+    ∙ filled-middle at p (markedFrom f i ws) zs there
+    ∙ ap (λ (vs : List ℕ). p ++ (vs ++ zs)) (fill-same f i ws h)
+    ∙ sym (append-assoc p (map orFalse ws) zs)
 
 or-false-same : (vs : List ℕ) → Each (λ v. v ≡ 0 → ⊥) vs → map orFalse vs ≡ vs
 or-false-same [] h = refl
