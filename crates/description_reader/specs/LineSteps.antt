@@ -12,10 +12,10 @@ use Rattle.description.specs.declared.Kind.{Kind}
 use Rattle.description.specs.declared.Kind.the-variants.{Static, Dynamic}
 use Rattle.description.specs.declared.Law.{Law}
 use Rattle.description.specs.Laws.{padded, lawOf, noLaw}
-use Rattle.text.specs.Bytes.{same}
 use Rattle.text.specs.Lines.{horizonKey, fluentKey, actionKey, staticKey, dynamicKey, ifKey, afterKey, endKey}
 use Rattle.text.specs.Lines.{defaultKey, inertialKey, causesKey, byKey, nonexecutableKey}
-use Rattle.text.specs.Names.{falseBytes, isNew, literal}
+use Rattle.spelling.specs.Spelling.{sameName, falseBytes}
+use Rattle.text.specs.Names.{isNew, literal}
 use Rattle.text.specs.Lists as lists
 use Rattle.text.specs.Lists.{Listed, codes, listOf}
 use Rattle.line_values.specs.HorizonText.{horizonOf}
@@ -76,13 +76,13 @@ fluentLine d value = nameLine (ltb (d .fluents) 24) fluentDue (suc (d .fluents))
 abbrev pub actionLine : Draft → List ℕ → Step
 actionLine d value = nameLine (ltb (length (d .names)) (d .fluents + 8)) actionDue (d .fluents) d value
 
--- a law's head: false or a fluent literal
+-- a law's head: false, in any mix of capitals, or a fluent literal
 abbrev pub litHead : Option ℕ → Option Head
 litHead none = none
 litHead (some c) = some (Lit c)
 
 unfoldable pub headOf : List (List ℕ) → ℕ → List ℕ → Option Head
-headOf names fluents value = cond (same value falseBytes) (some False) (litHead (literal names 0 fluents value))
+headOf names fluents value = cond (sameName value falseBytes) (some False) (litHead (literal names 0 fluents value))
 
 -- a law begins, and the list that follows its head is due
 abbrev pub begun : (Law → Due) → Draft → Kind → Option Head → Step

@@ -13,6 +13,7 @@ use line_values::law_forms;
 use line_values::law_forms::Places;
 use line_values::orders;
 use search::Found;
+use spelling;
 use text::lines;
 use text::names;
 use text::names::Names;
@@ -150,7 +151,7 @@ fn law_head(
     if !states::has_room(count, lent) {
         return HeadAt::Refused(5);
     }
-    if names::is_false(value) {
+    if spelling::is_false(value) {
         return HeadAt::Read(Head::False);
     }
     let Found::At(code) = names::literal(text, names, value, 0, fluents) else {

@@ -10,7 +10,7 @@ use borrow.Author.Tests.{leb-true}
 use Rattle.search.proofs.Tests.{and-iff}
 use lib.Dec.{eqb, leb}
 use lib.ListN.{length, getD}
-use Rattle.text.specs.Bytes.{isDigit}
+use Rattle.spelling.specs.Letters.{isDigit}
 use Rattle.line_values.specs.HorizonText.{inHorizon, horizonOf, twoDigits}
 
 pub horizon-one : (xs : List ℕ) → length xs ≡ 1 → horizonOf xs ≡ cond (isDigit (getD xs 0 0)) (inHorizon (getD xs 0 0 - 48)) none

@@ -5,7 +5,7 @@ use mathlib.Core.List.{List, [], _∷_}
 use mathlib.Core.Option.{Option, none, some}
 use Prim.Native.Nat.{ℕ, _+_, _-_, _*_}
 use lib.Dec.{eqb, leb}
-use Rattle.text.specs.Bytes.{isDigit}
+use Rattle.spelling.specs.Letters.{isDigit}
 
 abbrev pub inHorizon : ℕ → Option ℕ
 inHorizon T = cond (leb 1 T && leb T 30) (some T) none

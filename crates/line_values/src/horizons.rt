@@ -1,6 +1,6 @@
 // The horizon's spelling: 1 to 30 without a leading zero.
 use search::Found;
-use text::bytes;
+use spelling;
 ghost use mathlib.Core.Path.{_≡_};
 ghost use Prim.Native.Nat.{_-_, _<_};
 ghost use Rattle.search.specs.Search.{placeOf};
@@ -35,7 +35,7 @@ pub fn horizon_of(value: &[u8]) -> Found
 {
     if value.len() == 1 {
         let a = value[0];
-        if !bytes::is_digit(a) {
+        if !spelling::is_digit(a) {
             return Found::Nothing;
         }
         return in_horizon(digit(a));
@@ -49,10 +49,10 @@ pub fn horizon_of(value: &[u8]) -> Found
 fn two_digits(a: u8, b: u8) -> Found
     ensures { λ r. ⌜ placeOf r ≡ twoDigits a b ⌝ }
 {
-    if !bytes::is_digit(a) {
+    if !spelling::is_digit(a) {
         return Found::Nothing;
     }
-    if !bytes::is_digit(b) {
+    if !spelling::is_digit(b) {
         return Found::Nothing;
     }
     if a == 48 {

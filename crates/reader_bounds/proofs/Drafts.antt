@@ -2,23 +2,25 @@
 -- rest of the text stands behind it.
 -- Assumes nothing.
 use mathlib.Core.Path.{_≡_, refl, sym, subst, _∙_}
-use mathlib.Core.Bool.{true, not, _&&_}
+use mathlib.Core.Bool.{true}
 use mathlib.Core.List.{List, [], _∷_, _++_, append-assoc}
 use mathlib.Core.Option.{Option, none, some}
 use Prim.Native.Nat.{ℕ, zero, suc, _+_, min, _≤_, _<_}
 use native.Mathlib.Omega.{arith}
-use borrow.Author.Tests.{ltb-false, leb-true}
-use lib.Dec.{eqb, ltb, leb}
+use borrow.Author.Tests.{ltb-false}
+use lib.Dec.{eqb, ltb}
 use lib.ListN.{length, take, length-append, take-append-drop}
-use Rattle.search.specs.Search.{all, Each, first}
+use Rattle.search.specs.Search.{Each, first}
 use Rattle.search.specs.Replies.{Reply, refused, answered}
 use Rattle.search.proofs.Tests.{and-iff, each-append}
 use Rattle.description.specs.declared.Kind.{Kind}
 use Rattle.description.specs.declared.Kind.the-variants.{Static, Dynamic}
 use Rattle.description.specs.declared.Law.{Law}
-use Rattle.text.specs.Bytes.{newline, equalsSign, isNameByte, same, Cut, cutAt, cut}
+use Rattle.text.specs.Bytes.{newline, equalsSign, Cut, cutAt, cut}
 use Rattle.text.specs.Lines.{Line, keyed, valued, ended, keyNumber, firstLine}
-use Rattle.text.specs.Names.{falseBytes, startsWithLetter, isName, absent, isNew, declaredAt}
+use Rattle.spelling.specs.Spelling.{isName}
+use Rattle.spelling.proofs.Naming.{named}
+use Rattle.text.specs.Names.{absent, isNew, declaredAt}
 use Rattle.description_reader.specs.LineSteps as step
 use Rattle.description_reader.specs.LineSteps.{Due, horizonDue, firstFluentDue, fluentDue, actionDue, lawDue, ifDue, afterDue, byDue, Draft, Step, next, finish, withIf, lineStep}
 use Rattle.description_reader.specs.Descriptions.{Taken, read, afterStep, afterFirst, blank, linesFrom, described}
@@ -31,11 +33,7 @@ abbrev pub Short : List ℕ → Type 0
 Short bs = length bs ≤ 16
 
 name-short : (bs : List ℕ) → isName bs ≡ true → Short bs
-unfolding isName
-name-short bs e =
-    let front = and-iff (startsWithLetter bs && leb (length bs) 16 && all isNameByte bs) (not (same bs falseBytes)) .0 e .0 in
-    let counted = and-iff (startsWithLetter bs && leb (length bs) 16) (all isNameByte bs) .0 front .0 in
-    leb-true (length bs) 16 (and-iff (startsWithLetter bs) (leb (length bs) 16) .0 counted .1)
+name-short bs e = named bs e .short
 
 -- the laws begun and not yet counted where something is due
 abbrev open-laws : Due → ℕ

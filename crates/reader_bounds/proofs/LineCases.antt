@@ -20,10 +20,12 @@ use Rattle.description.specs.declared.Kind.the-variants.{Static, Dynamic}
 use Rattle.description.specs.declared.Law.{Law}
 use Rattle.description.specs.Laws.{lawOf}
 use Rattle.description.specs.Acceptance.{headFits}
-use Rattle.text.specs.Bytes.{isDigit, same, hyphen}
+use Rattle.spelling.specs.Letters.{isDigit}
+use Rattle.text.specs.Bytes.{hyphen}
 use Rattle.text.specs.Lines.{horizonKey, fluentKey, actionKey, staticKey, dynamicKey, ifKey, afterKey, endKey}
 use Rattle.text.specs.Lines.{defaultKey, inertialKey, causesKey, byKey, nonexecutableKey}
-use Rattle.text.specs.Names.{falseBytes, isNew, declaredAt, inSort, literal}
+use Rattle.spelling.specs.Spelling.{sameName, falseBytes}
+use Rattle.text.specs.Names.{isNew, declaredAt, inSort, literal}
 use Rattle.text.specs.Lists as lists
 use Rattle.text.specs.Lists.{Listed, codes, items, added, listFrom, listOf}
 use Rattle.line_values.specs.HorizonText.{inHorizon, horizonOf}
@@ -100,7 +102,7 @@ head-cases : (names : List (List ℕ)) (n : ℕ) (P : Option Head → Type 0) �
     → (value : List ℕ) → P (headOf names n value)
 unfolding headOf
 head-cases names n P bad good value =
-    chosen P (same value falseBytes) (λ _. good False refl)
+    chosen P (sameName value falseBytes) (λ _. good False refl)
     (λ _. literal-cases names 0 n (λ o. P (litHead o)) bad (λ c b. good (Lit c) (lt-ltb c (2 * n) b)) value)
 
 -- Lines

@@ -1,36 +1,11 @@
--- Runs of bytes compared byte by byte, and parts of a run.
+-- Parts of a run of bytes.
 -- Assumes nothing.
-use mathlib.Core.Path.{_≡_, refl, sym, _∙_}
-use mathlib.Core.Bool.{Bool, true, false, _&&_}
+use mathlib.Core.Path.{_≡_, sym, _∙_}
 use mathlib.Core.List.{List}
-use Prim.Native.Nat.{ℕ, _+_, _-_, _≤_, _<_}
-use native.Mathlib.Numerals.{add-one}
+use Prim.Native.Nat.{ℕ, _+_, _-_, _≤_}
 use native.Mathlib.Omega.{arith}
-use borrow.Author.Tests.{leb-true, leb-false}
-use lib.Dec.{eqb, leb}
-use lib.ListN.{length, getD, take, drop, drop-of-length-le, length-drop}
-use lib.Seq.{drop-cons, take-all, take-nil}
-use Rattle.text.specs.Bytes.{same}
-
--- what is left of two runs from place i on
-module _ (xs ys : List ℕ) (i : ℕ) where
-  pub same-step : i < length xs → i < length ys
-      → same (drop i xs) (drop i ys) ≡ (eqb (getD xs i 0) (getD ys i 0) && same (drop (i + 1) xs) (drop (i + 1) ys))
-  same-step h k = rw (add-one, drop-cons xs i 0 h, drop-cons ys i 0 k)
-
-  pub same-short : i < length xs → length ys ≤ i → same (drop i xs) (drop i ys) ≡ false
-  same-short h k = rw (drop-cons xs i 0 h, drop-of-length-le ys k)
-
-  pub same-end : length xs ≤ i → same (drop i xs) (drop i ys) ≡ leb (length ys) i
-  same-end h = go (leb (length ys) i) refl
-    where
-      go : (b : Bool) → leb (length ys) i ≡ b → same (drop i xs) (drop i ys) ≡ leb (length ys) i
-      go true e =
-          let k : length ys ≤ i = leb-true _ _ e in
-          rw (drop-of-length-le xs h, drop-of-length-le ys k, e)
-      go false e =
-          let k : i < length ys = leb-false _ _ e in
-          rw (drop-of-length-le xs h, drop-cons ys i 0 k, e)
+use lib.ListN.{length, take, drop, drop-of-length-le, length-drop}
+use lib.Seq.{take-all, take-nil}
 
 -- a part that begins behind the end, one that runs to the end, and one inside
 module _ (xs : List ℕ) (s n : ℕ) where

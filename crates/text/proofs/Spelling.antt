@@ -1,7 +1,7 @@
 -- The names that stand at some places of a text.
 -- Assumes nothing.
 use mathlib.Core.Path.{_≡_, refl, sym, _∙_}
-use mathlib.Core.Bool.{Bool, true, false, cond, not, _&&_, false≢true}
+use mathlib.Core.Bool.{Bool, true, false, cond, _&&_, false≢true}
 use mathlib.Core.List.{List, [], _∷_, _++_, map}
 use mathlib.Core.Option.{Option, none, some}
 use Prim.Native.Nat.{ℕ, zero, suc, _+_, _-_, _*_, _≤_, _<_}
@@ -10,13 +10,13 @@ use native.Mathlib.Numerals.{add-one}
 use native.Mathlib.Omega.{arith}
 use lib.ListN.{length, getD, take, drop, set, length-map, List·getD-eq-default}
 use lib.Seq.{getD-set-same, getD-set-other}
-use Rattle.search.specs.Search.{all, Each, first, range}
-use Rattle.search.proofs.Tests.{and-iff, all-each, length-range}
+use Rattle.search.specs.Search.{first, range}
+use Rattle.search.proofs.Tests.{and-iff, length-range}
 use Rattle.text.specs.declared.names.Names.{Names}
-use borrow.Author.Tests.{eq-eqb, ne-eqb, ltb-true, ltb-false, leb-true, not-true}
+use borrow.Author.Tests.{eq-eqb, ne-eqb, ltb-true, ltb-false}
 use lib.Dec.{eqb, ltb, leb}
-use Rattle.text.specs.Bytes.{isLetter, isNameByte, same}
-use Rattle.text.specs.Names.{falseBytes, startsWithLetter, isName, declaredAt, inSort, literal}
+use Rattle.spelling.specs.Spelling.{sameName}
+use Rattle.text.specs.Names.{declaredAt, inSort, literal}
 use Rattle.text.specs.Internal.{nameAt, spelled, PlaceFits, CodeFits}
 
 pub first-mapped : {A B : Type 0} (p : B → Bool) (f : A → B) (k : ℕ) (xs : List A) → first p k (map f xs) ≡ first (λ x. p (f x)) k xs
@@ -25,14 +25,14 @@ first-mapped p f k (x ∷ xs) = rw (first-mapped p f (suc k) xs)
 
 -- the search for a name goes over the places
 search-mapped : (text : List ℕ) (names : Names) (bs : List ℕ)
-    → first (λ i. same bs (nameAt text names i)) 0 (range 0 (names .count - 0)) ≡ first (same bs) 0 (spelled text names)
+    → first (λ i. sameName bs (nameAt text names i)) 0 (range 0 (names .count - 0)) ≡ first (sameName bs) 0 (spelled text names)
 unfolding spelled
 search-mapped text names bs =
     let e : names .count - 0 ≡ names .count = omega arith in
-    rw e (sym (first-mapped (same bs) (λ i. nameAt text names i) 0 (range 0 (names .count))))
+    rw e (sym (first-mapped (sameName bs) (λ i. nameAt text names i) 0 (range 0 (names .count))))
 
 pub search-starts : (text : List ℕ) (names : Names) (bs : List ℕ) → (length bs ≡ 0 → ⊥)
-    → first (λ i. same bs (nameAt text names i)) 0 (range 0 (names .count - 0)) ≡ declaredAt (spelled text names) bs
+    → first (λ i. sameName bs (nameAt text names i)) 0 (range 0 (names .count - 0)) ≡ declaredAt (spelled text names) bs
 search-starts text names [] h = absurd (h refl)
 search-starts text names (b ∷ bs) h = search-mapped text names (b ∷ bs)
 
@@ -56,7 +56,7 @@ mapped-found p f k (suc n) i e = go (p (f k)) refl (λ e′. mapped-found p f (s
     go false t next = next (rw t at e)
 
 found-below : (text : List ℕ) (names : Names) (b : ℕ) (bs : List ℕ) (i : ℕ) → length (names .lengths) ≡ 32
-    → first (same (b ∷ bs)) 0 (spelled text names) ≡ some i → i < 32
+    → first (sameName (b ∷ bs)) 0 (spelled text names) ≡ some i → i < 32
 unfolding spelled
 found-below text names b bs i size e = go (ltb i 32) refl
   where
@@ -64,14 +64,14 @@ found-below text names b bs i size e = go (ltb i 32) refl
     go true t = ltb-true i 32 t
     go false t =
         let past = name-past text names i size (ltb-false i 32 t) in
-        let is = mapped-found (same (b ∷ bs)) (λ j. nameAt text names j) 0 (names .count) i e in
+        let is = mapped-found (sameName (b ∷ bs)) (λ j. nameAt text names j) 0 (names .count) i e in
         absurd (false≢true (rw (← past) at is))
 
 pub place-fits : (text : List ℕ) (names : Names) (bs : List ℕ) → length (names .lengths) ≡ 32 → PlaceFits (declaredAt (spelled text names) bs)
 place-fits text names [] size = tt
-place-fits text names (b ∷ bs) size = go (first (same (b ∷ bs)) 0 (spelled text names)) refl
+place-fits text names (b ∷ bs) size = go (first (sameName (b ∷ bs)) 0 (spelled text names)) refl
   where
-    go : (o : Option ℕ) → first (same (b ∷ bs)) 0 (spelled text names) ≡ o → PlaceFits o
+    go : (o : Option ℕ) → first (sameName (b ∷ bs)) 0 (spelled text names) ≡ o → PlaceFits o
     go none e = tt
     go (some i) e = found-below text names b bs i size e
 
@@ -93,38 +93,6 @@ module _ (names : List (List ℕ)) (low high : ℕ) where
   unfolding literal
   literal-plain [] h e = absurd (h refl)
   literal-plain (x ∷ xs) h e = rw (ne-eqb x 45 e)
-
--- a name's spelling
-pub name-empty : (xs : List ℕ) → length xs ≡ 0 → false ≡ isName xs
-unfolding isName
-name-empty [] h = refl
-name-empty (x ∷ xs) h = absurd (omega arith)
-
-pub name-tests : (xs : List ℕ) → (length xs ≡ 0 → ⊥)
-    → isName xs ≡ (isLetter (getD xs 0 0) && leb (length xs) 16 && all isNameByte xs && not (same xs falseBytes))
-unfolding isName
-name-tests [] h = absurd (h refl)
-name-tests (x ∷ xs) h = refl
-
--- what a name keeps to
-pub record Named (bs : List ℕ) : Type 0 where
-  pub starts : startsWithLetter bs ≡ true
-  pub short : length bs ≤ 16
-  pub bytes : Each (λ b. isNameByte b ≡ true) bs
-  pub not-false : same bs falseBytes ≡ false
-
-pub named : (bs : List ℕ) → isName bs ≡ true → Named bs
-unfolding isName
-named bs e =
-    let (front, other) = and-iff (startsWithLetter bs && leb (length bs) 16 && all isNameByte bs) (not (same bs falseBytes)) .0 e in
-    let (counted, bytes) = and-iff (startsWithLetter bs && leb (length bs) 16) (all isNameByte bs) .0 front in
-    let (starts, short) = and-iff (startsWithLetter bs) (leb (length bs) 16) .0 counted in
-    record {
-      starts = starts;
-      short = leb-true (length bs) 16 short;
-      bytes = all-each isNameByte bs .0 bytes;
-      not-false = not-true (same bs falseBytes) other;
-    }
 
 -- one more name
 

@@ -4,7 +4,8 @@ use mathlib.Core.List.{List, [], _∷_}
 use mathlib.Core.Option.{Option, none, some}
 use Prim.Native.Nat.{ℕ}
 use Rattle.search.specs.Search.{first}
-use Rattle.text.specs.Bytes.{newline, equalsSign, same, Cut, cut}
+use Rattle.spelling.specs.Letters.{same}
+use Rattle.text.specs.Bytes.{newline, equalsSign, Cut, cut}
 
 -- the fifteen keys in their order; a key's number is its place in this list
 abbrev pub keys : List (List ℕ)

@@ -1,30 +1,19 @@
--- Names and literals.
+-- Declared names and literals.
 -- Assumes nothing.
-use mathlib.Core.Bool.{Bool, true, false, not, cond, _&&_}
+use mathlib.Core.Bool.{Bool, true, false, cond, _&&_}
 use mathlib.Core.List.{List, [], _∷_}
 use mathlib.Core.Option.{Option, none, some}
 use Prim.Native.Nat.{ℕ, _+_, _*_}
 use lib.Dec.{eqb, ltb, leb}
-use lib.ListN.{length}
-use Rattle.search.specs.Search.{all, first}
-use Rattle.text.specs.Bytes.{hyphen, isLetter, isNameByte, same}
-
-abbrev pub falseBytes : List ℕ
-falseBytes = 102 ∷ 97 ∷ 108 ∷ 115 ∷ 101 ∷ []
-
--- a letter, then up to 15 letters, digits or underscores; `false` is no name
-abbrev pub startsWithLetter : List ℕ → Bool
-startsWithLetter [] = false
-startsWithLetter (b ∷ bs) = isLetter b
-
-unfoldable pub isName : List ℕ → Bool
-isName bs = startsWithLetter bs && leb (length bs) 16 && all isNameByte bs && not (same bs falseBytes)
+use Rattle.search.specs.Search.{first}
+use Rattle.spelling.specs.Spelling.{sameName, isName}
+use Rattle.text.specs.Bytes.{hyphen}
 
 -- where a name was declared: fluents and actions have one list, fluents first, so that the place i stands for code 2i.
 -- No bytes are no name
 abbrev pub declaredAt : List (List ℕ) → List ℕ → Option ℕ
 declaredAt names [] = none
-declaredAt names (b ∷ bs) = first (same (b ∷ bs)) 0 names
+declaredAt names (b ∷ bs) = first (sameName (b ∷ bs)) 0 names
 
 abbrev pub absent : Option ℕ → Bool
 absent none = true

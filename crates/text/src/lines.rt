@@ -1,12 +1,13 @@
 // Lines: key=value, with the key's number and the places of the value and of the next line.
 use crate::bytes;
 use search::Found;
+use spelling;
 ghost use mathlib.Core.Path.{_≡_};
 ghost use mathlib.Core.List.{[]};
 ghost use mathlib.Core.Option.{some};
 ghost use Prim.Native.Nat.{_≤_, _<_};
 ghost use lib.ListN.{length, getD, drop};
-ghost use Rattle.text.specs.Bytes.{same};
+ghost use Rattle.spelling.specs.Letters.{same};
 ghost use Rattle.text.specs.Lines.{keys, noKey, keyNumber, Line, firstLine};
 ghost use Rattle.text.specs.Places.{lineSize, startOfLine, startOfValue, lineNumber, LiesAt};
 ghost use Rattle.text.specs.Internal.{keyIn, noLine, lineOf, LineFits};
@@ -266,7 +267,7 @@ pub struct LineAt {
     pub next: usize,
 }
 
-// Whether some bytes are the key of a number.
+// Whether some bytes are the key of a number; keys are in lower case, so nothing is lowered.
 fn is_key(front: &[u8], k: usize) -> bool
     requires { ⌜ k < noKey ⌝ }
     ensures { λ r. ⌜ r ≡ same (now (front .entry)) (getD keys k []) ⌝ }
@@ -274,7 +275,7 @@ fn is_key(front: &[u8], k: usize) -> bool
     let table = KEYS;
     let start = 14 * k + 1;
     let end = start + (table[14 * k] as usize);
-    bytes::same(front, &table[start..end])
+    spelling::same(front, &table[start..end], spelling::AS_THEY_ARE)
 }
 
 // The number of the key that some bytes are, or NO_KEY.

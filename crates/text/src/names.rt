@@ -1,12 +1,12 @@
 // Names and literals. A name that was declared is kept as its place in the caller's text.
 use crate::bytes;
 use search::Found;
+use spelling;
 ghost use mathlib.Core.Path.{_≡_};
 ghost use Prim.Native.Nat.{_≤_};
 ghost use lib.ListN.{getD};
-ghost use Rattle.search.specs.Search.{all, placeOf};
-ghost use Rattle.text.specs.Bytes.{isNameByte, same};
-ghost use Rattle.text.specs.Names.{falseBytes, isName, isNew, declaredAt, inSort, literal};
+ghost use Rattle.search.specs.Search.{placeOf};
+ghost use Rattle.text.specs.Names.{isNew, declaredAt, inSort, literal};
 ghost use Rattle.text.specs.Internal.{spelled, PlaceFits};
 
 // Where each declared name begins and how long it is, fluents first.
@@ -14,46 +14,6 @@ pub struct Names {
     pub starts: [usize; 32],
     pub lengths: [usize; 32],
     pub count: usize,
-}
-
-fn all_name_bytes(name: &[u8]) -> bool
-    ensures { λ r. ⌜ r ≡ all isNameByte (now (name .entry)) ⌝ }
-{
-    let mut i = 0;
-    while i < name.len() {
-        let b = name[i];
-        if !bytes::is_name_byte(b) {
-            return false;
-        }
-        i += 1;
-    }
-    true
-}
-
-pub fn is_false(name: &[u8]) -> bool
-    ensures { λ r. ⌜ r ≡ same (now (name .entry)) falseBytes ⌝ }
-{
-    bytes::same(name, b"false")
-}
-
-// A letter, then up to 15 letters, digits or underscores; `false` is no name.
-fn is_name(name: &[u8]) -> bool
-    ensures { λ r. ⌜ r ≡ isName (now (name .entry)) ⌝ }
-{
-    if name.len() == 0 {
-        return false;
-    }
-    let b = name[0];
-    if !bytes::is_letter(b) {
-        return false;
-    }
-    if 16 < name.len() {
-        return false;
-    }
-    if !all_name_bytes(name) {
-        return false;
-    }
-    !is_false(name)
 }
 
 // The number at a place, or 0 past the end.
@@ -66,7 +26,7 @@ fn number_at(numbers: &[usize], i: usize) -> usize
     0
 }
 
-// The place of a name among those declared; no bytes are no name. The places of the names are copied once and then lent, since a
+// The place of a name among those declared, in any mix of capitals; no bytes are no name. The places of the names are copied once and then lent, since a
 // struct that is handed on by value is copied for each name.
 fn find_name(text: &[u8], names: Names, name: &[u8]) -> Found
     ensures { λ r. ⌜ placeOf r ≡ declaredAt (spelled (now (text .entry)) names) (now (name .entry)) ⌝ }
@@ -81,7 +41,7 @@ fn find_name(text: &[u8], names: Names, name: &[u8]) -> Found
         let start = number_at(&starts, i);
         let length = number_at(&lengths, i);
         let declared = bytes::part(text, start, length);
-        if bytes::same(name, declared) {
+        if spelling::same(name, declared, spelling::LOWERED) {
             return Found::At(i);
         }
         i += 1;
@@ -93,7 +53,7 @@ fn find_name(text: &[u8], names: Names, name: &[u8]) -> Found
 pub fn is_new(text: &[u8], names: Names, name: &[u8]) -> bool
     ensures { λ r. ⌜ r ≡ isNew (spelled (now (text .entry)) names) (now (name .entry)) ⌝ }
 {
-    if !is_name(name) {
+    if !spelling::is_name(name) {
         return false;
     }
     if let Found::At(_) = find_name(text, names, name) {

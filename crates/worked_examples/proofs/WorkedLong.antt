@@ -11,7 +11,7 @@ use Rattle.search.specs.Search.{Each, first}
 use Rattle.search.specs.Replies.{refused, answered}
 use Rattle.text.specs.Bytes.{cut, cutAt, newline}
 use Rattle.text.specs.Lines.{keyNumber, ended, firstLine}
-use Rattle.text.specs.Names.{isName}
+use Rattle.spelling.specs.Spelling.{isName}
 use Rattle.line_values.specs.HorizonText.{horizonOf}
 use Rattle.description_reader.specs.LineSteps.{lineStep}
 use Rattle.description_reader.specs.Descriptions.{read, linesFrom, described}

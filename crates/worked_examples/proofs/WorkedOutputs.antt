@@ -15,7 +15,8 @@ use Rattle.causal.specs.Verdicts.{causalVerdict}
 use Rattle.causal.specs.Readings as causal
 use Rattle.text.specs.Bytes.{cut}
 use Rattle.text.specs.Lines.{keyNumber, firstLine}
-use Rattle.text.specs.Names.{isName, literal}
+use Rattle.spelling.specs.Spelling.{isName}
+use Rattle.text.specs.Names.{literal}
 use Rattle.text.specs.Lists.{items, listOf}
 use Rattle.line_values.specs.HorizonText.{horizonOf}
 use Rattle.description_reader.specs.LineSteps.{headOf, lineStep}

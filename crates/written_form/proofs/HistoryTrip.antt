@@ -1,4 +1,4 @@
--- Every written history is read back to its values, whichever false actions are listed.
+-- Every written history whose names are used as they were declared is read back, whichever false actions are listed.
 -- Assumes nothing.
 use mathlib.Core.Path.{_≡_, refl, sym, ap, _∙_}
 use mathlib.Core.Bool.{Bool, true}
@@ -16,16 +16,17 @@ use Rattle.written_form.specs.Writable.{Writable, draftWritten, AreNames
 use Rattle.text.specs.Lines.{keys, noKey, stateKey, actKey, endKey, firstLine}
 use Rattle.text.specs.Lists.{Listed}
 use Rattle.description_reader.specs.LineSteps.{Draft}
-use Rattle.history_values.specs.Values.{marked, orFalse, filled, ActionsValued}
+use Rattle.history_values.specs.Values.{marked, orFalse, filled}
 use Rattle.history_reader.specs.Histories.{most, listed, listLine, stateLine, actLine, historyEnd, statesFrom, byNames, readHistory}
-use Rattle.written_form.specs.Writing.{Form, lineText, listText, descriptionText}
-use Rattle.written_form.specs.HistoryWriting.{codesFrom, stateText, actText, stepsText, valuesText, everyAction, onlyDone, actionsOrFalse}
+use Rattle.written_form.specs.Writing.{Form, asDeclared, lineText, listText, descriptionText}
+use Rattle.written_form.specs.HistoryWriting.{codesFrom, stateText, actText, stepsText, valuesText, actionsOrFalse}
 use Rattle.written_form.proofs.WrittenLines.{first-line}
+use Rattle.written_form.proofs.WrittenNames.{plains}
 use Rattle.written_form.proofs.WrittenLists.{list-size, list-lacks-newline, list-read}
 use Rattle.written_form.proofs.WrittenSizes.{line-size}
-use Rattle.written_form.proofs.RoundTrip.{read-written}
+use Rattle.written_form.proofs.RoundTrip.{read-declared}
 use Rattle.written_form.proofs.Accepted.{any-lent}
-use Rattle.written_form.proofs.WrittenValues.{Values, markedFrom, mark-values, marked-all, fill-values, actions-valued, codes-from-in}
+use Rattle.written_form.proofs.WrittenValues.{Values, markedFrom, mark-values, marked-all, fill-values, codes-from-in}
 
 values-split : (n : ℕ) (vs : List ℕ) → Values vs → Values (take n vs) × Values (drop n vs)
 values-split n vs h =
@@ -38,7 +39,7 @@ module _ (d : Draft) (m : ℕ) (are : AreNames (d .names)) (distinct : Distinct 
   line-read : (f : ℕ → Bool) (key low high base l : ℕ) (p vs rest : List ℕ) (go : List ℕ → List ℕ → Reply (List ℕ)) → key < noKey → length p ≡ base + low
       → low ≤ high → high ≤ length (d .names) → Values vs
       → let ws = take (high - low) vs in
-      listLine d key low high (firstLine (lineText key (listText (d .names) (codesFrom f low ws)) ++ rest)) l base (p ++ replicate (length vs) 0) go
+      listLine d key low high (firstLine (lineText key (listText (d .names) plains (codesFrom f low ws)) ++ rest)) l base (p ++ replicate (length vs) 0) go
       ≡ go (p ++ (markedFrom f low ws ++ replicate (length (drop (high - low) vs)) 0)) rest
   line-read f key low high base l p vs rest go known there within held vals =
       let names = d .names in
@@ -50,17 +51,17 @@ module _ (d : Draft) (m : ℕ) (are : AreNames (d .names)) (distinct : Distinct 
       let (inside, count) = codes-from-in f low high ws (omega (arith, length-take (high - low) vs)) part in
       let few : length cs ≤ most = omega (arith, length-take (high - low) vs) in
       ap (λ first. listLine d key low high first l base old go)
-      (first-line key (listText names cs) rest known (list-lacks-newline names are cs (each-map (λ c b. omega (arith, b .1)) cs inside)))
+      (first-line key known (listText names plains cs) (list-lacks-newline names are cs) rest)
       ∙ rw (eq-eqb key key refl)
       (ap (λ (x : Listed). listed x l base old (λ vs′. go vs′ rest)) (list-read names are distinct low high most held cs inside few))
       ∙ ap (λ (all : List ℕ). go (marked base (p ++ replicate (length all) 0) cs) rest) (sym (take-append-drop (high - low) vs))
       ∙ ap (λ vs′. go vs′ rest) (mark-values f base low p ws ys there part)
 
   end-read : (vs : List ℕ) (l : ℕ) → historyEnd (firstLine (lineText endKey [])) l vs ≡ answered vs
-  end-read vs l = ap (λ first. historyEnd first l vs) (first-line endKey [] [] (omega arith) tt)
+  end-read vs l = ap (λ first. historyEnd first l vs) (first-line endKey (omega arith) [] tt [])
 
   state-read : (t l : ℕ) (p vs rest : List ℕ) (go : List ℕ → List ℕ → Reply (List ℕ)) → length p ≡ t * length (d .names) → Values vs
-      → stateLine d (firstLine (stateText (d .names) (take (d .fluents) vs) ++ rest)) l t (p ++ replicate (length vs) 0) go
+      → stateLine d (firstLine (stateText (d .names) plains (take (d .fluents) vs) ++ rest)) l t (p ++ replicate (length vs) 0) go
       ≡ go (p ++ take (d .fluents) vs ++ replicate (length (drop (d .fluents) vs)) 0) rest
   state-read t l p vs rest go there vals =
       let n = d .fluents in
@@ -72,7 +73,7 @@ module _ (d : Draft) (m : ℕ) (are : AreNames (d .names)) (distinct : Distinct 
   -- the actions that the line doesn't list are filled
   act-read : (f : ℕ → Bool) (t l : ℕ) (p vs rest : List ℕ) (go : List ℕ → List ℕ → Reply (List ℕ)) → length p ≡ t * length (d .names) + d .fluents
       → m ≤ length vs → Values vs
-      → actLine d (firstLine (actText (d .names) f (d .fluents) (take m vs) ++ rest)) l t (p ++ replicate (length vs) 0) go
+      → actLine d (firstLine (actText (d .names) plains f (d .fluents) (take m vs) ++ rest)) l t (p ++ replicate (length vs) 0) go
       ≡ go (p ++ map orFalse (take m vs) ++ replicate (length (drop m vs)) 0) rest
   act-read f t l p vs rest go there long vals =
       let n = d .fluents in
@@ -87,7 +88,7 @@ module _ (d : Draft) (m : ℕ) (are : AreNames (d .names)) (distinct : Distinct 
       )
 
   steps-read : (choice : ℕ → ℕ → Bool) (k t l : ℕ) (p vs : List ℕ) → length p ≡ t * length (d .names) → length vs ≡ atomCount (d .fluents) m k → Values vs
-      → statesFrom k d t l (p ++ replicate (length vs) 0) (stepsText (d .names) choice (d .fluents) m t k vs)
+      → statesFrom k d t l (p ++ replicate (length vs) 0) (stepsText (d .names) asDeclared choice (d .fluents) m t k vs)
       ≡ answered (p ++ actionsOrFalse (d .fluents) m k vs)
   steps-read choice zero t l p vs there count vals =
       let n = d .fluents in
@@ -111,8 +112,8 @@ module _ (d : Draft) (m : ℕ) (are : AreNames (d .names)) (distinct : Distinct 
       let behind = values-split n vs vals .1 in
       let there′ = length-append p fs in
       let there″ = length-append (p ++ fs) acts in
-      let text = stepsText (d .names) choice n m (suc t) k zs in
-      state-read t l p vs (actText (d .names) (choice t) n (take m ys) ++ text)
+      let text = stepsText (d .names) asDeclared choice n m (suc t) k zs in
+      state-read t l p vs (actText (d .names) plains (choice t) n (take m ys) ++ text)
       (λ vs′ rest. actLine d (firstLine rest) (suc l) t vs′ (λ vs″ rest′. statesFrom k d (suc t) (suc (suc l)) vs″ rest′)) there vals
       ∙ act-read (choice t) t (suc l) (p ++ fs) ys text (λ vs″ rest′. statesFrom k d (suc t) (suc (suc l)) vs″ rest′) (omega arith) (omega arith) behind
       ∙ steps-read choice k (suc t) (suc (suc l)) (p ++ fs ++ acts) zs (omega arith) (omega arith) (values-split m ys behind .1)
@@ -122,28 +123,28 @@ module _ (d : Draft) (m : ℕ) (are : AreNames (d .names)) (distinct : Distinct 
 module _ (names : List (List ℕ)) (are : AreNames names) (n m : ℕ) (size : length names ≡ n + m) (few-fluents : n ≤ 24) (few-actions : m ≤ 8)
     (choice : ℕ → ℕ → Bool) where
   part-size : (f : ℕ → Bool) (key low width : ℕ) (vs : List ℕ) → length (getD keys key []) ≤ 5 → low + width ≤ length names → Values vs
-      → length (lineText key (listText names (codesFrom f low (take width vs)))) ≤ 7 + 36 * width
+      → length (lineText key (listText names plains (codesFrom f low (take width vs)))) ≤ 7 + 36 * width
   part-size f key low width vs short held vals =
       let ws = take width vs in
       let cs = codesFrom f low ws in
       let took = length-take width vs in
       let (inside, count) = codes-from-in f low (low + width) ws (omega arith) (values-split width vs vals .0) in
       let (least, greatest) = list-size names are cs (each-map (λ c b. omega (arith, b .1)) cs inside) in
-      omega (arith, line-size key (listText names cs))
+      omega (arith, line-size key (listText names plains cs))
 
-  steps-size : (k t : ℕ) (vs : List ℕ) → Values vs → length (stepsText names choice n m t k vs) ≤ 1166 * k + 876
+  steps-size : (k t : ℕ) (vs : List ℕ) → Values vs → length (stepsText names asDeclared choice n m t k vs) ≤ 1166 * k + 876
   steps-size zero t vs vals =
       omega (
         arith,
         part-size (λ i. true) stateKey 0 n vs (omega arith) (omega arith) vals,
-        length-append (stateText names (take n vs)) (lineText endKey []),
+        length-append (stateText names plains (take n vs)) (lineText endKey []),
       )
   steps-size (suc k) t vs vals =
       let ys = drop n vs in
       let behind = values-split n vs vals .1 in
-      let state = stateText names (take n vs) in
-      let act = actText names (choice t) n (take m ys) in
-      let rest = stepsText names choice n m (suc t) k (drop m ys) in
+      let state = stateText names plains (take n vs) in
+      let act = actText names plains (choice t) n (take m ys) in
+      let rest = stepsText names asDeclared choice n m (suc t) k (drop m ys) in
       omega (
         arith,
         part-size (λ i. true) stateKey 0 n vs (omega arith) (omega arith) vals,
@@ -154,12 +155,8 @@ module _ (names : List (List ℕ)) (are : AreNames names) (n m : ℕ) (size : le
       )
 
 module _ (T : ℕ) (fluents actions : List (List ℕ)) (forms : ℕ → Form) (ls : List Law) (vs : List ℕ) where
-  -- what is read of the values as they are written, by the names of the description as it is written, whatever follows that
-  abbrev pub readBack : List ℕ → (ℕ → ℕ → Bool) → Reply (List ℕ)
-  readBack more choice = readHistory (descriptionText T fluents actions forms ls ++ more) (valuesText T fluents actions choice vs) (length vs)
-
   module _ (lent : ℕ) (w : Writable lent T fluents actions ls) (vals : Values vs) where
-    pub history-size : (choice : ℕ → ℕ → Bool) → length (valuesText T fluents actions choice vs) ≤ 40000
+    pub history-size : (choice : ℕ → ℕ → Bool) → length (valuesText T fluents actions asDeclared choice vs) ≤ 40000
     unfolding valuesText
     history-size choice =
         let steps = steps-size (fluents ++ actions) (w .are-names) (length fluents) (length actions) (length-append fluents actions) (w .few-fluents)
@@ -168,24 +165,15 @@ module _ (T : ℕ) (fluents actions : List (List ℕ)) (forms : ℕ → Form) (l
 
     module _ (count : length vs ≡ atomCount (length fluents) (length actions) T) (more : List ℕ) (few : length more ≤ 45535) where
       -- an action's 0 is read back as false, and all else as it is
-      pub history-read : (choice : ℕ → ℕ → Bool) → readBack more choice ≡ answered (actionsOrFalse (length fluents) (length actions) T vs)
+      pub history-declared : (choice : ℕ → ℕ → Bool)
+          → readHistory (descriptionText T fluents actions forms asDeclared ls ++ more) (valuesText T fluents actions asDeclared choice vs) (length vs)
+          ≡ answered (actionsOrFalse (length fluents) (length actions) T vs)
       unfolding readHistory valuesText
-      history-read choice =
-          let text = valuesText T fluents actions choice vs in
+      history-declared choice =
+          let text = valuesText T fluents actions asDeclared choice vs in
           let d = draftWritten T fluents actions ls in
           let names = length-append fluents actions in
           let width : length (fluents ++ actions) - length fluents ≡ length actions = omega arith in
-          ap (λ o. byNames o text (length vs)) (read-written 64 T fluents actions forms ls (any-lent lent 64 T fluents actions ls (w .few-laws) w) more few)
+          ap (λ o. byNames o text (length vs)) (read-declared 64 T fluents actions forms ls (any-lent lent 64 T fluents actions ls (w .few-laws) w) more few)
           ∙ rw (width, ← count, eq-eqb (length vs) (length vs) refl, le-ltb 65535 (length text) (omega (arith, history-size choice)))
           (steps-read d (length actions) (w .are-names) (w .distinct) names (omega (arith, w .few-fluents, w .few-actions)) choice T 0 1 [] vs (omega arith) count vals)
-
-      -- where no action is 0, the values are read back whichever false actions are listed: so also where every one is, or none
-      module _ (valued : ActionsValued (length fluents) (length actions) T vs) where
-        pub history-written : (choice : ℕ → ℕ → Bool) → readBack more choice ≡ answered vs
-        history-written choice = history-read choice ∙ ap answered (actions-valued (length fluents) (length actions) T vs valued)
-
-        pub history-written-every : readBack more everyAction ≡ answered vs
-        history-written-every = history-written everyAction
-
-        pub history-written-done : readBack more onlyDone ≡ answered vs
-        history-written-done = history-written onlyDone

@@ -1,8 +1,8 @@
 -- A literal that is read, whatever its bytes: one item of a list, a literal of either sort too, and not false.
 -- Assumes nothing.
-use mathlib.Core.Path.{_≡_, refl, sym, subst}
+use mathlib.Core.Path.{_≡_, refl, sym, subst, _∙_}
 use mathlib.Core.Bool.{Bool, true, false, cond, _&&_}
-use mathlib.Core.List.{List, [], _∷_}
+use mathlib.Core.List.{List, [], _∷_, map}
 use mathlib.Core.Option.{Option, none, some}
 use Prim.Native.Nat.{ℕ, _+_, _*_, _≤_, _<_}
 use native.Mathlib.Omega.{arith}
@@ -10,12 +10,16 @@ use borrow.Author.Tests.{le-leb, lt-ltb, eqb-true}
 use lib.Dec.{eqb, ltb, leb}
 use lib.ListN.{length, getD}
 use Rattle.search.proofs.Tests.{first-some}
-use Rattle.text.specs.Bytes.{comma, hyphen, same}
-use Rattle.text.specs.Names.{falseBytes, isName, declaredAt, inSort, literal}
-use Rattle.text.proofs.Spelling.{named}
+use Rattle.spelling.specs.Letters.{lowered}
+use Rattle.text.specs.Bytes.{comma, hyphen}
+use Rattle.spelling.specs.Spelling.{sameName, falseBytes, isName}
+use Rattle.spelling.proofs.Comparing.{same-equal}
+use Rattle.spelling.proofs.Lowering.{name-same}
+use Rattle.text.specs.Names.{declaredAt, inSort, literal}
+use Rattle.spelling.proofs.Naming.{named}
 use Rattle.written_form.specs.Writable.{AreNames}
 use Rattle.written_form.proofs.WrittenLines.{Lacks}
-use Rattle.written_form.proofs.WrittenNames.{name-lacks, same-equal, name-at}
+use Rattle.written_form.proofs.WrittenNames.{name-lacks, name-at}
 
 -- the place of the name, by the code
 sort-place : (high sign c : ℕ) (o : Option ℕ) → inSort 0 high sign o ≡ some c → (i : ℕ) × (o ≡ some i) × (some (2 * i + sign) ≡ some c)
@@ -29,7 +33,7 @@ sort-place high sign c (some i) e = (i, refl, go (leb 0 i && ltb i high) e)
 pub record OneItem (names : List (List ℕ)) (c : ℕ) (value : List ℕ) : Type 0 where
   pub long : 1 ≤ length value
   pub one : Lacks comma value
-  pub not-false : same value falseBytes ≡ false
+  pub not-false : sameName value falseBytes ≡ false
   pub either : literal names 0 (length names) value ≡ some c
 
 module _ (names : List (List ℕ)) (are : AreNames names) where
@@ -37,8 +41,9 @@ module _ (names : List (List ℕ)) (are : AreNames names) where
   declared-name : (bs : List ℕ) (i : ℕ) → declaredAt names bs ≡ some i → (isName bs ≡ true) × (i < length names)
   declared-name [] i e = let z : _≡_ {A = ℕ} 0 1 = cc in absurd (omega arith)
   declared-name (b ∷ bs) i e =
-      let (j, at, (low, holds, lowest)) = first-some (same (b ∷ bs)) [] 0 names i e in
-      (rw (same-equal (b ∷ bs) (getD names j []) holds) (name-at names are j low), omega arith)
+      let (j, at, (low, holds, lowest)) = first-some (sameName (b ∷ bs)) [] 0 names i e in
+      let name : List ℕ = getD names j [] in
+      (name-same (b ∷ bs) name (same-equal (map lowered (b ∷ bs)) (map lowered name) holds) ∙ name-at names are j low, omega arith)
 
   -- the name of a literal, and its code among all names
   sort-name : (high sign c : ℕ) (bs : List ℕ) → inSort 0 high sign (declaredAt names bs) ≡ some c

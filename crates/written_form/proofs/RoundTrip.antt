@@ -1,4 +1,4 @@
--- Every written description is read back, whatever follows it.
+-- Every written description whose names are used as they were declared is read back, whatever follows it.
 -- Assumes nothing.
 use mathlib.Core.Path.{_≡_, refl, ap, _∙_}
 use mathlib.Core.Bool.{true}
@@ -14,10 +14,11 @@ use Rattle.description.specs.declared.Law.{Law}
 use Rattle.written_form.specs.Writable.{Writable, lawsLines, linesWritten, draftWritten, AreNames, Distinct, draft}
 use Rattle.text.specs.Bytes.{newline}
 use Rattle.text.specs.Lines.{horizonKey, fluentKey, actionKey, staticKey, endKey, noKey}
-use Rattle.text.specs.Names.{isName, declaredAt}
+use Rattle.spelling.specs.Spelling.{isName}
+use Rattle.text.specs.Names.{declaredAt}
 use Rattle.description_reader.specs.LineSteps.{Due, horizonDue, firstFluentDue, fluentDue, actionDue, lawDue, Draft, allowed, next, lineStep}
 use Rattle.description_reader.specs.Descriptions.{blank, read, linesFrom, described}
-use Rattle.written_form.specs.Writing.{Form, lineText, horizonText, lawsText, namesText, descriptionText}
+use Rattle.written_form.specs.Writing.{Form, asDeclared, lineText, horizonText, lawsText, namesText, descriptionText}
 use Rattle.written_form.proofs.WrittenNames.{distinct-front, name-lacks, undeclared}
 use Rattle.written_form.proofs.WrittenSteps.{horizon-clean, horizon-step, fluent-step, action-step, Passes, nothing-passes, line-passes, then, ends, dueBehind, same-due, later-due, may-behind}
 use Rattle.written_form.proofs.Written.{written-laws}
@@ -48,7 +49,7 @@ module _ (lent T : ℕ) (fluents actions : List (List ℕ)) (forms : ℕ → For
 
   -- all lines but the end line
   body-passes : Passes lent (1 + length fluents + length actions + lawsLines forms 0 ls)
-      (lineText horizonKey (horizonText T) ++ namesText fluentKey fluents ++ namesText actionKey actions ++ lawsText (fluents ++ actions) forms 0 ls)
+      (lineText horizonKey (horizonText T) ++ namesText fluentKey fluents ++ namesText actionKey actions ++ lawsText (fluents ++ actions) forms asDeclared 0 ls)
       horizonDue blank (dueBehind dueAfterActions lawDue ls) (draftWritten T fluents actions ls)
   unfolding dueAfterActions
   body-passes =
@@ -69,12 +70,12 @@ module _ (lent T : ℕ) (fluents actions : List (List ℕ)) (forms : ℕ → For
       then (then (then top (rw (later-due firstFluentDue fluentDue fluents (w .some-fluent)) at first) (1 + n) refl) second (1 + n + length actions) refl) third _ refl
 
   -- the written description is read back, and what follows it is left; under 20,000 bytes are written, so 65,535 are not passed
-  pub read-written : (more : List ℕ) → length more ≤ 45535
-      → described lent (descriptionText T fluents actions forms ls ++ more) ≡ answered (read (draftWritten T fluents actions ls) more (linesWritten fluents actions forms ls))
+  pub read-declared : (more : List ℕ) → length more ≤ 45535
+      → described lent (descriptionText T fluents actions forms asDeclared ls ++ more) ≡ answered (read (draftWritten T fluents actions ls) more (linesWritten fluents actions forms ls))
   unfolding described descriptionText dueAfterActions
-  read-written more few =
-      let text = descriptionText T fluents actions forms ls in
-      let body = lineText horizonKey (horizonText T) ++ namesText fluentKey fluents ++ namesText actionKey actions ++ lawsText (fluents ++ actions) forms 0 ls in
+  read-declared more few =
+      let text = descriptionText T fluents actions forms asDeclared ls in
+      let body = lineText horizonKey (horizonText T) ++ namesText fluentKey fluents ++ namesText actionKey actions ++ lawsText (fluents ++ actions) forms asDeclared 0 ls in
       let lines = 1 + length fluents + length actions + lawsLines forms 0 ls in
       let all = length (text ++ more) in
       let (enough, size) = description-size lent T fluents actions forms ls w in

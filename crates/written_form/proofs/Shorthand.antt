@@ -15,25 +15,26 @@ use Rattle.description.specs.declared.Kind.{Kind}
 use Rattle.description.specs.declared.Kind.the-variants.{Static, Dynamic}
 use Rattle.description.specs.declared.Law.{Law}
 use Rattle.description.specs.Laws.{lawOf}
-use Rattle.text.specs.Bytes.{comma, same}
 use Rattle.text.specs.Lines.{horizonKey, fluentKey, actionKey, staticKey, dynamicKey, ifKey, afterKey, defaultKey, inertialKey, causesKey, byKey, nonexecutableKey}
-use Rattle.text.specs.Names.{falseBytes, isName, absent, declaredAt, isNew, literal}
+use Rattle.spelling.specs.Spelling.{sameName, falseBytes, isName}
+use Rattle.text.specs.Names.{absent, declaredAt, isNew, literal}
 use Rattle.text.specs.Lists as lists
 use Rattle.text.specs.Lists.{Listed, codes, items, added, listOf}
+use Rattle.letter_case.proofs.AlikeRuns.{names-refl}
+use Rattle.letter_case.proofs.LetterCase.{letter-case}
 use Rattle.line_values.specs.HorizonText.{horizonOf}
 use Rattle.line_values.specs.ShortLaws.{defaultLaw, inertialLaw, causesLaw, nonexecutableLaw}
 use Rattle.description_reader.specs.LineSteps.{Due, fluentDue, actionDue, lawDue, ifDue, byDue, Draft, startsLaw, allowed, Step, refused, next, finish, horizonLine, nameLine}
 use Rattle.description_reader.specs.LineSteps.{headOf, begun, roomFor, whole, withIf, ifLine, afterLine, wholeByLiteral, wholeByList, endLine, lawIn, fluentList, anyList, lineStep}
 use Rattle.description_reader.specs.Descriptions.{described}
-use Rattle.written_form.specs.Writing.{Form, descriptionText}
+use Rattle.written_form.specs.Writing.{Form, Spelling, descriptionText}
+use Rattle.written_form.specs.Respelling.{InCapitals}
 use Rattle.written_form.specs.Writable.{AreNames, Writable}
 use Rattle.written_form.specs.Shorthand.{andThen, Shorthand, draftRead}
-use Rattle.written_form.proofs.WrittenLines.{Lacks}
-use Rattle.written_form.proofs.WrittenNames.{same-equal}
 use Rattle.written_form.proofs.WrittenLists.{one-item}
 use Rattle.written_form.proofs.WrittenSteps.{if-step, after-step, starts}
 use Rattle.written_form.proofs.ReadLiterals.{literal-item}
-use Rattle.written_form.proofs.RoundTrip.{read-written}
+use Rattle.written_form.proofs.SpelledDescription.{read-written}
 
 -- the short law of a literal, by the kind of its long lines
 abbrev literalLaw : Kind → ℕ → Law
@@ -87,12 +88,14 @@ module _ (lent : ℕ) (d : Draft) where
     longLines = andThen (begun ifDue d kind head) (listLines lent kind value value)
 
     -- false heads a law in full, and is then refused as a literal of the if-list
-    false-lists : same value falseBytes ≡ true → literal (d .names) 0 (d .fluents) value ≡ none → fluentList d value ≡ lists.refused 6
+    false-lists : sameName value falseBytes ≡ true → literal (d .names) 0 (d .fluents) value ≡ none → fluentList d value ≡ lists.refused 6
     false-lists is e =
-        let bytes = same-equal value falseBytes is in
-        let lacks : Lacks comma value = subst (Lacks comma) (sym bytes) (refl, (refl, (refl, (refl, (refl, tt))))) in
-        one-item (d .names) 0 (d .fluents) value (subst (λ (x : List ℕ). 1 ≤ length x) (sym bytes) (omega arith)) lacks
-        ∙ ap (λ o. added [] o codes) e
+        let names = d .names in
+        let n = d .fluents in
+        let alike = letter-case .same-name value falseBytes .0 is in
+        letter-case .lists 0 n 6 names names (names-refl names) value falseBytes alike
+        ∙ one-item names 0 n falseBytes (omega arith) (refl, (refl, (refl, (refl, (refl, tt)))))
+        ∙ ap (λ o. added [] o codes) (sym (letter-case .literals 0 n names names (names-refl names) value falseBytes alike) ∙ e)
 
     literal-long : (o : Option ℕ) → literal (d .names) 0 (d .fluents) value ≡ o → wholeByLiteral d (literalLaw kind) o ≡ longLines
     unfolding headOf
@@ -103,9 +106,9 @@ module _ (lent : ℕ) (d : Draft) where
         let afters : anyList d value ≡ codes (c ∷ []) =
         one-item (d .names) 0 (length (d .names)) value (item .long) (item .one) ∙ ap (λ o. added [] o codes) (item .either) in
         rw (item .not-false, e) (sym (lists-read value kind c ifs afters))
-    literal-long none e = go (same value falseBytes) refl
+    literal-long none e = go (sameName value falseBytes) refl
       where
-        go : (b : Bool) → same value falseBytes ≡ b → refused 6 ≡ longLines
+        go : (b : Bool) → sameName value falseBytes ≡ b → refused 6 ≡ longLines
         go true is = rw is (sym (lists-refused value kind (lawOf kind False [] []) (false-lists is e)))
         go false is = rw (is, e)
 
@@ -221,9 +224,11 @@ shorthand = record {
   names-kept = λ lent due d are key value due′ d′ e. subst NamedStep e (step-named d are lent due key value);
 }
 
--- any two choices of forms write texts that are read to the same horizon, names and laws
-pub written-alike : (lent T : ℕ) (fluents actions : List (List ℕ)) (forms forms′ : ℕ → Form) (ls : List Law) → Writable lent T fluents actions ls
-    → (more : List ℕ) → length more ≤ 45535
-    → draftRead (described lent (descriptionText T fluents actions forms ls ++ more)) ≡ draftRead (described lent (descriptionText T fluents actions forms′ ls ++ more))
-written-alike lent T fluents actions forms forms′ ls w more few =
-    ap draftRead (read-written lent T fluents actions forms ls w more few) ∙ sym (ap draftRead (read-written lent T fluents actions forms′ ls w more few))
+-- any two choices of forms and of spellings write texts that are read to the same horizon, names and laws
+pub written-alike : (lent T : ℕ) (fluents actions : List (List ℕ)) (forms forms′ : ℕ → Form) (spell spell′ : Spelling) (ls : List Law)
+    → InCapitals spell → InCapitals spell′ → Writable lent T fluents actions ls → (more : List ℕ) → length more ≤ 45535
+    → draftRead (described lent (descriptionText T fluents actions forms spell ls ++ more))
+    ≡ draftRead (described lent (descriptionText T fluents actions forms′ spell′ ls ++ more))
+written-alike lent T fluents actions forms forms′ spell spell′ ls any any′ w more few =
+    ap draftRead (read-written T fluents actions forms spell any ls lent w more few)
+    ∙ sym (ap draftRead (read-written T fluents actions forms′ spell′ any′ ls lent w more few))

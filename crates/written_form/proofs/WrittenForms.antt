@@ -17,7 +17,7 @@ use Rattle.description.proofs.Fits.{CodesBelow}
 use Rattle.line_values.specs.ShortLaws.{defaultLaw, inertialLaw, causesLaw, nonexecutableLaw}
 use Rattle.reader_bounds.specs.Accepts.{aftersOf, Tidy}
 use Rattle.written_form.specs.Writing.{Form, inFull, asDefault, asInertial, asCauses, asNonexecutable, onlyHead, isFalse, hasForm, writtenAs}
-use Rattle.written_form.proofs.WrittenNames.{same-refl, same-equal}
+use Rattle.spelling.proofs.Comparing.{same-refl, same-equal}
 use Rattle.written_form.proofs.Written.{Bounded}
 
 -- a law has the form that it is written in

@@ -8,40 +8,29 @@ use Prim.Native.Nat.{ℕ, suc, _+_, _*_, _≤_, _<_, min}
 use native.Mathlib.Omega.{arith}
 use lib.ListN.{length, length-append}
 use Rattle.search.specs.Search.{Each}
-use Rattle.search.proofs.Tests.{each-map}
-use Rattle.description.specs.declared.Head.{Head}
-use Rattle.description.specs.declared.Head.the-variants.{Lit, False}
+use Rattle.description.specs.declared.Head.the-variants.{Lit}
 use Rattle.description.specs.declared.Kind.{Kind}
 use Rattle.description.specs.declared.Kind.the-variants.{Static, Dynamic}
 use Rattle.description.specs.declared.Law.{Law}
 use Rattle.description.specs.Laws.{ifList, afterList, lawOf}
 use Rattle.description.proofs.Fits.{CodesBelow, HeadBelow}
 use Rattle.reader_bounds.specs.Accepts.{aftersOf, Tidy}
-use Rattle.text.specs.Bytes.{newline}
 use Rattle.text.specs.Lines.{staticKey, dynamicKey, ifKey, afterKey, defaultKey, inertialKey, causesKey, byKey, nonexecutableKey, noKey}
 use Rattle.text.specs.Names.{literal}
 use Rattle.text.specs.Lists.{codes}
 use Rattle.line_values.specs.ShortLaws.{defaultLaw, inertialLaw}
 use Rattle.description_reader.specs.LineSteps.{Due, lawDue, ifDue, afterDue, byDue, Draft, startsLaw, allowed, next, headOf, whole, ifLine, anyList, lineStep}
 use Rattle.written_form.specs.Writing.{Form, inFull, asDefault, asInertial, asCauses, asNonexecutable, hasForm, writtenAs}
-use Rattle.written_form.specs.Writing.{lineText, listText, headText, fullText, formText, lawsText}
+use Rattle.written_form.specs.Writing.{asDeclared, lineText, listText, headText, fullText, formText, lawsText}
 use Rattle.written_form.specs.Writable.{formLines, lawLines, lawsLines, AreNames, Distinct, draft}
-use Rattle.written_form.proofs.WrittenLines.{Lacks}
-use Rattle.written_form.proofs.WrittenNames.{literal-lacks, literal-read, head-read}
-use Rattle.written_form.proofs.WrittenLists.{codes-in, list-lacks-newline, list-read}
+use Rattle.written_form.proofs.WrittenNames.{plains, plainLines, literal-read, head-read}
+use Rattle.written_form.proofs.WrittenLists.{codes-in, head-lacks-newline, list-lacks-newline, list-read}
 use Rattle.written_form.proofs.WrittenSteps.{static-step, dynamic-step, causes-step, default-step, inertial-step, nonexecutable-step, if-step, after-step, by-step}
 use Rattle.written_form.proofs.WrittenSteps.{starts, Passes, nothing-passes, line-passes, then, dueBehind, same-due}
 use Rattle.written_form.proofs.Written.{Bounded}
 use Rattle.written_form.proofs.WrittenForms.{form-had, causes-dynamic, nonexecutable-dynamic, dynamic-afters, OfLiteral, default-is, inertial-is, causes-is, nonexecutable-is}
 
 module _ (lent T n : ℕ) (names : List (List ℕ)) (are : AreNames names) (distinct : Distinct names) (held : n ≤ length names) where
-  head-clean : (h : Head) → HeadBelow (2 * n) h → Lacks newline (headText names h)
-  head-clean (Lit c) below = literal-lacks names are newline refl refl c (omega arith)
-  head-clean False below = (refl, (refl, (refl, (refl, (refl, tt)))))
-
-  if-clean : (cs : List ℕ) → CodesBelow (2 * n) cs → Lacks newline (listText names cs)
-  if-clean cs below = list-lacks-newline names are cs (each-map (λ c h. omega arith) cs below)
-
   -- one law, behind those done, where a law may start
   module _ (l : Law) (done : List Law) (due : Due) (may : allowed due staticKey ≡ true) (few : length done < min 64 lent)
       (b : Bounded n (length names) l) (tidy : Tidy l) where
@@ -49,7 +38,7 @@ module _ (lent T n : ℕ) (names : List (List ℕ)) (are : AreNames names) (dist
     at = draft T n names done
 
     abbrev head : List ℕ
-    head = headText names (l .head)
+    head = headText names plains (l .head)
 
     -- the lines of a text take the reader to the law that they stand for
     abbrev Leaves : ℕ → List ℕ → Law → Type 0
@@ -60,28 +49,28 @@ module _ (lent T n : ℕ) (names : List (List ℕ)) (are : AreNames names) (dist
     may-start k is = starts due k is ∙ may
 
     head-passes : (key : ℕ) {later : Due} → key < noKey → lineStep lent due at key head ≡ next later at → Passes lent 1 (lineText key head) due at later at
-    head-passes key known step = line-passes due at key head known (head-clean (l .head) (b .head)) step
+    head-passes key known step = line-passes due at key head known (head-lacks-newline names are (l .head)) step
 
     is-head : headOf names n head ≡ some (l .head)
     is-head = head-read names are distinct n (l .head) (b .head) held
 
     -- the if-list, and a list of literals of either sort
     if-passes : (l′ : Law) {later : Due} {d : Draft} → ifLine at l′ (codes (ifList l)) ≡ next later d
-        → Passes lent 1 (lineText ifKey (listText names (ifList l))) (ifDue l′) at later d
+        → Passes lent 1 (lineText ifKey (listText names plains (ifList l))) (ifDue l′) at later d
     if-passes l′ step =
-        line-passes (ifDue l′) at ifKey (listText names (ifList l)) (omega arith) (if-clean (ifList l) (b .ifs))
+        line-passes (ifDue l′) at ifKey (listText names plains (ifList l)) (omega arith) (list-lacks-newline names are (ifList l))
         (
-        if-step lent at l′ (listText names (ifList l)) (ifList l)
+        if-step lent at l′ (listText names plains (ifList l)) (ifList l)
         (list-read names are distinct 0 n 6 held (ifList l) (codes-in n (ifList l) (b .ifs)) (b .few-ifs))
         ∙ step
         )
 
-    any-read : (cs : List ℕ) → CodesBelow (2 * length names) cs → length cs ≤ 6 → anyList at (listText names cs) ≡ codes cs
+    any-read : (cs : List ℕ) → CodesBelow (2 * length names) cs → length cs ≤ 6 → anyList at (listText names plains cs) ≡ codes cs
     any-read cs below small = list-read names are distinct 0 (length names) 6 (omega arith) cs (codes-in (length names) cs below) small
 
     -- in full, by the kind
     full-passes : (k : Kind) → CodesBelow (2 * length names) (aftersOf k l) → length (aftersOf k l) ≤ 6
-        → Leaves (formLines inFull k) (fullText names k l) (lawOf k (l .head) (ifList l) (aftersOf k l))
+        → Leaves (formLines inFull k) (fullText names plainLines k l) (lawOf k (l .head) (ifList l) (aftersOf k l))
     full-passes Static afters few-afters =
         then (head-passes staticKey (omega arith) (static-step lent due at head (l .head) may few is-head))
         (if-passes (lawOf Static (l .head) [] []) refl) 2 refl
@@ -90,14 +79,14 @@ module _ (lent T n : ℕ) (names : List (List ℕ)) (are : AreNames names) (dist
         then
         (then (head-passes dynamicKey (omega arith) (dynamic-step lent due at head (l .head) (may-start dynamicKey refl) few is-head))
         (if-passes (lawOf Dynamic (l .head) [] []) refl) 2 refl)
-        (line-passes (afterDue half) at afterKey (listText names (afterList l)) (omega arith) (list-lacks-newline names are (afterList l) afters)
-        (after-step lent at half (listText names (afterList l)) (afterList l) (any-read (afterList l) afters few-afters)))
+        (line-passes (afterDue half) at afterKey (listText names plains (afterList l)) (omega arith) (list-lacks-newline names are (afterList l))
+        (after-step lent at half (listText names plains (afterList l)) (afterList l) (any-read (afterList l) afters few-afters)))
         3 refl
 
     -- by one line of a literal
     head-literal : (c : ℕ) → l .head ≡ Lit c → literal names 0 n head ≡ some c
     head-literal c is =
-        subst (λ h. HeadBelow (2 * n) h → literal names 0 n (headText names h) ≡ some c) (sym is)
+        subst (λ h. HeadBelow (2 * n) h → literal names 0 n (headText names plains h) ≡ some c) (sym is)
         (λ below. literal-read names are distinct 0 n c (omega arith) below held) (b .head)
 
     literal-passes : (key : ℕ) (law : ℕ → Law) → key < noKey → OfLiteral law l
@@ -105,11 +94,11 @@ module _ (lent T n : ℕ) (names : List (List ℕ)) (are : AreNames names) (dist
         → Leaves 1 (lineText key head) l
     literal-passes key law known of step =
         subst (Leaves 1 (lineText key head)) (sym (of .is-law))
-        (line-passes due at key head known (head-clean (l .head) (b .head)) (step (of .code) (head-literal (of .code) (of .is-head))))
+        (line-passes due at key head known (head-lacks-newline names are (l .head)) (step (of .code) (head-literal (of .code) (of .is-head))))
 
-    form-passes : (form : Form) → hasForm form l ≡ true → Leaves (formLines form (l .kind)) (formText names form l) l
+    form-passes : (form : Form) → hasForm form l ≡ true → Leaves (formLines form (l .kind)) (formText names plainLines form l) l
     form-passes inFull has =
-        subst (Leaves (formLines inFull (l .kind)) (fullText names (l .kind) l)) (sym tidy) (full-passes (l .kind) (b .afters) (b .few-afters))
+        subst (Leaves (formLines inFull (l .kind)) (fullText names plainLines (l .kind) l)) (sym tidy) (full-passes (l .kind) (b .afters) (b .few-afters))
     form-passes asDefault has =
         literal-passes defaultKey defaultLaw (omega arith) (default-is l tidy has) (λ c. default-step lent due at head c (may-start defaultKey refl) few)
     form-passes asInertial has =
@@ -117,20 +106,20 @@ module _ (lent T n : ℕ) (names : List (List ℕ)) (are : AreNames names) (dist
     form-passes asCauses has =
         let (below, small) = dynamic-afters n (length names) l b (causes-dynamic l has) in
         let begun = lawOf Dynamic (l .head) [] [] in
-        subst (Leaves 2 (formText names asCauses l)) (sym (causes-is l tidy has))
+        subst (Leaves 2 (formText names plainLines asCauses l)) (sym (causes-is l tidy has))
         (then (head-passes causesKey (omega arith) (causes-step lent due at head (l .head) (may-start causesKey refl) few is-head))
-        (line-passes (byDue begun) at byKey (listText names (afterList l)) (omega arith) (list-lacks-newline names are (afterList l) below)
-        (by-step lent at begun (listText names (afterList l)) (afterList l) (any-read (afterList l) below small)))
+        (line-passes (byDue begun) at byKey (listText names plains (afterList l)) (omega arith) (list-lacks-newline names are (afterList l))
+        (by-step lent at begun (listText names plains (afterList l)) (afterList l) (any-read (afterList l) below small)))
         2 refl)
     form-passes asNonexecutable has =
         let (below, small) = dynamic-afters n (length names) l b (nonexecutable-dynamic l has) in
-        subst (Leaves 1 (formText names asNonexecutable l)) (sym (nonexecutable-is l tidy has))
-        (line-passes due at nonexecutableKey (listText names (afterList l)) (omega arith) (list-lacks-newline names are (afterList l) below)
-        (nonexecutable-step lent due at (listText names (afterList l)) (afterList l) (may-start nonexecutableKey refl) few (any-read (afterList l) below small)))
+        subst (Leaves 1 (formText names plainLines asNonexecutable l)) (sym (nonexecutable-is l tidy has))
+        (line-passes due at nonexecutableKey (listText names plains (afterList l)) (omega arith) (list-lacks-newline names are (afterList l))
+        (nonexecutable-step lent due at (listText names plains (afterList l)) (afterList l) (may-start nonexecutableKey refl) few (any-read (afterList l) below small)))
 
   pub laws-pass : (forms : ℕ → Form) (i : ℕ) (ls done : List Law) (due : Due) → allowed due staticKey ≡ true → length done + length ls ≤ min 64 lent
       → Each (Bounded n (length names)) ls → Each Tidy ls
-      → Passes lent (lawsLines forms i ls) (lawsText names forms i ls) due (draft T n names done) (dueBehind due lawDue ls) (draft T n names (done ++ ls))
+      → Passes lent (lawsLines forms i ls) (lawsText names forms asDeclared i ls) due (draft T n names done) (dueBehind due lawDue ls) (draft T n names (done ++ ls))
   laws-pass forms i [] done due may few b tidy = rw (append-nil done) (nothing-passes due (draft T n names done))
   laws-pass forms i (l ∷ ls) done due may few b tidy =
       let here = form-passes l done due may (omega arith) (b .0) (tidy .0) (writtenAs (forms i) l) (form-had (forms i) l) in

@@ -72,18 +72,26 @@ good-keys : all goodKey (range 0 noKey) ≡ true
 unfolding keyNumber
 good-keys = refl
 
-line-shape : (key value rest : List ℕ)
+pub line-shape : (key value rest : List ℕ)
     → key ++ (equalsSign ∷ []) ++ value ++ (newline ∷ []) ++ rest ≡ (key ++ equalsSign ∷ value) ++ newline ∷ rest
 line-shape key value rest = simp append-assoc
 
-pub first-line : (k : ℕ) (value rest : List ℕ) → k < noKey → Lacks newline value
-    → firstLine (lineText k value ++ rest) ≡ some (record { key = k; value = value; rest = rest })
-unfolding firstLine
-first-line k value rest known clean =
-    let key = getD keys k [] in
-    let (found, no-equals, no-newline) =
-    and₃-iff (answers k (keyNumber key)) (lacking equalsSign key) (lacking newline key) .0 (passed-by goodKey 0 noKey good-keys k (omega arith) (omega arith)) in
-    ap (λ t. ended (cut newline t)) (line-shape key value rest)
-    ∙ ap ended (cut-there newline (key ++ equalsSign ∷ value) rest (each-append _ key (equalsSign ∷ value) .1 (lacks newline key no-newline, (refl, clean))))
-    ∙ ap (λ c. valued c rest) (cut-there equalsSign key value (lacks equalsSign key no-equals))
-    ∙ ap (λ o. keyed o value rest) (answers-some k (keyNumber key) found)
+-- a written line has one newline, at its end
+module _ (k : ℕ) (known : k < noKey) (value : List ℕ) (clean : Lacks newline value) where
+  abbrev key : List ℕ
+  key = getD keys k []
+
+  good : (answers k (keyNumber key) ≡ true) × (lacking equalsSign key ≡ true) × (lacking newline key ≡ true)
+  good =
+      and₃-iff (answers k (keyNumber key)) (lacking equalsSign key) (lacking newline key) .0 (passed-by goodKey 0 noKey good-keys k (omega arith) (omega arith))
+
+  pub line-clean : Lacks newline (key ++ equalsSign ∷ value)
+  line-clean = each-append _ key (equalsSign ∷ value) .1 (lacks newline key (good .2), (refl, clean))
+
+  pub first-line : (rest : List ℕ) → firstLine (lineText k value ++ rest) ≡ some (record { key = k; value = value; rest = rest })
+  unfolding firstLine
+  first-line rest =
+      ap (λ t. ended (cut newline t)) (line-shape key value rest)
+      ∙ ap ended (cut-there newline (key ++ equalsSign ∷ value) rest line-clean)
+      ∙ ap (λ c. valued c rest) (cut-there equalsSign key value (lacks equalsSign key (good .1)))
+      ∙ ap (λ o. keyed o value rest) (answers-some k (keyNumber key) (good .0))

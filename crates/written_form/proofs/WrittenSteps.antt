@@ -19,7 +19,8 @@ use Rattle.description.specs.declared.Law.{Law}
 use Rattle.text.specs.Bytes.{newline}
 use Rattle.text.specs.Lines.{horizonKey, fluentKey, actionKey, staticKey, dynamicKey, ifKey, afterKey, endKey, noKey}
 use Rattle.text.specs.Lines.{defaultKey, inertialKey, causesKey, byKey, nonexecutableKey}
-use Rattle.text.specs.Names.{isName, declaredAt, literal}
+use Rattle.spelling.specs.Spelling.{isName}
+use Rattle.text.specs.Names.{declaredAt, literal}
 use Rattle.text.specs.Lists.{codes}
 use Rattle.written_form.specs.Writable.{draft}
 use Rattle.line_values.specs.HorizonText.{horizonOf}
@@ -170,7 +171,7 @@ module _ {lent : ℕ} where
         rw (one-more k, one-more n)
         (
         ap (λ first. afterFirst first lent due d n (λ due″ d″ rest′. linesFrom k lent (suc n) due″ d″ rest′))
-        (first-line key value rest known clean)
+        (first-line key known value clean rest)
         ∙ ap (λ step. afterStep step n rest (λ due″ d″ rest′. linesFrom k lent (suc n) due″ d″ rest′)) e
         );
   }
@@ -193,7 +194,7 @@ pub ends : (lent : ℕ) (due : Due) (d : Draft) → allowed due endKey ≡ true 
     → linesFrom (suc k) lent n due d (lineText endKey [] ++ rest) ≡ answered (read d rest n)
 ends lent due d may k n rest =
     ap (λ first. afterFirst first lent due d n (λ due′ d′ rest′. linesFrom k lent (suc n) due′ d′ rest′))
-    (first-line endKey [] rest (omega arith) tt)
+    (first-line endKey (omega arith) [] tt rest)
     ∙ ap (λ step. afterStep step n rest (λ due′ d′ rest′. linesFrom k lent (suc n) due′ d′ rest′)) (end-step lent due d may)
 
 -- what is due behind lines that each leave `later` due

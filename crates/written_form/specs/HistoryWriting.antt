@@ -1,5 +1,5 @@
 -- Writing a history: each line lists the literals that a run of values holds, in atom order, positive before negative. An action that
--- is false need not be listed (02, §2): a choice tells of each time and action whether it is.
+-- is false need not be listed (02, §2): a choice tells of each time and action whether it is. Each use of a name has a spelling (02, §3).
 -- Assumes nothing.
 use mathlib.Core.Bool.{Bool, true, false, cond, not, _&&_}
 use mathlib.Core.List.{List, [], _∷_, _++_, map}
@@ -8,7 +8,7 @@ use lib.Dec.{eqb, ltb}
 use lib.ListN.{length, take, drop}
 use Rattle.text.specs.Lines.{stateKey, actKey, endKey}
 use Rattle.history_values.specs.Values.{orFalse}
-use Rattle.written_form.specs.Writing.{lineText, listText}
+use Rattle.written_form.specs.Writing.{Spelling, lineText, listText}
 
 -- the codes of place i that a value holds: 0 none, 1 true, 2 false, 3 both
 abbrev pub codesAt : ℕ → ℕ → List ℕ
@@ -24,23 +24,23 @@ codesFrom listed i [] = []
 codesFrom listed i (v ∷ vs) = listedAt (listed i) i v ++ codesFrom listed (suc i) vs
 
 -- a state line lists all that its values hold
-abbrev pub stateText : List (List ℕ) → List ℕ → List ℕ
-stateText names vs = lineText stateKey (listText names (codesFrom (λ i. true) 0 vs))
+abbrev pub stateText : List (List ℕ) → (ℕ → List ℕ → List ℕ) → List ℕ → List ℕ
+stateText names spell vs = lineText stateKey (listText names spell (codesFrom (λ i. true) 0 vs))
 
 -- an act line behind n fluents
-abbrev pub actText : List (List ℕ) → (ℕ → Bool) → ℕ → List ℕ → List ℕ
-actText names listed n vs = lineText actKey (listText names (codesFrom listed n vs))
+abbrev pub actText : List (List ℕ) → (ℕ → List ℕ → List ℕ) → (ℕ → Bool) → ℕ → List ℕ → List ℕ
+actText names spell listed n vs = lineText actKey (listText names spell (codesFrom listed n vs))
 
 -- the values of a state of n fluents at time t and of k further steps with m actions each, then the end line
-abbrev pub stepsText : List (List ℕ) → (ℕ → ℕ → Bool) → ℕ → ℕ → ℕ → ℕ → List ℕ → List ℕ
-stepsText names listed n m t zero vs = stateText names (take n vs) ++ lineText endKey []
-stepsText names listed n m t (suc k) vs =
-    stateText names (take n vs)
-    ++ (actText names (listed t) n (take m (drop n vs)) ++ stepsText names listed n m (suc t) k (drop m (drop n vs)))
+abbrev pub stepsText : List (List ℕ) → Spelling → (ℕ → ℕ → Bool) → ℕ → ℕ → ℕ → ℕ → List ℕ → List ℕ
+stepsText names spell listed n m t zero vs = stateText names (spell t 0) (take n vs) ++ lineText endKey []
+stepsText names spell listed n m t (suc k) vs =
+    stateText names (spell t 0) (take n vs)
+    ++ (actText names (spell t 1) (listed t) n (take m (drop n vs)) ++ stepsText names spell listed n m (suc t) k (drop m (drop n vs)))
 
 -- `listed t i` tells whether the name at place i, an action, is listed at time t where it is false
-unfoldable pub valuesText : ℕ → List (List ℕ) → List (List ℕ) → (ℕ → ℕ → Bool) → List ℕ → List ℕ
-valuesText T fluents actions listed vs = stepsText (fluents ++ actions) listed (length fluents) (length actions) 0 T vs
+unfoldable pub valuesText : ℕ → List (List ℕ) → List (List ℕ) → Spelling → (ℕ → ℕ → Bool) → List ℕ → List ℕ
+valuesText T fluents actions spell listed vs = stepsText (fluents ++ actions) spell listed (length fluents) (length actions) 0 T vs
 
 -- every action is listed, and the actions done alone
 abbrev pub everyAction : ℕ → ℕ → Bool

@@ -3,3 +3,4 @@ pub mod Writing
 pub mod Writable
 pub mod HistoryWriting
 pub mod Shorthand
+pub mod Respelling

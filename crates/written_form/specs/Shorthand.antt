@@ -7,7 +7,7 @@ use Prim.Native.Nat.{ℕ}
 use Rattle.search.specs.Replies as replies
 use Rattle.search.specs.Replies.{Reply, answered}
 use Rattle.text.specs.Lines.{staticKey, dynamicKey, ifKey, afterKey, defaultKey, inertialKey, causesKey, byKey, nonexecutableKey}
-use Rattle.text.specs.Names.{falseBytes}
+use Rattle.spelling.specs.Spelling.{falseBytes}
 use Rattle.description_reader.specs.LineSteps.{Due, Draft, Step, refused, next, finish, lineStep}
 use Rattle.description_reader.specs.Descriptions.{Taken, read, blank}
 use Rattle.written_form.specs.Writable.{AreNames}

@@ -10,8 +10,7 @@ use Rattle.description.specs.declared.Kind.{Kind}
 use Rattle.description.specs.declared.Kind.the-variants.{Static, Dynamic}
 use Rattle.description.specs.declared.Law.{Law}
 use Rattle.description.specs.Acceptance.{lawFits}
-use Rattle.text.specs.Bytes.{same}
-use Rattle.text.specs.Names.{isName}
+use Rattle.spelling.specs.Spelling.{sameName, isName}
 use Rattle.description_reader.specs.LineSteps.{Draft}
 use Rattle.reader_bounds.specs.Accepts.{Tidy}
 use Rattle.written_form.specs.Writing.{Form, inFull, asDefault, asInertial, asCauses, asNonexecutable, writtenAs}
@@ -19,10 +18,10 @@ use Rattle.written_form.specs.Writing.{Form, inFull, asDefault, asInerti
 abbrev pub AreNames : List (List ℕ) → Type 0
 AreNames xs = Each (λ x. isName x ≡ true) xs
 
--- no name equals an earlier one
+-- no name is the same as an earlier one, in any mix of capitals
 abbrev pub Distinct : List (List ℕ) → Type 0
 Distinct [] = Unit
-Distinct (x ∷ xs) = Each (λ y. same y x ≡ false) xs × Distinct xs
+Distinct (x ∷ xs) = Each (λ y. sameName y x ≡ false) xs × Distinct xs
 
 pub record Writable (lent T : ℕ) (fluents actions : List (List ℕ)) (ls : List Law) : Type 0 where
   pub horizon-from : 1 ≤ T

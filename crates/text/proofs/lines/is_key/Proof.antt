@@ -1,6 +1,8 @@
 -- `lines::is_key` meets its contract.
 -- Assumes nothing.
 use native.Mathlib.Omega.{arith}
+use mathlib.Core.Path.{_∙_}
+use Rattle.spelling.proofs.Comparing.{as-they-are}
 use Rattle.text.proofs.KeyTable.{row}
 use borrow.Author.Needs.{needs}
 use Rattle.text.proofs.lines.is_key.Statement.{statement}
@@ -38,7 +40,8 @@ same-requires c κs = search needs
 
 returns : tie.Need-returns
 returns c =
-    rw (← row (c .before .before .before .before .args .k) (c .before .before .before .before .pre) .1) (c .same .ensures)
+    let a = c .before .before .before .before in
+    c .same .ensures ∙ as-they-are (a .args .front .now) (row (a .args .k) (a .pre) .1)
 
 pub is-key-spec : {M : Type 1} → statement M
 is-key-spec =

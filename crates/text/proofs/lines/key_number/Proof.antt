@@ -8,7 +8,7 @@ use borrow.Author.Tests.{lt-ltb}
 use lib.ListN.{drop}
 use Rattle.search.specs.Search.{first}
 use Rattle.search.proofs.Loops.{first-stop, first-go, first-done}
-use Rattle.text.specs.Bytes.{same}
+use Rattle.spelling.specs.Letters.{same}
 use Rattle.text.specs.Lines.{keys, noKey, keyNumber}
 use Rattle.text.proofs.lines.key_number.Statement.{statement}
 use Rattle.text.proofs.lines.key_number.Tie as tie

@@ -1,12 +1,12 @@
--- `names::is_name` meets its contract: the tests in turn.
+-- `is_name` meets its contract: the tests in turn.
 -- Assumes nothing.
 use native.Mathlib.Omega.{arith}
 use lib.ListN.{length}
 use borrow.Author.Tests.{not-true, not-false, le-leb, lt-leb}
-use Rattle.text.proofs.Spelling.{name-empty, name-tests}
+use Rattle.spelling.proofs.Naming.{name-empty, name-tests}
 use borrow.Author.Needs.{needs}
-use Rattle.text.proofs.names.is_name.Statement.{statement}
-use Rattle.text.proofs.names.is_name.Tie as tie
+use Rattle.spelling.proofs.is_name.Statement.{statement}
+use Rattle.spelling.proofs.is_name.Tie as tie
 
 returns : tie.Need-returns
 returns c = name-empty _ (c .if1 .taken)

@@ -1,8 +1,8 @@
--- `bytes::is_name_byte` meets its contract.
+-- `is_name_byte` meets its contract.
 -- Assumes nothing.
 use borrow.Author.Needs.{needs}
-use Rattle.text.proofs.bytes.is_name_byte.Statement.{statement}
-use Rattle.text.proofs.bytes.is_name_byte.Tie as tie
+use Rattle.spelling.proofs.is_name_byte.Statement.{statement}
+use Rattle.spelling.proofs.is_name_byte.Tie as tie
 
 is-letter-requires : tie.Need-is-letter-requires
 is-letter-requires c κs = search needs

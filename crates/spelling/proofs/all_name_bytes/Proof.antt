@@ -1,4 +1,4 @@
--- `names::all_name_bytes` meets its contract. The loop's invariant: the bytes not yet passed decide.
+-- `all_name_bytes` meets its contract. The loop's invariant: the bytes not yet passed decide.
 -- Assumes nothing.
 use native.Mathlib.Omega.{arith}
 use mathlib.Core.Path.{_≡_, refl, sym, _∙_}
@@ -7,9 +7,9 @@ use borrow.Author.Tests.{not-true, not-false}
 use lib.ListN.{length, drop}
 use Rattle.search.specs.Search.{all}
 use Rattle.search.proofs.Loops.{all-stop, all-go, all-done}
-use Rattle.text.specs.Bytes.{isNameByte}
-use Rattle.text.proofs.names.all_name_bytes.Statement.{statement}
-use Rattle.text.proofs.names.all_name_bytes.Tie as tie
+use Rattle.spelling.specs.Letters.{isNameByte}
+use Rattle.spelling.proofs.all_name_bytes.Statement.{statement}
+use Rattle.spelling.proofs.all_name_bytes.Tie as tie
 
 abbrev Inv-loop : tie.InvT-loop
 Inv-loop name i₀ i = (i ≤ length name) × (all isNameByte (drop i name) ≡ all isNameByte name)

@@ -1,8 +1,8 @@
--- `names::is_false` meets its contract.
+-- `is_false` meets its contract.
 -- Assumes nothing.
 use borrow.Author.Needs.{needs}
-use Rattle.text.proofs.names.is_false.Statement.{statement}
-use Rattle.text.proofs.names.is_false.Tie as tie
+use Rattle.spelling.proofs.is_false.Statement.{statement}
+use Rattle.spelling.proofs.is_false.Tie as tie
 
 slice-aggregate-same : tie.Need-slice-aggregate-same
 slice-aggregate-same c = search needs

@@ -1,8 +1,8 @@
--- `bytes::is_digit` meets its contract.
+-- `is_digit` meets its contract.
 -- Assumes nothing.
 use borrow.Author.Tests.{le-leb, lt-leb}
-use Rattle.text.proofs.bytes.is_digit.Statement.{statement}
-use Rattle.text.proofs.bytes.is_digit.Tie as tie
+use Rattle.spelling.proofs.is_digit.Statement.{statement}
+use Rattle.spelling.proofs.is_digit.Tie as tie
 
 returns : tie.Need-returns
 returns c = rw (le-leb 48 _ (c .if1 .taken))
