@@ -2,7 +2,8 @@
 
 use super::lines::{list, literal, Key, Line, Lines, Sort};
 use super::model::{Description, Head, Law};
-use super::{Refusal, MAX_ACTIONS, MAX_FLUENTS, MAX_HORIZON, MAX_LAWS, MAX_LIST, MAX_NAME, MAX_TEXT};
+use super::names::{is_false, is_name};
+use super::{Refusal, MAX_ACTIONS, MAX_FLUENTS, MAX_HORIZON, MAX_LAWS, MAX_LIST, MAX_TEXT};
 
 /// How far the reader is: each part of a description closes the ones before it.
 #[derive(Clone, Copy, Debug, PartialEq, Eq, PartialOrd, Ord)]
@@ -79,14 +80,7 @@ fn read_horizon(line: &Line) -> Result<usize, Refusal> {
     Ok(number)
 }
 
-/// A letter a to z, then up to 15 letters, digits or underscores; and not the word false.
-pub fn is_name(bytes: &[u8]) -> bool {
-    let starts = bytes.first().is_some_and(u8::is_ascii_lowercase);
-    let goes_on = |byte: &u8| byte.is_ascii_lowercase() || byte.is_ascii_digit() || *byte == b'_';
-    starts && bytes.len() <= MAX_NAME && bytes.iter().all(goes_on) && bytes != b"false"
-}
-
-/// A newly declared name. Its count is tested before its spelling.
+/// A newly declared name, kept as it is spelled here. Its count is tested before its spelling.
 fn read_name(known: &Description, line: &Line, count: usize, limit: usize) -> Result<Vec<u8>, Refusal> {
     if count >= limit {
         return Err(line.refusal(5));
@@ -147,9 +141,9 @@ fn read_after(names: &Description, line: &Line) -> Result<Vec<u16>, Refusal> {
     list(names, line, Sort::Either, Some(MAX_LIST))
 }
 
-/// The word false, or a fluent literal.
+/// The word false, in capitals or not, or a fluent literal.
 fn read_head(names: &Description, line: &Line) -> Result<Head, Refusal> {
-    if line.value == b"false" {
+    if is_false(line.value) {
         return Ok(Head::False);
     }
     Ok(Head::Literal(read_fluent_literal(names, line)?))

@@ -157,7 +157,8 @@ pub enum Sort {
 
 /// The code of a literal of the given sort, if the bytes are one.
 ///
-/// Only declared names are looked up, and each of them is well spelled, so no spelling needs a look here.
+/// Only declared names are looked up. Each of them is well spelled, and so is whatever is the same name, so no spelling
+/// needs a look here.
 pub fn literal(names: &Description, bytes: &[u8], sort: Sort) -> Option<u16> {
     let (name, sign) = match bytes.strip_prefix(b"-") {
         Some(name) => (name, 1),

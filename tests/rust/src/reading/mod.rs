@@ -7,6 +7,7 @@ pub mod engine;
 pub mod history;
 pub mod lines;
 pub mod model;
+pub mod names;
 pub mod record;
 pub mod report;
 pub mod translation;
@@ -15,6 +16,8 @@ pub mod translation;
 mod command_log;
 #[cfg(test)]
 mod examples;
+#[cfg(test)]
+mod letter_case;
 #[cfg(test)]
 mod refusals;
 #[cfg(test)]

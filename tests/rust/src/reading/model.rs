@@ -1,5 +1,7 @@
 //! What a description says, once it is read.
 
+use super::names::same_name;
+
 /// The head of a law: the code of a fluent literal, or false.
 #[derive(Clone, Copy, Debug, PartialEq, Eq)]
 pub enum Head {
@@ -15,7 +17,7 @@ pub struct Law {
     pub after: Option<Vec<u16>>,
 }
 
-/// A description with its names, and how much of its text it took.
+/// A description with its names as they were declared, and how much of its text it took.
 #[derive(Clone, Debug, PartialEq, Eq)]
 pub struct Description {
     pub horizon: usize,
@@ -44,9 +46,9 @@ impl Description {
         atom % self.stride() >= self.fluents.len()
     }
 
-    /// The number a name stands for: fluents first, then actions.
+    /// The number a name stands for in any spelling: fluents first, then actions.
     pub fn symbol(&self, name: &[u8]) -> Option<usize> {
         let mut declared = self.fluents.iter().chain(&self.actions);
-        declared.position(|known| known == name)
+        declared.position(|known| same_name(known, name))
     }
 }

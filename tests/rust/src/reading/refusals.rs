@@ -2,10 +2,11 @@
 
 use super::causal::causal_reading;
 use super::check::check_history;
-use super::description::{is_name, read_description};
+use super::description::read_description;
 use super::engine::{check_set, Verdict};
 use super::history::read_history;
 use super::model::{Description, Head, Law};
+use super::names::is_name;
 use super::record::accept;
 use super::report::output;
 use super::translation::translate;
@@ -73,7 +74,8 @@ fn names_are_refused_by_4() {
         "a",
         "false",
         "A",
-        "aB",
+        "False",
+        "aB@",
         "0a",
         "_a",
         "-b",

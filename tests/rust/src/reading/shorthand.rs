@@ -122,7 +122,7 @@ fn the_short_recipe_file_is_this_one() {
 fn values_that_are_no_literal_are_refused_by_6() {
     for key in ["default", "inertial"] {
         for bad in [
-            "", "false", "-false", "d", "--a", "-", "a,b", "a,", ",a", "c", "-c", "a ", "A", "a=b",
+            "", "false", "-false", "d", "--a", "-", "a,b", "a,", ",a", "c", "-c", "a ", "C", "False", "a@", "a=b",
         ] {
             assert_eq!(refused(&format!("{key}={bad}\n")), (6, 5), "{key}={bad}");
         }
