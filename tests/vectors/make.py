@@ -3,8 +3,8 @@
 
 READING is the program `reading` of tests/rust, an independent reading of the contract: the stored outputs are what it says, so
 that the checker is held against a second reading and never against itself. The inputs: every verdict and causal verdict, every
-refusal that a text can meet, limits from both sides, damaged lines of each kind, the same for short laws (short_laws.py) and
-for command logs (command_log.py), and byte values 0 to 255 in names."""
+refusal that a text can meet, limits from both sides, damaged lines of each kind, the same for short laws (short_laws.py),
+for command logs (command_log.py) and for capitals (letter_case.py), and byte values 0 to 255 in names."""
 import sys
 
 sys.dont_write_bytecode = True
@@ -12,6 +12,7 @@ sys.dont_write_bytecode = True
 import subprocess
 
 import command_log
+import letter_case
 import short_laws
 from recipes import FULL, PASSING, RECIPE, TOP, history, inertia, largest, still, swapped
 
@@ -113,6 +114,7 @@ def misspelt():
         "action_named_as_fluent": swapped("action=reflow", "action=flowed"),
         "name_empty": swapped("fluent=flowed", "fluent="),
         "name_in_capitals": swapped("fluent=flowed", "fluent=Flowed"),
+        "name_with_a_byte_of_no_name": swapped("fluent=flowed", "fluent=fl@wed"),
         "name_with_digit_first": swapped("fluent=flowed", "fluent=1flowed"),
         "name_with_digit_and_underscore": RECIPE.replace("flowed", "flow_2"),
         "head_unknown": swapped("dynamic=flowed", "dynamic=flown"),
@@ -128,8 +130,10 @@ def misspelt():
         "act_with_fluent": swapped("act=reflow", "act=locked"),
         "five_before_six": still(1, 1, 0, "static=f0\nif=f0,f0,f0,f0,f0,f0,nothing\n"),
         "six_before_the_seventh": still(1, 1, 0, "static=f0\nif=f0,f0,nothing,f0,f0,f0,f0\n"),
-        "ninth_action_misspelt": still(1, 1, 8).replace("end=\n", "action=X\nend=\n", 1),
-        "first_bad_line_decides": swapped("fluent=flowed", "fluent=Flowed").replace("dynamic=false", "dynamic=nothing", 1),
+        "ninth_action_in_capitals": still(1, 1, 8).replace("end=\n", "action=X\nend=\n", 1),
+        "ninth_action_no_name": still(1, 1, 8).replace("end=\n", "action=@\nend=\n", 1),
+        "bad_line_behind_a_name_in_capitals": swapped("dynamic=false", "dynamic=nothing", swapped("fluent=flowed", "fluent=Flowed")),
+        "first_of_two_bad_lines_decides": swapped("dynamic=false", "dynamic=nothing", swapped("fluent=flowed", "fluent=fl@wed")),
     }
 
 
@@ -147,7 +151,7 @@ def main():
     def say(raw):
         return subprocess.run([sys.argv[1]], input=raw, stdout=subprocess.PIPE, check=True).stdout
 
-    parts = [verdicts(), limits(), damaged(), misspelt(), short_laws.cases(), command_log.cases()]
+    parts = [verdicts(), limits(), damaged(), misspelt(), short_laws.cases(), command_log.cases(), letter_case.cases()]
     cases = {name: text for part in parts for name, text in part.items()}
     assert len(cases) == sum(map(len, parts)), "a name is given twice"
     data = CRATE / "data"
@@ -155,8 +159,9 @@ def main():
         old.unlink()
     outputs = []
     for name, text in cases.items():
-        (data / name).write_text(text)
-        outputs.append(name.encode() + b"\n" + say(text.encode()))
+        raw = text if isinstance(text, bytes) else text.encode()
+        (data / name).write_bytes(raw)
+        outputs.append(name.encode() + b"\n" + say(raw))
     (data / "every_byte").write_text(EVERY_BYTE)
     outputs += [b"byte %d\n" % value + say(with_byte(value)) for value in range(256)]
     (CRATE / "args").write_text("".join(f"{name}\n" for name in cases))

@@ -1,5 +1,5 @@
-"""Recipes that stored inputs are made from: the contract's full recipe, long and short, a command log, one in which nothing
-happens, and the largest one."""
+"""Recipes that stored inputs are made from: the contract's full recipe, long, short and with capitals, a command log, one in
+which nothing happens, and the largest one."""
 import pathlib
 
 TOP = pathlib.Path(__file__).resolve().parents[2]
@@ -14,6 +14,10 @@ SHORT = SHORT_RECIPE[: -len(PASSING)]
 
 # The same laws and two more, with a history that lists only what was done.
 LOG_RECIPE = (TOP / "tests" / "recipes" / "log.txt").read_text()
+
+# The full recipe with names that are declared and used in many mixes of capitals, and its description.
+CAPITALS_RECIPE = (TOP / "tests" / "recipes" / "capitals.txt").read_text()
+CAPITALS = CAPITALS_RECIPE[: CAPITALS_RECIPE.index("state=")]
 
 
 def history(*lines):
