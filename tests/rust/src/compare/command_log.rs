@@ -232,7 +232,7 @@ fn every_wrong_call_is_found() {
 fn a_run_sees_every_kind_of_log() {
     let plan = Plan {
         seed: 7,
-        texts: 5_000,
+        texts: 6_000,
         tables: 0,
         least: 0,
     };

@@ -1,6 +1,7 @@
 //! The comparison of a library's calls with the independent reading.
 
 pub mod brute;
+pub mod letters;
 pub mod logs;
 pub mod tables;
 pub mod tally;
@@ -8,6 +9,8 @@ pub mod texts;
 
 #[cfg(test)]
 mod command_log;
+#[cfg(test)]
+mod letter_case;
 #[cfg(test)]
 mod mutants;
 #[cfg(test)]
@@ -64,7 +67,10 @@ pub fn run(library: &impl Calls, plan: &Plan, out: &mut impl Write) -> io::Resul
 fn all_cases(library: &impl Calls, plan: &Plan, tally: &mut Tally) -> Result<(), Difference> {
     for number in 0..plan.texts {
         let mut random = case_random(plan.seed, 1, number);
-        texts::compare(library, &mut random, tally).map_err(|found| located(plan, "text", number, &found))?;
+        // Capitals are drawn apart, so that they change no text otherwise.
+        let mut letters = case_random(plan.seed, 3, number);
+        texts::compare(library, &mut random, &mut letters, tally)
+            .map_err(|found| located(plan, "text", number, &found))?;
     }
     for number in 0..plan.tables {
         let mut random = case_random(plan.seed, 2, number);

@@ -9,6 +9,7 @@ use crate::calls::Reader;
 use crate::reading::description::read_description;
 use crate::reading::lines::{first_lines, Key, Line, Lines};
 use crate::reading::model::Description;
+use crate::reading::names::same_name;
 use crate::reading::{Refusal, MAX_LAWS, MAX_LIST};
 use Key::{By, Causes, Default, Inertial, Nonexecutable};
 
@@ -158,7 +159,7 @@ impl Slipped {
         let description = read(text).ok()?;
         let of_fluent = |item: &Vec<u8>| {
             let name = item.strip_prefix(b"-").unwrap_or(item);
-            description.fluents.iter().any(|known| known == name)
+            description.fluents.iter().any(|known| same_name(known, name))
         };
         let wrong = |line: &&Line| match self.0 {
             Slip::FalseRefused => line.value == b"false",

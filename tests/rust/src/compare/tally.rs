@@ -1,5 +1,6 @@
 //! How many cases of each kind and how many answers of each code were seen.
 
+use super::letters::{Capital, CAPITALS};
 use super::logs::{Log, LOGS};
 use crate::answer::{meaning, BROKEN, CLASH, CONTRADICTED, MISSING, PASSES, PATH, READ, UNCAUSED, UNFOUNDED, WRITTEN};
 use crate::generate::{tables, texts};
@@ -73,6 +74,8 @@ pub struct Tally {
     laws: [u64; LAWS.len()],
     /// Histories as command logs.
     logs: [u64; LOGS.len()],
+    /// Texts as examples of capitals.
+    capitals: [u64; CAPITALS.len()],
 }
 
 impl Default for Tally {
@@ -92,6 +95,7 @@ impl Tally {
             passing: [0; MAX_HORIZON + 1],
             laws: [0; LAWS.len()],
             logs: [0; LOGS.len()],
+            capitals: [0; CAPITALS.len()],
         }
     }
 
@@ -129,6 +133,10 @@ impl Tally {
         self.logs[log as usize] += 1;
     }
 
+    pub fn capital(&mut self, capital: Capital) {
+        self.capitals[capital as usize] += 1;
+    }
+
     pub fn print(&self, out: &mut impl Write) -> io::Result<()> {
         for ((_, name, _), count) in texts::KINDS.iter().zip(self.texts) {
             writeln!(out, "texts, {name}: {count}")?;
@@ -150,6 +158,9 @@ impl Tally {
         }
         for ((_, name), count) in LOGS.iter().zip(self.logs) {
             writeln!(out, "histories, {name}: {count}")?;
+        }
+        for ((_, name), count) in CAPITALS.iter().zip(self.capitals) {
+            writeln!(out, "capitals, {name}: {count}")?;
         }
         let [no, yes] = self.defined;
         writeln!(
@@ -175,9 +186,19 @@ impl Tally {
             .collect()
     }
 
-    /// The codes of each call, the forms of laws and the kinds of command logs that were seen fewer times than asked for.
+    /// The kinds of capitals that were seen fewer times than asked for.
+    pub fn rare_capitals(&self, least: u64) -> Vec<String> {
+        let counts = CAPITALS.iter().zip(self.capitals);
+        let rare = counts.filter(|(_, count)| *count < least);
+        rare.map(|((_, name), count)| format!("capitals, {name}: {count}, wanted {least}"))
+            .collect()
+    }
+
+    /// The codes of each call, the forms of laws, the kinds of command logs and those of capitals that were seen fewer
+    /// times than asked for.
     pub fn too_rare(&self, least: u64) -> Vec<String> {
         let mut rare = self.rare_logs(least);
+        rare.extend(self.rare_capitals(least));
         for ((_, name), count) in LAWS.iter().zip(self.laws) {
             if count < least {
                 rare.push(format!("laws by {name}: {count}, wanted {least}"));

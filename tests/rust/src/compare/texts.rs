@@ -1,10 +1,12 @@
 //! One text, put through all calls that take a text, by both sides.
 
+use super::letters;
 use super::logs::{examples, Log};
 use super::tally::{Call, Tally};
 use super::Difference;
 use crate::answer::{Answer, BROKEN, CLASH, CONTRADICTED, MISSING, PASSES, PATH, UNCAUSED, UNFOUNDED};
 use crate::calls::{Calls, Reading};
+use crate::generate::letters::with_capitals;
 use crate::generate::texts::text;
 use crate::random::Random;
 use crate::reading::description::read_description;
@@ -40,9 +42,15 @@ struct Case<'a, C> {
     tally: &'a mut Tally,
 }
 
-/// Makes one text and compares all calls on it.
-pub fn compare(library: &impl Calls, random: &mut Random, tally: &mut Tally) -> Result<(), Difference> {
+/// Makes one text and compares all calls on it. The second random numbers settle its capitals alone.
+pub fn compare(
+    library: &impl Calls,
+    random: &mut Random,
+    letters: &mut Random,
+    tally: &mut Tally,
+) -> Result<(), Difference> {
     let (kind, text) = text(random);
+    let text = with_capitals(letters, text);
     tally.text(kind);
     let known = known(&text);
     if known.is_some() {
@@ -59,7 +67,8 @@ pub fn compare(library: &impl Calls, random: &mut Random, tally: &mut Tally) -> 
     case.translate()?;
     case.read_history()?;
     case.check_history()?;
-    case.causal_reading()
+    case.causal_reading()?;
+    case.spelled_anew(letters)
 }
 
 /// A text over 65,535 bytes may still begin with a description of fewer.
@@ -84,6 +93,9 @@ impl<'a, C: Calls> Case<'a, C> {
         let printed = output(self.text);
         self.count_report(&printed);
         self.count_logs(&printed);
+        for capital in letters::examples(self.text, &printed) {
+            self.tally.capital(capital);
+        }
         let longer = printed.len() + self.random.below(20);
         let shorter = self.random.below(printed.len() + 1);
         for room in [longer, shorter] {
@@ -167,6 +179,16 @@ impl<'a, C: Calls> Case<'a, C> {
         self.count(Call::CausalReading, wanted);
         if wanted != given {
             return Err(self.difference("causal_reading", &wanted, &given, "nothing lent"));
+        }
+        Ok(())
+    }
+
+    /// The text with other spellings of its names, in every second case, by the library alone.
+    fn spelled_anew(&mut self, random: &mut Random) -> Result<(), Difference> {
+        if random.chance(1, 2) {
+            for capital in letters::spelled_anew(self.library, self.text, random)? {
+                self.tally.capital(capital);
+            }
         }
         Ok(())
     }

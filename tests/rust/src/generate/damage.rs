@@ -4,7 +4,8 @@ use super::limits::HORIZONS;
 use super::render::join;
 use crate::random::Random;
 
-const KEYS: [&[u8]; 15] = [
+/// All keys.
+pub const KEYS: [&[u8]; 15] = [
     b"horizon",
     b"fluent",
     b"action",
@@ -303,7 +304,7 @@ fn damage_line(random: &mut Random, lines: &mut [Vec<u8>], index: usize) {
 }
 
 /// A line's key and value; a line without an equals sign is all key.
-fn parts(line: &[u8]) -> (&[u8], &[u8]) {
+pub fn parts(line: &[u8]) -> (&[u8], &[u8]) {
     match line.iter().position(|byte| *byte == b'=') {
         Some(at) => (&line[..at], &line[at + 1..]),
         None => (line, b""),

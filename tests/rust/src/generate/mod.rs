@@ -1,8 +1,9 @@
-//! Random inputs: descriptions, histories, texts at the limits, damaged texts, and ground rule tables.
+//! Random inputs: descriptions, histories, texts at the limits, damaged texts, capitals, and ground rule tables.
 
 pub mod damage;
 pub mod descriptions;
 pub mod histories;
+pub mod letters;
 pub mod limits;
 pub mod render;
 pub mod tables;
