@@ -1,6 +1,7 @@
 """Recipes picked by hand: the full recipe of the contract with M1 to M5, the
 two examples of the paper's section 2, recipes for each known slip, recipes whose
-laws are written short, and command logs, which list only what was done.
+laws are written short, command logs, which list only what was done, and names
+with capitals, each use of which is spelled in another way.
 
 A law is written `head if list` (static) or `head if list after list` (dynamic);
 either list may be left empty, and a law is dynamic if the word `after` is there.
@@ -12,8 +13,8 @@ import random
 
 import solver
 from cases import SOME_FAULT
-from language import (Description, History, Law, all_literals, complete_only, solver_program,
-                      written_out, written_short)
+from language import (Description, History, Law, all_literals, as_declared, complete_only,
+                      solver_program, written_out, written_short)
 from recipe_cases import listed_places, literal_places, recipe_cases, write_history
 
 
@@ -221,6 +222,44 @@ LOGS = [
 ]
 
 
+# Names with capitals. The text spells each use, and false, by turns in another way.
+CAPITALS = [
+    # the full recipe in a style sheet's spelling, with the verdicts of the contract
+    ((1, "Locked Flowed", "Reflow",
+      ["Flowed after Reflow", "false after Reflow,Locked"] + inertial("Locked", "Flowed")),
+     [(text.replace("locked", "Locked").replace("flowed", "Flowed").replace("reflow", "Reflow"),
+       verdict) for text, verdict in LOCK_HISTORIES]),
+    # false heads static laws, dynamic laws and laws by causes
+    ((1, "Up", "Go", ["Up if Up", "false if -Up"]), [("Up;;Up", "passes"), ("-Up;;Up", "broken 2"),
+                                                   ("Up;;-Up", "broken 3")]),
+    ((1, "Up", "Go", ["Up if Up after", "false if Up after Go", "-Up if -Up after"]),
+     [("Up;Go;-Up", "passes"), ("Up;Go;Up", "broken 1"), ("Up;;Up", "passes")]),
+    ((2, "Up", "Go", ["Up after Go", "false after Go,-Up"] + inertial("Up")),
+     [("Up;Go;Up;Go;Up", "passes"), ("-Up;;-Up;Go;Up", "broken 3"), ("-Up;;-Up;;-Up", "passes")]),
+    # names that are the beginning of others, and the letters at the edges of the alphabet
+    ((1, "Ab AbC", "A", ["AbC after A", "-Ab after A"] + inertial("Ab", "AbC")),
+     [("Ab,-AbC;A;-Ab,AbC", "passes"), ("Ab,-AbC;;Ab,-AbC", "passes"),
+      ("Ab,-AbC;A;Ab,AbC", "broken 1")]),
+    ((1, "A Z a0 z_", "AZ", ["Z after AZ", "-A after AZ"] + inertial("A", "Z", "a0", "z_")),
+     [("A,-Z,a0,-z_;AZ;-A,Z,a0,-z_", "passes"), ("A,-Z,a0,-z_;;-A,-Z,a0,-z_", "unfounded 11")]),
+    # 16 letters; names that look like keys and like false
+    ((1, "AbcdefghIjklmnoP False1", "X_9", ["False1 after X_9", "AbcdefghIjklmnoP if False1"]),
+     [("-AbcdefghIjklmnoP,-False1;X_9;AbcdefghIjklmnoP,False1", "passes")]),
+    ((1, "End State FALS", "Act", ["End if State after Act", "-State after Act", "End after End",
+                                   "State if State after", "FALS if FALS"]),
+     [("End,State,FALS;;End,State,FALS", "passes"),
+      ("End,State,FALS;Act;End,-State,FALS", "passes"),
+      ("-End,State,FALS;;-End,State,FALS", SOME_FAULT)]),
+]
+
+
+def each_spelling_by_turns():
+    """Spells the first word as it was declared, the next one in small letters, and so on."""
+    turns = itertools.count()
+    ways = [str, str.lower, str.upper, str.swapcase, str.capitalize]
+    return lambda word: ways[next(turns) % len(ways)](word)
+
+
 def each_way_by_turns():
     """Writes the first law out, the second in its first short form, and so on."""
     turns = itertools.count()
@@ -295,19 +334,20 @@ def unstated(examples):
         yield description, [(history_of(description, text), None) for text in texts]
 
 
-def command_logs():
-    """Histories that leave out what was not done, with the verdicts worked out for them."""
-    for example, histories in LOGS:
+def stated_recipes(examples):
+    """Recipes with the verdicts worked out for them, where there are any."""
+    for example, histories in examples:
         description = description_of(*example)
         yield description, [(history_of(description, text), verdict) for text, verdict in histories]
 
 
-def picked_cases(picked, new_spelling):
+def picked_cases(picked, new_spelling, new_letters=lambda: as_declared):
     cases = []
     for description, histories in picked:
         cases += recipe_cases(description, [one for one, _ in histories],
                               ["picked by hand"] * len(histories),
-                              [verdict for _, verdict in histories], None, new_spelling)
+                              [verdict for _, verdict in histories], None, new_spelling,
+                              new_letters)
     return cases
 
 
@@ -319,4 +359,5 @@ def chosen_recipes():
     mixed = [lock_histories(), *unstated(SHORT[-4:])]
     return (picked_cases(long, lambda: written_out) + largest_cases()
             + picked_cases(short, lambda: written_short) + picked_cases(mixed, each_way_by_turns)
-            + picked_cases(command_logs(), lambda: written_short))
+            + picked_cases(stated_recipes(LOGS), lambda: written_short)
+            + picked_cases(stated_recipes(CAPITALS), each_way_by_turns, each_spelling_by_turns))

@@ -46,7 +46,7 @@ VERDICTS = ["passes", "broken", "unfounded", "missing", "clash"]
 
 BATCH_BYTES = 65000  # each file of one run of the program stays below this
 STORE_BYTES = 64000  # so does each stored file
-STORED_RECIPES, STORED_TABLES = 240, 320
+STORED_RECIPES, STORED_TABLES = 264, 320
 
 
 def make_cases(seed, recipes, tables):
@@ -54,6 +54,7 @@ def make_cases(seed, recipes, tables):
     picked = chosen_recipes()[:recipes]
     recipe_list = picked + random_recipes(random.Random("recipes %d" % seed),
                                           random.Random("act lines %d" % seed),
+                                          random.Random("capitals %d" % seed),
                                           recipes - len(picked))
     picked = chosen_tables()[:tables]
     table_list = picked + random_tables(random.Random("tables %d" % seed), tables - len(picked))
@@ -206,6 +207,29 @@ def listing(case):
     return names[absent > 0, listed > 0]
 
 
+def capitals(case):
+    """Where the names of a recipe have capitals, and whether they are used as declared."""
+    names, words = [], []
+    for line in case.text.splitlines():
+        key, _, value = line.partition("=")
+        if key in ("fluent", "action"):
+            names.append(value)
+        elif key not in ("horizon", "end"):
+            words += [word.removeprefix("-") for word in value.split(",") if word]
+    words = [word for word in words if language.lowered(word) != "false"]
+    if all(word in names for word in words):
+        return "as declared" if any(name != name.lower() for name in names) else "no capitals"
+    return "otherwise"
+
+
+def false_heads(case):
+    """How the word false is spelled where it heads a law."""
+    heads = [line.partition("=")[2] for line in case.text.splitlines()
+             if line.partition("=")[0] in ("static", "dynamic", "causes")]
+    words = {head for head in heads if language.lowered(head) == "false"}
+    return "none" if not words else "false" if words == {"false"} else "with capitals"
+
+
 def report(recipes, recipe_lines, tables, table_lines):
     for kind, cases, lines in (("recipes", recipes, recipe_lines), ("tables", tables, table_lines)):
         groups = [case.group for case in cases]
@@ -220,6 +244,10 @@ def report(recipes, recipe_lines, tables, table_lines):
             print("  laws: " + tally(map(writing, cases), ["long", "short", "mixed", "no laws"]))
             print("  listed of what was not done: "
                   + tally(map(listing, cases), ["none", "some", "all", "nothing undone"]))
+            print("  names used: "
+                  + tally(map(capitals, cases), ["no capitals", "as declared", "otherwise"]))
+            print("  false as a head: "
+                  + tally(map(false_heads, cases), ["none", "false", "with capitals"]))
 
 
 def compare(options):

@@ -25,6 +25,15 @@ class Description(NamedTuple):
     horizon: int
 
 
+# Bytes 65 to 90, the capitals A to Z, go to the letters a to z; no other sign is changed.
+LOWERING = {code: code + 32 for code in range(65, 91)}
+
+
+def lowered(word):
+    """The spelling that two spellings of one name have in common."""
+    return word.translate(LOWERING)
+
+
 class History(NamedTuple):
     states: Tuple[Tuple[int, ...], ...]  # as listed: any order, repeats kept
     acts: Tuple[Tuple[int, ...], ...]  # what is absent was not done
@@ -91,11 +100,43 @@ def mixed_spelling(rng):
     return spelling
 
 
-def recipe_text(description, history, spelling=written_out):
+# Letters take a word, a name or false, as it is used once and give it capitals or take them.
+
+
+def as_declared(word):
+    return word
+
+
+def some_capitals(rng, word):
+    """The word in another spelling: all small, a first capital, all capitals, any mix."""
+    way = rng.randrange(5)
+    if way < 3:
+        return [word.lower(), word.capitalize(), word.upper()][way]
+    return "".join(rng.choice((sign.lower(), sign.upper())) for sign in word)
+
+
+def mixed_letters(rng):
+    """Words are spelled anew by turns of chance, in some texts all or none."""
+    share = rng.choice([0.0, 0.5, 0.9, 1.0])
+
+    def letters(word):
+        return some_capitals(rng, word) if rng.random() < share else word
+    return letters
+
+
+def spelled_line(line, letters):
+    """A line with each name in its list, or the word false, in its own letters."""
+    key, _, value = line.partition("=")
+    items = [item[:1] + letters(item[1:]) if item.startswith("-") else letters(item)
+             for item in value.split(",")]
+    return key + "=" + ",".join(items)
+
+
+def recipe_text(description, history, spelling=written_out, letters=as_declared):
     """The description and the history as the product's reader takes them."""
-    lines = ["horizon=%d" % description.horizon]
-    lines += ["fluent=" + name for name in description.fluents]
-    lines += ["action=" + name for name in description.actions]
+    names = ["fluent=" + name for name in description.fluents]
+    names += ["action=" + name for name in description.actions]
+    lines = []
     for law in description.laws:
         lines += spelling(law_forms(description, law))
     lines.append("end=")
@@ -104,7 +145,8 @@ def recipe_text(description, history, spelling=written_out):
         if time < len(history.acts):
             lines.append("act=" + list_text(description, history.acts[time]))
     lines.append("end=")
-    return "\n".join(lines) + "\n"
+    lines = [spelled_line(line, letters) for line in lines]
+    return "\n".join(["horizon=%d" % description.horizon] + names + lines) + "\n"
 
 
 class RecipeLines:
@@ -112,7 +154,7 @@ class RecipeLines:
 
     def __init__(self, text):
         self.pairs = [line.split("=", 1) for line in text.splitlines() if line]
-        self.names = []
+        self.names = []  # lowered
 
     def next_key(self):
         return self.pairs[0][0] if self.pairs else ""
@@ -126,12 +168,12 @@ class RecipeLines:
         found = []
         while self.next_key() == key:
             found.append(self.take(key))
-        self.names += found
+        self.names += map(lowered, found)
         return tuple(found)
 
     def literal(self, word):
         negative = word.startswith("-")
-        return 2 * self.names.index(word[negative:]) + negative
+        return 2 * self.names.index(lowered(word[negative:])) + negative
 
     def take_list(self, key):
         value = self.take(key)
@@ -139,7 +181,7 @@ class RecipeLines:
 
     def take_head(self, key):
         word = self.take(key)
-        return None if word == "false" else self.literal(word)
+        return None if lowered(word) == "false" else self.literal(word)
 
     def take_law(self):
         key = self.next_key()

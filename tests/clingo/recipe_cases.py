@@ -1,13 +1,14 @@
 """Recipes drawn at random: descriptions of many shapes, histories that clingo
 finds for them, and histories got from those by small changes. Laws that have a
-short form are written short by chance, and act lines leave out by chance none,
-some or all of what was not done."""
+short form are written short by chance, act lines leave out by chance none, some
+or all of what was not done, and names are declared and used in any capitals."""
 
 import solver
 from cases import Case
-from language import (Description, History, Law, all_literals, coded_history, coded_program,
-                      complement, complete_only, history_literals, mixed_spelling, read_recipe,
-                      recipe_text, solver_program, written_out)
+from language import (Description, History, Law, all_literals, as_declared, coded_history,
+                      coded_program, complement, complete_only, history_literals, mixed_letters,
+                      mixed_spelling, read_recipe, recipe_text, some_capitals, solver_program,
+                      written_out)
 
 # Programs with at most so many answer sets are enumerated whole.
 ENUMERATED = 200
@@ -152,6 +153,17 @@ def random_description(rng):
     names = random_names(rng, fluents + actions)
     laws = random_laws(rng, fluents, actions)
     return Description(tuple(names[:fluents]), tuple(names[fluents:]), laws, horizon)
+
+
+def with_capitals(rng, description):
+    """The description with its names declared in some capitals, in most cases. As all names
+    are drawn in small letters, those that were different stay so."""
+    share = rng.choice([0.0, 0.5, 1.0])
+
+    def declared(names):
+        return tuple(some_capitals(rng, name) if rng.random() < share else name for name in names)
+    return description._replace(fluents=declared(description.fluents),
+                                actions=declared(description.actions))
 
 
 # ---------------------------------------------------------------- histories
@@ -300,19 +312,19 @@ def complete_sets(rng, description, program):
     return drawn, None
 
 
-def spelled_recipe(description, history, spelling):
+def spelled_recipe(description, history, spelling, letters):
     """The recipe's text, which must read back as the recipe."""
-    text = recipe_text(description, history, spelling)
+    text = recipe_text(description, history, spelling, letters)
     if read_recipe(text) != (description, history):
         raise RuntimeError("the text reads as another recipe:\n" + text)
     return text
 
 
 def recipe_cases(description, histories, groups, stated=None, found=None,
-                 new_spelling=lambda: written_out):
+                 new_spelling=lambda: written_out, new_letters=lambda: as_declared):
     """Cases of one description; `found` holds all its answer sets, or None.
 
-    `new_spelling` gives each case its own way to write laws.
+    `new_spelling` gives each case its own way to write laws, `new_letters` its own letters.
     """
     plain, counted = solver_program(description), coded_program(description)
     sets = [history_literals(description, history) for history in histories]
@@ -322,22 +334,23 @@ def recipe_cases(description, histories, groups, stated=None, found=None,
         answers = solver.are_answer_sets(plain, all_literals(description), sets)
     cases = []
     for place, history in enumerate(histories):
-        text = spelled_recipe(description, history, new_spelling())
+        text = spelled_recipe(description, history, new_spelling(), new_letters())
         cases.append(Case(text, groups[place], counted, coded_history(description, history),
                           answers[place], plain, stated[place] if stated else None))
     return cases
 
 
-def random_recipes(rng, log_rng, wanted):
-    """So many recipes; `log_rng` settles only what act lines leave out."""
+def random_recipes(rng, log_rng, letter_rng, wanted):
+    """So many recipes; `log_rng` settles only what act lines leave out, and `letter_rng` only
+    the capitals."""
     cases = []
     while len(cases) < wanted:
-        description = random_description(rng)
+        description = with_capitals(letter_rng, random_description(rng))
         passing, found = complete_sets(rng, description, solver_program(description))
         if not passing and rng.random() < 0.75:
             continue  # keeps descriptions without any passing history rarer
         histories, groups = draw_histories(rng, log_rng, description, passing,
                                            rng.randint(3, 7))
         cases += recipe_cases(description, histories, groups, None, found,
-                              lambda: mixed_spelling(rng))
+                              lambda: mixed_spelling(rng), lambda: mixed_letters(letter_rng))
     return cases[:wanted]
