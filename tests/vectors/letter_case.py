@@ -2,12 +2,13 @@
 value as the first byte of a name."""
 from recipes import CAPITALS, CAPITALS_RECIPE, FULL, PASSING, RECIPE, SHORT, SHORT_RECIPE, history, swapped
 
-KEYS = ("horizon", "fluent", "action", "static", "dynamic", "if", "after", "state", "act", "end", "default", "inertial", "causes",
-        "by", "nonexecutable")
+KEYS = ("horizon", "fluent", "action", "static", "dynamic", "if", "after", "state", "act", "end", "default", "inertial",
+        "causes", "by", "nonexecutable")
 
 # One law by each key; each use of a name is spelled as the name was declared.
 EVERY_KEY = ("horizon=1\nfluent=Ab\nfluent=c_0\naction=Go\nstatic=Ab\nif=Ab\ndynamic=c_0\nif=c_0\nafter=c_0\n"
-             "default=-Ab\ninertial=-c_0\ncauses=Ab\nby=Go\nnonexecutable=Go,Ab\nend=\n") + history("-Ab,-c_0", "Go", "Ab,-c_0")
+             "default=-Ab\ninertial=-c_0\ncauses=Ab\nby=Go\nnonexecutable=Go,Ab\nend=\n"
+             + history("-Ab,-c_0", "Go", "Ab,-c_0"))
 
 FALSE = {"capital": "False", "capitals": "FALSE", "all_but_one": "fALSE", "last": "falsE"}
 
@@ -36,8 +37,10 @@ def recipes():
                                             (line.split("=") for line in RECIPE.splitlines())),
         "capitals_short": "".join(f"{key}={value.capitalize()}\n" for key, value in
                                   (line.split("=") for line in SHORT_RECIPE.splitlines())),
-        "capitals_short_m2": SHORT.replace("fluent=flowed", "fluent=FLowed") + history("-Locked,-Flowed", "", "-LOCKED,FLOWED"),
-        "spellings_in_one_list": CAPITALS + history("-LOCKED,-locked,-Flowed,-flowed", "reflow,REFLOW", "FLOWED,-locked,flowed"),
+        "capitals_short_m2": swapped("fluent=flowed", "fluent=FLowed", SHORT)
+        + history("-Locked,-Flowed", "", "-LOCKED,FLOWED"),
+        "spellings_in_one_list": CAPITALS
+        + history("-LOCKED,-locked,-Flowed,-flowed", "reflow,REFLOW", "FLOWED,-locked,flowed"),
         "both_literals_spelled_apart": CAPITALS + history("-locked,-flowed", "reflow,-REFLOW", "-locked,flowed"),
         "action_left_out_with_capitals": CAPITALS + history("LOCKED,-flowed", "", "locked,-Flowed"),
     }

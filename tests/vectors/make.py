@@ -108,6 +108,7 @@ def damaged():
 
 def misspelt():
     """Damaged names, heads and lists, and which fault comes first."""
+    nothing = swapped("dynamic=false", "dynamic=nothing")
     return {
         "name_false": swapped("fluent=flowed", "fluent=false"),
         "name_twice": swapped("fluent=flowed", "fluent=locked"),
@@ -132,8 +133,8 @@ def misspelt():
         "six_before_the_seventh": still(1, 1, 0, "static=f0\nif=f0,f0,nothing,f0,f0,f0,f0\n"),
         "ninth_action_in_capitals": still(1, 1, 8).replace("end=\n", "action=X\nend=\n", 1),
         "ninth_action_no_name": still(1, 1, 8).replace("end=\n", "action=@\nend=\n", 1),
-        "bad_line_behind_a_name_in_capitals": swapped("dynamic=false", "dynamic=nothing", swapped("fluent=flowed", "fluent=Flowed")),
-        "first_of_two_bad_lines_decides": swapped("dynamic=false", "dynamic=nothing", swapped("fluent=flowed", "fluent=fl@wed")),
+        "bad_line_behind_a_name_in_capitals": swapped("fluent=flowed", "fluent=Flowed", nothing),
+        "first_of_two_bad_lines_decides": swapped("fluent=flowed", "fluent=fl@wed", nothing),
     }
 
 

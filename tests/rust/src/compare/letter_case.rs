@@ -306,12 +306,8 @@ impl Slip {
                 let pairs = text.split(|byte| *byte == b'\n').map(parts);
                 let values = pairs.filter(|(key, _)| USING.contains(key)).map(|(_, value)| value);
                 let items = values.flat_map(|value| value.split(|byte| *byte == b','));
-                let words = items.map(|item| item.strip_prefix(b"-").unwrap_or(item));
-                words
-                    .filter(|word| same_word(word, name))
-                    .last()
-                    .unwrap_or(name)
-                    .to_vec()
+                let mut words = items.map(|item| item.strip_prefix(b"-").unwrap_or(item));
+                words.rfind(|word| same_word(word, name)).unwrap_or(name).to_vec()
             }
             _ => name.clone(),
         }
@@ -356,7 +352,7 @@ impl Reader for Slip {
         // No text of a history declares names; a line that would is refused by its key.
         let lines: Vec<&[u8]> = text.split(|byte| *byte == b'\n').collect();
         let declares = |line: &&[u8]| [FLUENT, ACTION].contains(&self.key(parts(line).0));
-        let end = lines.iter().position(|line| declares(&line)).unwrap_or(lines.len());
+        let end = lines.iter().position(declares).unwrap_or(lines.len());
         let front = self.without_names(&all, &lines[..end].join(&b'\n'));
         let whole = match end < lines.len() {
             true => [vec![front], lines[end..].iter().map(|line| line.to_vec()).collect()].concat(),

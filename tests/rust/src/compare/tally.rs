@@ -167,6 +167,11 @@ impl Tally {
             out,
             "tables held against the definition: {yes} answer sets, {no} others"
         )?;
+        self.print_codes(out)
+    }
+
+    /// How many calls of each kind were made, and how often each code was answered.
+    fn print_codes(&self, out: &mut impl Write) -> io::Result<()> {
         for (call, name, _) in CALLS {
             writeln!(out, "{name}: {} calls", self.calls[call as usize])?;
             for (code, count) in self.codes[call as usize].iter().enumerate() {

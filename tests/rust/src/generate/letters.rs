@@ -44,9 +44,9 @@ pub fn with_capitals(random: &mut Random, text: Vec<u8>) -> Vec<u8> {
     let text = respelled(random, &text, Lines::Using, used);
     match random.below(25) {
         0 => edited(random, text, declare_again),
-        1 => edited(random, text, raise_key),
-        2 => edited(random, text, change_byte),
-        3 => edited(random, text, put_false),
+        1 => edited(random, text, |random, lines| raise_key(random, lines)),
+        2 => edited(random, text, |random, lines| change_byte(random, lines)),
+        3 => edited(random, text, |random, lines| put_false(random, lines)),
         _ => text,
     }
 }
@@ -150,7 +150,7 @@ fn declare_again(random: &mut Random, lines: &mut Vec<Vec<u8>>) {
 }
 
 /// A key gets a capital: its first letter, its last one, any, or all of them.
-fn raise_key(random: &mut Random, lines: &mut Vec<Vec<u8>>) {
+fn raise_key(random: &mut Random, lines: &mut [Vec<u8>]) {
     let at = pick_line(random, lines, &KEYS);
     let length = parts(&lines[at]).0.len();
     if length == 0 {
@@ -167,7 +167,7 @@ fn raise_key(random: &mut Random, lines: &mut Vec<Vec<u8>>) {
 
 /// A byte of a name is changed by 32, often one that is no letter, or gives way to one that looks like a letter to a
 /// careless reader.
-fn change_byte(random: &mut Random, lines: &mut Vec<Vec<u8>>) {
+fn change_byte(random: &mut Random, lines: &mut [Vec<u8>]) {
     let keys: &[&[u8]] = if random.chance(1, 2) { &DECLARING } else { &USING };
     let at = pick_line(random, lines, keys);
     let length = parts(&lines[at]).0.len() + 1;
@@ -189,7 +189,7 @@ fn change_byte(random: &mut Random, lines: &mut Vec<Vec<u8>>) {
 }
 
 /// The word false in some capitals, with a hyphen now and then, stands for a name or a literal.
-fn put_false(random: &mut Random, lines: &mut Vec<Vec<u8>>) {
+fn put_false(random: &mut Random, lines: &mut [Vec<u8>]) {
     let at = pick_line(random, lines, &[&DECLARING[..], &USING].concat());
     let (key, value) = parts(&lines[at]);
     let mut word = random.pick(&[&b"false"[..], b"false", b"false", b"-false"]).to_vec();
