@@ -1,6 +1,7 @@
 //! What is counted of capitals in texts, and what spelling names anew may change.
 
 use super::Difference;
+use crate::answer::Answer;
 use crate::calls::Calls;
 use crate::generate::damage::{parts, KEYS};
 use crate::generate::letters::{respelled, Lines, USING};
@@ -194,35 +195,53 @@ fn any_apart(bytes: &[u8], is_right: impl Fn(&[u8]) -> bool) -> bool {
     })
 }
 
-/// What a library says of a text: its printed output; the causal reading and the translation with its table.
-fn said(library: &impl Calls, text: &[u8]) -> (Vec<u8>, String) {
-    let mut out = vec![0; 400];
-    let length = library.report(text, &mut out);
-    out.truncate(length);
-    let mut table = vec![0; 2_000];
-    let written = library.translate(text, &mut table);
-    let causal = library.causal_reading(text);
-    (out, format!("{causal:?} {written:?} {table:?}"))
+/// What a library says of a text.
+#[derive(Clone, Debug, PartialEq, Eq)]
+struct Said {
+    printed: Vec<u8>,
+    causal: Answer,
+    written: Answer,
+    table: Vec<u16>,
+}
+
+/// Room for most tables; where it is too short, the answer still says how many words are needed.
+const ROOM: usize = 2_000;
+
+fn said(library: &impl Calls, text: &[u8]) -> Said {
+    // No output is over 400 bytes.
+    let mut printed = vec![0; 400];
+    let length = library.report(text, &mut printed);
+    printed.truncate(length);
+    let mut table = vec![0; ROOM];
+    Said {
+        printed,
+        causal: library.causal_reading(text),
+        written: library.translate(text, &mut table),
+        table,
+    }
 }
 
 /// Spells the names of a text anew, once in their uses and once where they are declared, and asks the library alone: the
 /// first changes nothing, the second no more than the shown name, which is then the one declared in its line.
 pub fn spelled_anew(library: &impl Calls, text: &[u8], random: &mut Random) -> Result<Vec<Capital>, Difference> {
-    let (printed, others) = said(library, text);
+    let before = said(library, text);
     let mut seen = Vec::new();
     for (lines, capital) in [
         (Lines::Using, Capital::UsesAnew),
         (Lines::Declaring, Capital::DeclarationsAnew),
     ] {
         let anew = respelled(random, text, lines, 4);
-        let wanted = shown_anew(&printed, text, &anew);
+        let wanted = Said {
+            printed: shown_anew(&before.printed, text, &anew),
+            ..before.clone()
+        };
         let given = said(library, &anew);
-        if given != (wanted.clone(), others.clone()) {
+        if given != wanted {
             return Err(Difference(format!(
                 "names spelled anew, {lines:?} lines\nwanted {}\nlibrary {}\nor the table or the causal reading differs\n\
                  text, with escapes:\n{}\nspelled anew:\n{}",
-                wanted.escape_ascii(),
-                given.0.escape_ascii(),
+                wanted.printed.escape_ascii(),
+                given.printed.escape_ascii(),
                 text.escape_ascii(),
                 anew.escape_ascii()
             )));
@@ -230,7 +249,7 @@ pub fn spelled_anew(library: &impl Calls, text: &[u8], random: &mut Random) -> R
         if anew != text {
             seen.push(capital);
         }
-        if wanted != printed {
+        if wanted != before {
             seen.push(Capital::ShownAnew);
         }
     }
