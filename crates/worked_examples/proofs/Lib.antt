@@ -4,9 +4,11 @@ pub mod Program11
 pub mod Transitions
 pub mod WorkedRecords
 pub mod WorkedCodes
+pub mod Spelled
 pub mod WorkedTexts
 pub mod WorkedShort
 pub mod WorkedLog
+pub mod WorkedCapitals
 pub mod WorkedFormat
 pub mod WorkedLong
 pub mod WorkedOutputs

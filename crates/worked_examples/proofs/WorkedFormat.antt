@@ -17,7 +17,7 @@ use Rattle.worked_examples.specs.Format.{readerExamples, lineExamples, h
 
 pub reader-examples : Each Holds readerExamples
 unfolding cut keyNumber firstLine isName literal items listOf horizonOf headOf lineStep described readHistory shownFluent shownAction
-reader-examples = (refl, (refl, (refl, (refl, (refl, (refl, (refl, (refl, (refl, (refl, (refl, (refl, (refl, (refl, (refl, (refl, (refl, (refl, (refl, (refl, (refl, (refl, (refl, (refl, (refl, (refl, (refl, (refl, (refl, (refl, (refl, (refl, (refl, (refl, (refl, (refl, (refl, (refl, (refl, (refl, (refl, (refl, (refl, (refl, (refl, (refl, (refl, (refl, tt))))))))))))))))))))))))))))))))))))))))))))))))
+reader-examples = (refl, (refl, (refl, (refl, (refl, (refl, (refl, (refl, (refl, (refl, (refl, (refl, (refl, (refl, (refl, (refl, (refl, (refl, (refl, (refl, (refl, (refl, (refl, (refl, (refl, (refl, (refl, (refl, (refl, (refl, (refl, (refl, (refl, (refl, (refl, (refl, (refl, (refl, (refl, (refl, (refl, (refl, (refl, (refl, (refl, (refl, (refl, tt)))))))))))))))))))))))))))))))))))))))))))))))
 
 pub line-examples : Each Holds lineExamples
 unfolding cut keyNumber firstLine isName literal items listOf horizonOf headOf lineStep described readHistory shownFluent shownAction

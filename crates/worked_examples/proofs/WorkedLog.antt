@@ -25,11 +25,12 @@ use Rattle.description_reader.specs.Descriptions.{described}
 use Rattle.history_reader.specs.Histories.{readHistory}
 use Rattle.written_form.specs.HistoryWriting.{valuesText}
 use Rattle.worked_examples.specs.Examples.{Holds}
+use Rattle.worked_examples.proofs.Spelled.{declared}
 use Rattle.worked_examples.specs.Log.{logExamples, callerExamples}
 
 pub log-examples : Each Holds logExamples
 unfolding cut keyNumber firstLine isName literal items listOf horizonOf headOf lineStep described readHistory valuesText
-log-examples = (refl, (refl, (refl, (refl, (refl, (refl, (refl, (refl, (refl, (refl, (refl, (refl, (refl, (refl, (refl, (refl, (refl, tt)))))))))))))))))
+log-examples = (refl, (refl, (refl, (refl, (refl, (refl, (refl, (refl, (refl, (refl, (refl, (refl, ((refl, declared), ((refl, declared), ((refl, declared), ((refl, declared), ((refl, declared), tt)))))))))))))))))
 
 pub caller-examples : Each Holds callerExamples
 unfolding engine.answer verdict rulesOf badRule setOf holdsTrue holdsFalse complement badRecord badHorizon translation translated.outcome history.checked causalVerdict causal.reading

@@ -17,11 +17,12 @@ use Rattle.translation.specs.Rules.{translation}
 use Rattle.written_form.specs.Writing.{descriptionText}
 use Rattle.worked_examples.specs.Examples.{Holds}
 use Rattle.worked_examples.specs.Short.{shortRecipeExamples, shortExamples}
+use Rattle.worked_examples.proofs.Spelled.{declared}
 use Rattle.worked_examples.proofs.WorkedTexts.{recipe-writable}
 
 pub short-recipe : Each Holds shortRecipeExamples
 unfolding cut keyNumber firstLine isName literal items listOf horizonOf headOf lineStep described readHistory shownFluent complement translation descriptionText
-short-recipe = (refl, (refl, (refl, (refl, ((refl, recipe-writable), tt)))))
+short-recipe = (refl, (refl, (refl, (refl, ((refl, recipe-writable, declared), tt)))))
 
 pub short-examples : Each Holds shortExamples
 unfolding cut keyNumber firstLine isName literal items listOf horizonOf headOf lineStep described

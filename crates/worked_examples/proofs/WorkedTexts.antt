@@ -20,6 +20,7 @@ use Rattle.description.specs.Examples.{recipeLaws}
 use Rattle.worked_examples.specs.Examples.{Holds}
 use Rattle.worked_examples.specs.Recipe.{recipeFluents, recipeActions}
 use Rattle.worked_examples.specs.Worked.{textExamples}
+use Rattle.worked_examples.proofs.Spelled.{declared}
 
 pub recipe-writable : Writable 6 1 recipeFluents recipeActions recipeLaws
 unfolding isName
@@ -39,4 +40,4 @@ recipe-writable = record {
 
 pub text-examples : Each Holds textExamples
 unfolding cut keyNumber firstLine isName literal items listOf horizonOf headOf lineStep described readHistory shownFluent shownAction descriptionText valuesText
-text-examples = (refl, (refl, (refl, (refl, (refl, (refl, (refl, (refl, (refl, (refl, (refl, (refl, (refl, ((refl, recipe-writable), (refl, tt)))))))))))))))
+text-examples = (refl, (refl, (refl, (refl, (refl, (refl, (refl, (refl, (refl, (refl, (refl, (refl, (refl, ((refl, recipe-writable, declared), ((refl, declared), tt)))))))))))))))

@@ -21,10 +21,11 @@ use Rattle.description_reader.specs.Descriptions.{Taken, described}
 use Rattle.description_reader.specs.Answers.{recordOf, lawsLeft}
 use Rattle.shown_names.specs.Shown.{shownFluent, shownAction}
 use Rattle.history_reader.specs.Histories.{readHistory}
-use Rattle.written_form.specs.Writing.{Form, descriptionText}
+use Rattle.written_form.specs.Writing.{Form, Spelling, descriptionText}
 use Rattle.history_values.specs.Values.{ActionsValued}
 use Rattle.written_form.specs.HistoryWriting.{valuesText}
 use Rattle.written_form.specs.Writable.{Writable}
+use Rattle.written_form.specs.Respelling.{InCapitals}
 use Rattle.report.specs.Output.{room, output}
 use Rattle.answer_codes.specs.Codes.{coded, pair}
 use Rattle.worked_examples.specs.Program11.{allValues, passing}
@@ -62,10 +63,11 @@ pub data Example : Type 0 where
   readsHistory : List ℕ → List ℕ → ℕ → Reply (List ℕ) → Example
   -- a description text and the words of its table
   textTable : List ℕ → List ℕ → Example
-  -- the text written for a horizon, fluents, actions, the form of each law, and laws, which meet the conditions of the round trip
-  writes : ℕ → List (List ℕ) → List (List ℕ) → (ℕ → Form) → List Law → List ℕ → Example
-  -- a history written by a choice of the false actions that are listed
-  writesHistory : ℕ → List (List ℕ) → List (List ℕ) → (ℕ → ℕ → Bool) → List ℕ → List ℕ → Example
+  -- the text written for a horizon, fluents, actions, the form of each law, the spelling of each use, and laws, which meet the
+  -- conditions of the round trip
+  writes : ℕ → List (List ℕ) → List (List ℕ) → (ℕ → Form) → Spelling → List Law → List ℕ → Example
+  -- a history written by the spelling of each use and by a choice of the false actions that are listed
+  writesHistory : ℕ → List (List ℕ) → List (List ℕ) → Spelling → (ℕ → ℕ → Bool) → List ℕ → List ℕ → Example
   -- values of n fluents, m actions and a horizon of which some action has none
   lacksAction : ℕ → ℕ → ℕ → List ℕ → Example
   -- an input of the program and what it prints
@@ -90,8 +92,9 @@ Holds (pathsAre n m T ls vss expected) = paths n m T ls vss ≡ expected
 Holds (reads lent text reply) = described lent text ≡ reply
 Holds (readsHistory description text values reply) = readHistory description text values ≡ reply
 Holds (textTable text ws) = translated.tableFor (recordOf (described 64 text)) (lawsLeft (described 64 text) []) ≡ ws
-Holds (writes T fluents actions forms ls text) = (descriptionText T fluents actions forms ls ≡ text) × Writable (length ls) T fluents actions ls
-Holds (writesHistory T fluents actions listed vs text) = valuesText T fluents actions listed vs ≡ text
+Holds (writes T fluents actions forms spell ls text) =
+    (descriptionText T fluents actions forms spell ls ≡ text) × Writable (length ls) T fluents actions ls × InCapitals spell
+Holds (writesHistory T fluents actions spell listed vs text) = (valuesText T fluents actions spell listed vs ≡ text) × InCapitals spell
 Holds (lacksAction n m T vs) = ActionsValued n m T vs → ⊥
 Holds (prints input bytes) = output input ≡ bytes
 Holds (showsFluent text f name) = shownFluent text f ≡ name

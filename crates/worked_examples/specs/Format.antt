@@ -50,7 +50,7 @@ readerExamples =
     ∷ readsHistory doorText doorHistoryText 3 (answered (1 ∷ 1 ∷ 2 ∷ []))
     -- the description reader stops behind its end line and says where
     ∷ reads 64 (smallText ++ (10 ∷ 120 ∷ [])) (answered (read (smallDraft []) (10 ∷ 120 ∷ []) 4))
-    -- names have up to 16 bytes; `false` is none, nor is what begins with a digit or an underscore, and small letters, digits and underscores are all
+    -- names have up to 16 bytes; `false` is none, nor is what begins with a digit or an underscore, and letters, digits and underscores are all
     -- fluent=b.. of 16 bytes, then of 17
     ∷ reads 64 (withFluent (replicate 16 98)) (answered (read (tinyDraft 1 (replicate 16 98)) [] 3))
     ∷ reads 64 (withFluent (replicate 17 98)) (refused 4 2)
@@ -64,8 +64,6 @@ readerExamples =
     ∷ reads 64 (withFluent (49 ∷ 97 ∷ [])) (refused 4 2)
     -- fluent=_a
     ∷ reads 64 (withFluent (95 ∷ 97 ∷ [])) (refused 4 2)
-    -- fluent=A
-    ∷ reads 64 (withFluent (65 ∷ [])) (refused 4 2)
     -- fluent=
     ∷ reads 64 (withFluent []) (refused 4 2)
     -- fluent=a=b

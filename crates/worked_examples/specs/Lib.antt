@@ -8,4 +8,5 @@ pub mod Format
 pub mod Recipe
 pub mod Short
 pub mod Log
+pub mod Capitals
 pub mod Worked

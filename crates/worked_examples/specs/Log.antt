@@ -9,6 +9,7 @@ use Rattle.search.specs.Replies.{refused, answered}
 use Rattle.answer_sets.specs.Verdicts.{clash}
 use Rattle.description.specs.Examples.{recipe, recipeLaws}
 use Rattle.history.specs.Checks.{missing, judged}
+use Rattle.written_form.specs.Writing.{asDeclared}
 use Rattle.written_form.specs.HistoryWriting.{everyAction, onlyDone}
 use Rattle.worked_examples.specs.Texts.{recipeText, historyText, m2Text}
 use Rattle.worked_examples.specs.Outputs.{recipeCounts, m2Output, m3Output, m4Output}
@@ -168,11 +169,11 @@ logExamples =
     -- act= / state=c / act=
     ∷ readsHistory twoText (twoHistory [] (99 ∷ []) []) 7 (refused 6 3)
     -- the values are written again with every action, with those done alone, and with a choice by time
-    ∷ writesHistory 1 recipeFluents recipeActions everyAction (2 ∷ 2 ∷ 2 ∷ 2 ∷ 1 ∷ []) m2Text
-    ∷ writesHistory 1 recipeFluents recipeActions onlyDone (2 ∷ 2 ∷ 2 ∷ 2 ∷ 1 ∷ []) m2Log
-    ∷ writesHistory 1 recipeFluents recipeActions onlyDone (2 ∷ 2 ∷ 1 ∷ 2 ∷ 1 ∷ []) historyText
-    ∷ writesHistory 2 ((97 ∷ []) ∷ []) ((99 ∷ []) ∷ (100 ∷ []) ∷ []) onlyDone (1 ∷ 1 ∷ 2 ∷ 1 ∷ 3 ∷ 2 ∷ 1 ∷ []) (twoHistory (99 ∷ []) (97 ∷ []) (99 ∷ 44 ∷ 45 ∷ 99 ∷ []))
-    ∷ writesHistory 2 ((97 ∷ []) ∷ []) ((99 ∷ []) ∷ (100 ∷ []) ∷ []) secondTime (1 ∷ 2 ∷ 1 ∷ 1 ∷ 2 ∷ 2 ∷ 1 ∷ []) (twoHistory (100 ∷ []) (97 ∷ []) (45 ∷ 99 ∷ 44 ∷ 45 ∷ 100 ∷ []))
+    ∷ writesHistory 1 recipeFluents recipeActions asDeclared everyAction (2 ∷ 2 ∷ 2 ∷ 2 ∷ 1 ∷ []) m2Text
+    ∷ writesHistory 1 recipeFluents recipeActions asDeclared onlyDone (2 ∷ 2 ∷ 2 ∷ 2 ∷ 1 ∷ []) m2Log
+    ∷ writesHistory 1 recipeFluents recipeActions asDeclared onlyDone (2 ∷ 2 ∷ 1 ∷ 2 ∷ 1 ∷ []) historyText
+    ∷ writesHistory 2 ((97 ∷ []) ∷ []) ((99 ∷ []) ∷ (100 ∷ []) ∷ []) asDeclared onlyDone (1 ∷ 1 ∷ 2 ∷ 1 ∷ 3 ∷ 2 ∷ 1 ∷ []) (twoHistory (99 ∷ []) (97 ∷ []) (99 ∷ 44 ∷ 45 ∷ 99 ∷ []))
+    ∷ writesHistory 2 ((97 ∷ []) ∷ []) ((99 ∷ []) ∷ (100 ∷ []) ∷ []) asDeclared secondTime (1 ∷ 2 ∷ 1 ∷ 1 ∷ 2 ∷ 2 ∷ 1 ∷ []) (twoHistory (100 ∷ []) (97 ∷ []) (45 ∷ 99 ∷ 44 ∷ 45 ∷ 100 ∷ []))
     ∷ []
 
 -- a caller's own values are not filled: an action of value 0 is missing

@@ -12,7 +12,7 @@ use Rattle.description.specs.declared.Kind.the-variants.{Static, Dynamic}
 use Rattle.description.specs.Laws.{lawOf}
 use Rattle.description.specs.Examples.{recipeLaws}
 use Rattle.description_reader.specs.Descriptions.{read}
-use Rattle.written_form.specs.Writing.{Form, asCauses, asNonexecutable, asInertial}
+use Rattle.written_form.specs.Writing.{Form, asCauses, asNonexecutable, asInertial, asDeclared}
 use Rattle.worked_examples.specs.Tables.{recipeTable}
 use Rattle.worked_examples.specs.Texts.{historyText, m1Text, tinyLines, smallNames, endText, lawText, copies}
 use Rattle.worked_examples.specs.Outputs.{passedOutput, m1Output}
@@ -59,7 +59,7 @@ shortRecipeExamples =
     ∷ textTable shortRecipeText recipeTable
     ∷ readsHistory shortRecipeText historyText 5 (answered (2 ∷ 2 ∷ 1 ∷ 2 ∷ 1 ∷ []))
     ∷ showsFluent shortRecipeText 1 (102 ∷ 108 ∷ 111 ∷ 119 ∷ 101 ∷ 100 ∷ [])
-    ∷ writes 1 recipeFluents recipeActions shortForms recipeLaws shortRecipeText
+    ∷ writes 1 recipeFluents recipeActions shortForms asDeclared recipeLaws shortRecipeText
     ∷ []
 
 -- and the same output, M1's too

@@ -1,6 +1,6 @@
 -- Worked examples of all layers, gathered as one list: the full recipe and M1 to M10 with all that 01 prints of them, the
 -- horizons and tables at the limits, the transitions of 000's two examples, and the rules of the text format, of the short
--- laws and of the command log one by one.
+-- laws, of the command log and of letter case one by one.
 -- Assumes nothing.
 use mathlib.Core.List.{List, [], _∷_, _++_, map}
 use Prim.Native.Nat.{ℕ}
@@ -16,7 +16,7 @@ use Rattle.translation.specs.Translated.{written}
 use Rattle.history.specs.Checks.{Finding, missing, judged}
 use Rattle.causal.specs.Verdicts.{Causal, contradicted, uncaused, path}
 use Rattle.description_reader.specs.Descriptions.{read}
-use Rattle.written_form.specs.Writing.{inFull}
+use Rattle.written_form.specs.Writing.{inFull, asDeclared}
 use Rattle.written_form.specs.HistoryWriting.{everyAction}
 use Rattle.worked_examples.specs.Tables.{recipeTable, doorTable1, doorTable2, waterTable1, waterTable2}
 use Rattle.worked_examples.specs.Program11.{program11, answerSets11}
@@ -30,6 +30,7 @@ use Rattle.worked_examples.specs.Examples.{prints, showsFluent, showsAct
 use Rattle.worked_examples.specs.Recipe.{recipeFluents, recipeActions, recipeDraft}
 use Rattle.worked_examples.specs.Short.{shortRecipeExamples, shortOutputExamples, shortExamples}
 use Rattle.worked_examples.specs.Log.{logExamples, callerExamples, logOutputs}
+use Rattle.worked_examples.specs.Capitals.{styleExamples, styleOutputs, capitalExamples}
 use Rattle.worked_examples.specs.Format.{readerExamples, lineExamples, historyExamples, longExamples}
 
 -- a state, an action and a resulting state as values, 1 true and 2 false
@@ -138,8 +139,8 @@ textExamples =
     ∷ showsAction recipeText 0 (114 ∷ 101 ∷ 102 ∷ 108 ∷ 111 ∷ 119 ∷ [])
     ∷ showsAction recipeText 1 []
     -- the same texts are written for what was read
-    ∷ writes 1 recipeFluents recipeActions (λ i. inFull) recipeLaws recipeText
-    ∷ writesHistory 1 recipeFluents recipeActions everyAction (2 ∷ 2 ∷ 1 ∷ 2 ∷ 1 ∷ []) historyText
+    ∷ writes 1 recipeFluents recipeActions (λ i. inFull) asDeclared recipeLaws recipeText
+    ∷ writesHistory 1 recipeFluents recipeActions asDeclared everyAction (2 ∷ 2 ∷ 1 ∷ 2 ∷ 1 ∷ []) historyText
     ∷ []
 
 -- and what is printed
@@ -200,6 +201,9 @@ worked =
     ∷ logExamples
     ∷ callerExamples
     ∷ logOutputs
+    ∷ styleExamples
+    ∷ styleOutputs
+    ∷ capitalExamples
     ∷ longOutputs
     ∷ codeExamples
     ∷ [])
