@@ -197,19 +197,19 @@ abbrev pub styleOutputs : List Example
 styleOutputs =
     prints (styleText ++ styleHistory) passedOutput
     ∷ prints (styleText ++ styleM2)
-        (
-        recipeCounts
-        -- answer=unfounded
-        ++ (97 ∷ 110 ∷ 115 ∷ 119 ∷ 101 ∷ 114 ∷ 61 ∷ 117 ∷ 110 ∷ 102 ∷ 111 ∷ 117 ∷ 110 ∷ 100 ∷ 101 ∷ 100 ∷ 10 ∷ [])
-        -- at=8
-        ++ (97 ∷ 116 ∷ 61 ∷ 56 ∷ 10 ∷ [])
-        -- causal=uncaused
-        ++ (99 ∷ 97 ∷ 117 ∷ 115 ∷ 97 ∷ 108 ∷ 61 ∷ 117 ∷ 110 ∷ 99 ∷ 97 ∷ 117 ∷ 115 ∷ 101 ∷ 100 ∷ 10 ∷ [])
-        -- time=1
-        ++ (116 ∷ 105 ∷ 109 ∷ 101 ∷ 61 ∷ 49 ∷ 10 ∷ [])
-        -- item=Flowed
-        ++ (105 ∷ 116 ∷ 101 ∷ 109 ∷ 61 ∷ 70 ∷ 108 ∷ 111 ∷ 119 ∷ 101 ∷ 100 ∷ 10 ∷ [])
-        )
+    (
+    recipeCounts
+    -- answer=unfounded
+    ++ (97 ∷ 110 ∷ 115 ∷ 119 ∷ 101 ∷ 114 ∷ 61 ∷ 117 ∷ 110 ∷ 102 ∷ 111 ∷ 117 ∷ 110 ∷ 100 ∷ 101 ∷ 100 ∷ 10 ∷ [])
+    -- at=8
+    ++ (97 ∷ 116 ∷ 61 ∷ 56 ∷ 10 ∷ [])
+    -- causal=uncaused
+    ++ (99 ∷ 97 ∷ 117 ∷ 115 ∷ 97 ∷ 108 ∷ 61 ∷ 117 ∷ 110 ∷ 99 ∷ 97 ∷ 117 ∷ 115 ∷ 101 ∷ 100 ∷ 10 ∷ [])
+    -- time=1
+    ++ (116 ∷ 105 ∷ 109 ∷ 101 ∷ 61 ∷ 49 ∷ 10 ∷ [])
+    -- item=Flowed
+    ++ (105 ∷ 116 ∷ 101 ∷ 109 ∷ 61 ∷ 70 ∷ 108 ∷ 111 ∷ 119 ∷ 101 ∷ 100 ∷ 10 ∷ [])
+    )
     ∷ []
 
 -- the rules of names, heads, literals and keys, one by one
