@@ -1,5 +1,4 @@
-"""Stored inputs for capitals in names: spellings that are one name, False, keys, shown names, bytes 32 apart, and each byte
-value as the first byte of a name."""
+"""Stored inputs for capitals in names: spellings that are one name, False, keys, shown names and bytes 32 apart."""
 from recipes import CAPITALS, CAPITALS_RECIPE, FULL, PASSING, RECIPE, SHORT, SHORT_RECIPE, history, swapped
 
 KEYS = ("horizon", "fluent", "action", "static", "dynamic", "if", "after", "state", "act", "end", "default", "inertial",
@@ -159,14 +158,8 @@ def spelled():
     return cases
 
 
-def first_bytes():
-    """Each byte value as the first byte of a name that is then used as pq."""
-    start, end = b"horizon=1\nfluent=", b"q\nend=\n" + history("pq", "", "pq").encode()
-    return {f"first_byte_{value}": start + bytes([value]) + end for value in range(256)}
-
-
 def cases():
-    parts = [recipes(), places(), declarations(), false_words(), keys(), shown(), spelled(), first_bytes()]
+    parts = [recipes(), places(), declarations(), false_words(), keys(), shown(), spelled()]
     made = {name: text for part in parts for name, text in part.items()}
     assert len(made) == sum(map(len, parts)), "a name is given twice"
     return made

@@ -141,10 +141,10 @@ def misspelt():
 EVERY_BYTE = "horizon=1\nfluent=pq\nend=\n" + history("pq", "", "pq")
 
 
-def with_byte(value):
-    """The input with a byte value as the second byte of the name declared in it."""
+def with_byte(place, value):
+    """The input with a byte value at a place: 17 and 18 are the first and the second byte of the name declared in it."""
     raw = bytearray(EVERY_BYTE.encode())
-    raw[18] = value
+    raw[place] = value
     return bytes(raw)
 
 
@@ -164,10 +164,11 @@ def main():
         (data / name).write_bytes(raw)
         outputs.append(name.encode() + b"\n" + say(raw))
     (data / "every_byte").write_text(EVERY_BYTE)
-    outputs += [b"byte %d\n" % value + say(with_byte(value)) for value in range(256)]
+    for value in range(256):
+        outputs += [b"%sbyte %d\n" % (which, value) + say(with_byte(place, value)) for which, place in ((b"first ", 17), (b"", 18))]
     (CRATE / "args").write_text("".join(f"{name}\n" for name in cases))
     (CRATE / "stdout").write_bytes(b"".join(outputs))
-    print(f"{len(cases)} inputs, and one with each byte value")
+    print(f"{len(cases)} inputs, and one with each byte value in two places")
 
 
 if __name__ == "__main__":

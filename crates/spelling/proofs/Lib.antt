@@ -1,4 +1,4 @@
--- What the functions' proofs share, what the crates above use, and small worked examples.
+-- What the functions' proofs share, and what the crates above use.
 pub mod Comparing
 pub mod Naming
 pub mod Lowering

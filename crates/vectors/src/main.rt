@@ -1,5 +1,5 @@
 // Runs stored inputs through the report: for each argument, the name of a file, it writes the name and what the report says
-// of the file's bytes; then the same for the file every_byte with each byte value in one place of a declared name.
+// of the file's bytes; then the same for the file every_byte with each byte value as the first and as the second byte of its name.
 use libc::STDOUT_FILENO;
 
 // What the report says of an input.
@@ -35,21 +35,35 @@ fn run_arguments() {
     }
 }
 
-// An input with one byte replaced: place 18 is the second byte of the first name that every_byte declares.
-fn run_byte(value: u8) {
-    let mut input = io::buffer();
-    let got = files::read_file(b"every_byte", &mut input);
-    input[18] = value;
+// What the report says of an input in which one byte has the value.
+fn write_byte(input: &[u8], got: usize, value: u8) {
     io::write_all(STDOUT_FILENO, b"byte ");
     io::print_decimal(STDOUT_FILENO, value as u64);
     io::write_all(STDOUT_FILENO, b"\n");
-    let count = report::held(got, &input);
+    let count = report::held(got, input);
     write_report(&input[..count]);
+}
+
+// The file every_byte with one byte replaced: places 17 and 18 are the first and the second byte of the name that it declares.
+fn run_first_byte(value: u8) {
+    let mut input = io::buffer();
+    let got = files::read_file(b"every_byte", &mut input);
+    input[17] = value;
+    io::write_all(STDOUT_FILENO, b"first ");
+    write_byte(&input, got, value);
+}
+
+fn run_second_byte(value: u8) {
+    let mut input = io::buffer();
+    let got = files::read_file(b"every_byte", &mut input);
+    input[18] = value;
+    write_byte(&input, got, value);
 }
 
 fn main() {
     run_arguments();
     for value in 0..256usize {
-        run_byte((value % 256) as u8);
+        run_first_byte((value % 256) as u8);
+        run_second_byte((value % 256) as u8);
     }
 }

@@ -14,17 +14,17 @@ either-alone false = refl
 returns : tie.Need-returns
 returns c =
     let b = c .before .args .b in
-    rw (le-leb 65 b (omega arith), lt-leb b 90 (omega arith), le-leb 97 b (c .if1 .taken))
+    rw (le-leb 65 b (omega arith), lt-leb b 90 (omega arith), le-leb 97 b (omega arith))
 
 returns-2 : tie.Need-returns-2
 returns-2 c =
     let b = c .before .before .args .b in
-    rw (le-leb 65 b (c .if2 .taken), lt-leb 97 b (c .before .if1 .left)) (either-alone _)
+    rw (le-leb 65 b (omega arith), lt-leb 97 b (omega arith)) (either-alone _)
 
 returns-3 : tie.Need-returns-3
 returns-3 c =
     let b = c .before .before .args .b in
-    rw (lt-leb 65 b (c .if2 .left), lt-leb 97 b (c .before .if1 .left))
+    rw (lt-leb 65 b (omega arith), lt-leb 97 b (omega arith))
 
 pub is-letter-spec : {M : Type 1} → statement M
 is-letter-spec = tie.close (tie.spec returns returns-2 returns-3)

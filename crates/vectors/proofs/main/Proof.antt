@@ -18,11 +18,17 @@ run-arguments-requires c κs = search needs
 loop-holds : tie.Need-loop-holds Inv-loop μ-loop
 loop-holds c = search needs
 
-cast-run-byte : tie.Need-cast-run-byte Inv-loop μ-loop
-cast-run-byte c = search needs
+cast-run-first-byte : tie.Need-cast-run-first-byte Inv-loop μ-loop
+cast-run-first-byte c = search needs
 
-run-byte-requires : tie.Need-run-byte-requires Inv-loop μ-loop
-run-byte-requires c κs = search needs
+run-first-byte-requires : tie.Need-run-first-byte-requires Inv-loop μ-loop
+run-first-byte-requires c κs = search needs
+
+cast-run-second-byte : tie.Need-cast-run-second-byte Inv-loop μ-loop
+cast-run-second-byte c = search needs
+
+run-second-byte-requires : tie.Need-run-second-byte-requires Inv-loop μ-loop
+run-second-byte-requires c κs = search needs
 
 add-value : tie.Need-add-value Inv-loop μ-loop
 add-value c = search needs
@@ -44,8 +50,10 @@ main-spec =
     μ-loop
     run-arguments-requires
     loop-holds
-    cast-run-byte
-    run-byte-requires
+    cast-run-first-byte
+    run-first-byte-requires
+    cast-run-second-byte
+    run-second-byte-requires
     add-value
     loop-less
     loop-again

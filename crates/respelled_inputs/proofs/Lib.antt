@@ -1,0 +1,2 @@
+-- Why the program prints the same.
+pub mod PrintedAlike
