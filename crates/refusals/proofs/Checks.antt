@@ -8,25 +8,24 @@ use mathlib.Core.Option.{Option, none, some}
 use Prim.Native.Nat.{ℕ, _-_, _≤_}
 use native.Mathlib.Omega.{arith}
 use borrow.Author.Tests.{eq-eqb, eqb-true}
-use lib.Dec.{eqb, ltb}
+use lib.Dec.{eqb}
 use lib.ListN.{length}
 use Rattle.search.specs.Search.{Each, first}
 use Rattle.search.specs.Replies.{Reply, refused, answered, orElse, orRefuse}
-use Rattle.logic_programs.specs.Literals.{setOf, badValue}
-use Rattle.answer_sets.specs.Verdicts.{Verdict, verdict}
-use Rattle.logic_programs.specs.Words.{rulesOf, badRule}
+use Rattle.logic_programs.specs.Literals.{badValue}
+use Rattle.answer_sets.specs.Verdicts.{Verdict}
+use Rattle.logic_programs.specs.Words.{badRule}
 use Rattle.answer_sets.specs.Answers.{tooManyValues, answer}
 use Rattle.description.specs.declared.Law.{Law}
 use Rattle.description.specs.declared.Description.{Description}
-use Rattle.description.specs.Atoms.{atomCount}
 use Rattle.description.specs.Laws.{lawsOf}
 use Rattle.description.specs.Acceptance.{badRecord, badHorizon}
 use Rattle.description.proofs.Laws.{accepted-counts, accepted-few, accepted-horizon, accepted-law}
 use Rattle.translation.specs.Translated.{Written, written, rulesFor, tableFor, tooShort, outcome}
-use Rattle.translation.proofs.Outcomes.{accepted-written, written-accepted}
+use Rattle.translation.proofs.Outcomes.{accepted-written}
 use Rattle.translation_bounds.proofs.Bounds.{at-most-30912}
 use Rattle.translation_bounds.proofs.Tables.{engine-judges}
-use Rattle.history.specs.Checks.{Finding, missing, judged, ofEngine, finding, afterTranslation, checked}
+use Rattle.history.specs.Checks.{Finding, missing, judged, finding, afterTranslation, checked}
 use Rattle.causal.specs.Verdicts.{causalVerdict}
 use Rattle.causal.specs.Readings.{notOneValue, reading}
 use Rattle.description_reader.specs.LineSteps.{Draft}

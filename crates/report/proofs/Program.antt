@@ -2,10 +2,10 @@
 -- Assumes nothing.
 use mathlib.Core.Path.{_≡_, refl, sym, ap, _∙_}
 use mathlib.Core.Logic.{_↔_, _⊎_, inl, inr, ⊎-elim}
-use mathlib.Core.Bool.{Bool, true, false, _||_}
-use mathlib.Core.List.{List, [], _∷_, _++_}
+use mathlib.Core.Bool.{true}
+use mathlib.Core.List.{List, [], _∷_}
 use mathlib.Core.Option.{Option, none, some}
-use Prim.Native.Nat.{ℕ, zero, suc, _*_, _+_, _/_, _%_, _≤_, _<_}
+use Prim.Native.Nat.{ℕ, _*_, _+_, _/_, _%_, _≤_, _<_}
 use native.Mathlib.Omega.{arith}
 use borrow.Author.Tests.{eq-eqb, eqb-true, le-ltb}
 use lib.Dec.{eqb, ltb}
@@ -32,11 +32,11 @@ use Rattle.description_reader.specs.Descriptions.{Taken, read, described, descr
 use Rattle.history_reader.specs.Histories.{atoms}
 use Rattle.inputs.specs.Inputs.{recordedIn}
 use Rattle.inputs.proofs.Known.{recorded-refused}
-use Rattle.refusals.specs.Refusals.{among, RefusedBy}
+use Rattle.refusals.specs.Refusals.{among}
 use Rattle.refusals.proofs.Readers.{input-by}
 use Rattle.refusals.proofs.Checks.{fits, in-time, small-table, is-written, values-count, values-small, values-acted}
-use Rattle.output_lines.specs.Printed.{refusal, causalAfter}
-use Rattle.report.specs.Output.{room, afterOutcome, afterInput, output}
+use Rattle.output_lines.specs.Printed.{causalAfter}
+use Rattle.report.specs.Output.{room, afterOutcome, output}
 use Rattle.report.specs.Program.{Refused, causalShown, missingOrClash, Judged, Program}
 
 -- what is shown of a reading behind an answer

@@ -4,9 +4,6 @@ use mathlib.Core.Path.{refl}
 use mathlib.Core.List.{[], _∷_}
 use native.Mathlib.Omega.{arith}
 use Rattle.search.specs.Search.{Each}
-use Rattle.description.specs.declared.Head.the-variants.{False}
-use Rattle.description.specs.declared.Kind.the-variants.{Dynamic}
-use Rattle.description.specs.Laws.{lawOf}
 use Rattle.spelling.specs.Spelling.{isName}
 use Rattle.text.specs.Bytes.{cut}
 use Rattle.text.specs.Lines.{keyNumber, firstLine}
@@ -23,30 +20,28 @@ use Rattle.written_form.specs.Writing.{descriptionText}
 use Rattle.written_form.specs.HistoryWriting.{valuesText}
 use Rattle.written_form.specs.Writable.{Writable}
 use Rattle.worked_examples.specs.Examples.{Holds}
-use Rattle.worked_examples.specs.Capitals.{styleExamples, capitalExamples}
+use Rattle.worked_examples.specs.Capitals.{twoLaws, styleExamples, capitalExamples}
 use Rattle.worked_examples.proofs.Spelled.{capitals-any}
-use Rattle.worked_examples.proofs.WorkedTexts.{recipe-writable}
 
--- one fluent, A, and one law
-one-writable : Writable 1 1 ((65 ∷ []) ∷ []) [] (lawOf Dynamic False [] [] ∷ [])
+two-writable : Writable 2 1 ((97 ∷ []) ∷ []) ((99 ∷ []) ∷ []) twoLaws
 unfolding isName
-one-writable = record {
+two-writable = record {
   horizon-from = omega arith;
   horizon-to = omega arith;
   some-fluent = omega arith;
   few-fluents = omega arith;
   few-actions = omega arith;
-  are-names = (refl, tt);
-  distinct = (tt, tt);
+  are-names = (refl, (refl, tt));
+  distinct = ((refl, tt), (tt, tt));
   few-laws = omega arith;
   held-laws = omega arith;
-  laws-fit = (refl, tt);
-  laws-tidy = (refl, tt);
+  laws-fit = (refl, (refl, tt));
+  laws-tidy = (refl, (refl, tt));
 }
 
 pub style-examples : Each Holds styleExamples
 unfolding cut keyNumber firstLine isName literal items listOf horizonOf headOf lineStep described readHistory shownFluent shownAction complement translation descriptionText valuesText
-style-examples = (refl, (refl, (refl, (refl, (refl, (refl, (refl, (refl, (refl, ((refl, recipe-writable, capitals-any 1 2 1), ((refl, capitals-any 0 1 0), ((refl, one-writable, capitals-any 0 0 0), tt))))))))))))
+style-examples = (refl, (refl, (refl, (refl, (refl, (refl, (refl, (refl, (refl, ((refl, two-writable, capitals-any 1 2 1), ((refl, two-writable, capitals-any 0 0 0), ((refl, capitals-any 0 1 0), tt))))))))))))
 
 pub capital-examples : Each Holds capitalExamples
 unfolding cut keyNumber firstLine isName literal items listOf horizonOf headOf lineStep described readHistory

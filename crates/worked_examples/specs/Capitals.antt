@@ -9,17 +9,17 @@ use lib.ListN.{replicate}
 use Rattle.search.specs.Replies.{refused, answered}
 use Rattle.description.specs.declared.Head.the-variants.{Lit, False}
 use Rattle.description.specs.declared.Kind.the-variants.{Static, Dynamic}
+use Rattle.description.specs.declared.Law.{Law}
 use Rattle.description.specs.Laws.{lawOf}
 use Rattle.description.specs.Examples.{recipeLaws}
 use Rattle.spelling.specs.Letters.{isSmall}
 use Rattle.description_reader.specs.Descriptions.{read}
-use Rattle.written_form.specs.Writing.{inFull, asCauses, Spelling, asDeclared}
+use Rattle.written_form.specs.Writing.{inFull, asCauses, Spelling}
 use Rattle.written_form.specs.HistoryWriting.{everyAction}
 use Rattle.worked_examples.specs.Tables.{recipeTable}
-use Rattle.worked_examples.specs.Texts.{recipeText, historyText, smallNames, tinyLines, endText, withFluent, withHead, withIf}
+use Rattle.worked_examples.specs.Texts.{recipeText, historyText, smallNames, tinyLines, withFluent, withHead, withIf}
 use Rattle.worked_examples.specs.Outputs.{recipeCounts, passedOutput}
 use Rattle.worked_examples.specs.Format.{smallDraft, tinyDraft}
-use Rattle.worked_examples.specs.Recipe.{recipeFluents, recipeActions}
 use Rattle.worked_examples.specs.Examples.{Example, reads, readsHistory, textTable, writes, writesHistory, prints, showsFluent, showsAction}
 
 -- 01's full recipe as a style sheet spells it, each use in a mix of its own
@@ -109,67 +109,9 @@ raised b = cond (isSmall b) (b - 32) b
 abbrev pub capitalsAt : ℕ → ℕ → ℕ → Spelling
 capitalsAt law line place i j k name = cond (eqb i law && eqb j line && eqb k place) (map raised name) name
 
--- the full recipe with its law 1 after reflow and LOCKED
-abbrev pub oneUseText : List ℕ
-oneUseText =
-    -- horizon=1
-    (104 ∷ 111 ∷ 114 ∷ 105 ∷ 122 ∷ 111 ∷ 110 ∷ 61 ∷ 49 ∷ 10 ∷ [])
-    -- fluent=locked
-    ++ (102 ∷ 108 ∷ 117 ∷ 101 ∷ 110 ∷ 116 ∷ 61 ∷ 108 ∷ 111 ∷ 99 ∷ 107 ∷ 101 ∷ 100 ∷ 10 ∷ [])
-    -- fluent=flowed
-    ++ (102 ∷ 108 ∷ 117 ∷ 101 ∷ 110 ∷ 116 ∷ 61 ∷ 102 ∷ 108 ∷ 111 ∷ 119 ∷ 101 ∷ 100 ∷ 10 ∷ [])
-    -- action=reflow
-    ++ (97 ∷ 99 ∷ 116 ∷ 105 ∷ 111 ∷ 110 ∷ 61 ∷ 114 ∷ 101 ∷ 102 ∷ 108 ∷ 111 ∷ 119 ∷ 10 ∷ [])
-    -- dynamic=flowed
-    ++ (100 ∷ 121 ∷ 110 ∷ 97 ∷ 109 ∷ 105 ∷ 99 ∷ 61 ∷ 102 ∷ 108 ∷ 111 ∷ 119 ∷ 101 ∷ 100 ∷ 10 ∷ [])
-    -- if=
-    ++ (105 ∷ 102 ∷ 61 ∷ 10 ∷ [])
-    -- after=reflow
-    ++ (97 ∷ 102 ∷ 116 ∷ 101 ∷ 114 ∷ 61 ∷ 114 ∷ 101 ∷ 102 ∷ 108 ∷ 111 ∷ 119 ∷ 10 ∷ [])
-    -- dynamic=false
-    ++ (100 ∷ 121 ∷ 110 ∷ 97 ∷ 109 ∷ 105 ∷ 99 ∷ 61 ∷ 102 ∷ 97 ∷ 108 ∷ 115 ∷ 101 ∷ 10 ∷ [])
-    -- if=
-    ++ (105 ∷ 102 ∷ 61 ∷ 10 ∷ [])
-    -- after=reflow,LOCKED
-    ++ (97 ∷ 102 ∷ 116 ∷ 101 ∷ 114 ∷ 61 ∷ 114 ∷ 101 ∷ 102 ∷ 108 ∷ 111 ∷ 119 ∷ 44 ∷ 76 ∷ 79 ∷ 67 ∷ 75 ∷ 69 ∷ 68 ∷ 10 ∷ [])
-    -- dynamic=locked
-    ++ (100 ∷ 121 ∷ 110 ∷ 97 ∷ 109 ∷ 105 ∷ 99 ∷ 61 ∷ 108 ∷ 111 ∷ 99 ∷ 107 ∷ 101 ∷ 100 ∷ 10 ∷ [])
-    -- if=locked
-    ++ (105 ∷ 102 ∷ 61 ∷ 108 ∷ 111 ∷ 99 ∷ 107 ∷ 101 ∷ 100 ∷ 10 ∷ [])
-    -- after=locked
-    ++ (97 ∷ 102 ∷ 116 ∷ 101 ∷ 114 ∷ 61 ∷ 108 ∷ 111 ∷ 99 ∷ 107 ∷ 101 ∷ 100 ∷ 10 ∷ [])
-    -- dynamic=-locked
-    ++ (100 ∷ 121 ∷ 110 ∷ 97 ∷ 109 ∷ 105 ∷ 99 ∷ 61 ∷ 45 ∷ 108 ∷ 111 ∷ 99 ∷ 107 ∷ 101 ∷ 100 ∷ 10 ∷ [])
-    -- if=-locked
-    ++ (105 ∷ 102 ∷ 61 ∷ 45 ∷ 108 ∷ 111 ∷ 99 ∷ 107 ∷ 101 ∷ 100 ∷ 10 ∷ [])
-    -- after=-locked
-    ++ (97 ∷ 102 ∷ 116 ∷ 101 ∷ 114 ∷ 61 ∷ 45 ∷ 108 ∷ 111 ∷ 99 ∷ 107 ∷ 101 ∷ 100 ∷ 10 ∷ [])
-    -- dynamic=flowed
-    ++ (100 ∷ 121 ∷ 110 ∷ 97 ∷ 109 ∷ 105 ∷ 99 ∷ 61 ∷ 102 ∷ 108 ∷ 111 ∷ 119 ∷ 101 ∷ 100 ∷ 10 ∷ [])
-    -- if=flowed
-    ++ (105 ∷ 102 ∷ 61 ∷ 102 ∷ 108 ∷ 111 ∷ 119 ∷ 101 ∷ 100 ∷ 10 ∷ [])
-    -- after=flowed
-    ++ (97 ∷ 102 ∷ 116 ∷ 101 ∷ 114 ∷ 61 ∷ 102 ∷ 108 ∷ 111 ∷ 119 ∷ 101 ∷ 100 ∷ 10 ∷ [])
-    -- dynamic=-flowed
-    ++ (100 ∷ 121 ∷ 110 ∷ 97 ∷ 109 ∷ 105 ∷ 99 ∷ 61 ∷ 45 ∷ 102 ∷ 108 ∷ 111 ∷ 119 ∷ 101 ∷ 100 ∷ 10 ∷ [])
-    -- if=-flowed
-    ++ (105 ∷ 102 ∷ 61 ∷ 45 ∷ 102 ∷ 108 ∷ 111 ∷ 119 ∷ 101 ∷ 100 ∷ 10 ∷ [])
-    -- after=-flowed
-    ++ (97 ∷ 102 ∷ 116 ∷ 101 ∷ 114 ∷ 61 ∷ 45 ∷ 102 ∷ 108 ∷ 111 ∷ 119 ∷ 101 ∷ 100 ∷ 10 ∷ [])
-    -- end=
-    ++ (101 ∷ 110 ∷ 100 ∷ 61 ∷ 10 ∷ [])
-
--- and its history with REFLOW done
-abbrev pub oneActText : List ℕ
-oneActText =
-    -- state=-locked,-flowed
-    (115 ∷ 116 ∷ 97 ∷ 116 ∷ 101 ∷ 61 ∷ 45 ∷ 108 ∷ 111 ∷ 99 ∷ 107 ∷ 101 ∷ 100 ∷ 44 ∷ 45 ∷ 102 ∷ 108 ∷ 111 ∷ 119 ∷ 101 ∷ 100 ∷ 10 ∷ [])
-    -- act=REFLOW
-    ++ (97 ∷ 99 ∷ 116 ∷ 61 ∷ 82 ∷ 69 ∷ 70 ∷ 76 ∷ 79 ∷ 87 ∷ 10 ∷ [])
-    -- state=-locked,flowed
-    ++ (115 ∷ 116 ∷ 97 ∷ 116 ∷ 101 ∷ 61 ∷ 45 ∷ 108 ∷ 111 ∷ 99 ∷ 107 ∷ 101 ∷ 100 ∷ 44 ∷ 102 ∷ 108 ∷ 111 ∷ 119 ∷ 101 ∷ 100 ∷ 10 ∷ [])
-    -- end=
-    ++ (101 ∷ 110 ∷ 100 ∷ 61 ∷ 10 ∷ [])
+-- of a fluent a and an action c: false after c and a, and a after c and a
+abbrev pub twoLaws : List Law
+twoLaws = lawOf Dynamic False [] (2 ∷ 0 ∷ []) ∷ lawOf Dynamic (Lit 0) [] (2 ∷ 0 ∷ []) ∷ []
 
 -- the same record, table and values as in small letters, the names as they were declared, and texts written by a spelling for each use
 abbrev pub styleExamples : List Example
@@ -185,11 +127,13 @@ styleExamples =
     ∷ showsFluent styleText 0 (76 ∷ 111 ∷ 99 ∷ 107 ∷ 101 ∷ 100 ∷ [])
     ∷ showsFluent styleText 1 (70 ∷ 108 ∷ 111 ∷ 119 ∷ 101 ∷ 100 ∷ [])
     ∷ showsAction styleText 0 (82 ∷ 101 ∷ 102 ∷ 108 ∷ 111 ∷ 119 ∷ [])
-    -- one use of one law, and one act, in capitals
-    ∷ writes 1 recipeFluents recipeActions (λ i. inFull) (capitalsAt 1 2 1) recipeLaws oneUseText
-    ∷ writesHistory 1 recipeFluents recipeActions (capitalsAt 0 1 0) everyAction (2 ∷ 2 ∷ 1 ∷ 2 ∷ 1 ∷ []) oneActText
-    -- FALSE as a head that is used
-    ∷ writes 1 ((65 ∷ []) ∷ []) [] (λ i. asCauses) (capitalsAt 0 0 0) (lawOf Dynamic False [] [] ∷ []) (104 ∷ 111 ∷ 114 ∷ 105 ∷ 122 ∷ 111 ∷ 110 ∷ 61 ∷ 49 ∷ 10 ∷ 102 ∷ 108 ∷ 117 ∷ 101 ∷ 110 ∷ 116 ∷ 61 ∷ 65 ∷ 10 ∷ 99 ∷ 97 ∷ 117 ∷ 115 ∷ 101 ∷ 115 ∷ 61 ∷ 70 ∷ 65 ∷ 76 ∷ 83 ∷ 69 ∷ 10 ∷ 98 ∷ 121 ∷ 61 ∷ 10 ∷ 101 ∷ 110 ∷ 100 ∷ 61 ∷ 10 ∷ [])
+    -- one use of one law, FALSE, and one act in capitals
+    -- dynamic=false / if= / after=c,a / dynamic=a / if= / after=c,A / end=
+    ∷ writes 1 ((97 ∷ []) ∷ []) ((99 ∷ []) ∷ []) (λ i. inFull) (capitalsAt 1 2 1) twoLaws (smallNames ++ (100 ∷ 121 ∷ 110 ∷ 97 ∷ 109 ∷ 105 ∷ 99 ∷ 61 ∷ 102 ∷ 97 ∷ 108 ∷ 115 ∷ 101 ∷ 10 ∷ 105 ∷ 102 ∷ 61 ∷ 10 ∷ 97 ∷ 102 ∷ 116 ∷ 101 ∷ 114 ∷ 61 ∷ 99 ∷ 44 ∷ 97 ∷ 10 ∷ 100 ∷ 121 ∷ 110 ∷ 97 ∷ 109 ∷ 105 ∷ 99 ∷ 61 ∷ 97 ∷ 10 ∷ 105 ∷ 102 ∷ 61 ∷ 10 ∷ 97 ∷ 102 ∷ 116 ∷ 101 ∷ 114 ∷ 61 ∷ 99 ∷ 44 ∷ 65 ∷ 10 ∷ 101 ∷ 110 ∷ 100 ∷ 61 ∷ 10 ∷ []))
+    -- causes=FALSE / by=c,a / causes=a / by=c,a / end=
+    ∷ writes 1 ((97 ∷ []) ∷ []) ((99 ∷ []) ∷ []) (λ i. asCauses) (capitalsAt 0 0 0) twoLaws (smallNames ++ (99 ∷ 97 ∷ 117 ∷ 115 ∷ 101 ∷ 115 ∷ 61 ∷ 70 ∷ 65 ∷ 76 ∷ 83 ∷ 69 ∷ 10 ∷ 98 ∷ 121 ∷ 61 ∷ 99 ∷ 44 ∷ 97 ∷ 10 ∷ 99 ∷ 97 ∷ 117 ∷ 115 ∷ 101 ∷ 115 ∷ 61 ∷ 97 ∷ 10 ∷ 98 ∷ 121 ∷ 61 ∷ 99 ∷ 44 ∷ 97 ∷ 10 ∷ 101 ∷ 110 ∷ 100 ∷ 61 ∷ 10 ∷ []))
+    -- state=a / act=C / state=a / end=
+    ∷ writesHistory 1 ((97 ∷ []) ∷ []) ((99 ∷ []) ∷ []) (capitalsAt 0 1 0) everyAction (1 ∷ 1 ∷ 1 ∷ []) (115 ∷ 116 ∷ 97 ∷ 116 ∷ 101 ∷ 61 ∷ 97 ∷ 10 ∷ 97 ∷ 99 ∷ 116 ∷ 61 ∷ 67 ∷ 10 ∷ 115 ∷ 116 ∷ 97 ∷ 116 ∷ 101 ∷ 61 ∷ 97 ∷ 10 ∷ 101 ∷ 110 ∷ 100 ∷ 61 ∷ 10 ∷ [])
     ∷ []
 
 -- what is printed: as for the full recipe, and M2's fault with the name as it was declared
