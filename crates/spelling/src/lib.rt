@@ -1,6 +1,7 @@
 // How names are spelled: which bytes they may have, which runs of bytes are names, and which of them are the same name.
 ghost use mathlib.Core.Path.{_≡_};
 ghost use mathlib.Core.List.{map};
+ghost use lib.Dec.{eqb};
 ghost use Rattle.search.specs.Search.{all};
 ghost use Rattle.spelling.specs.Letters.{isLetter, isDigit, isNameByte, lowered, same};
 ghost use Rattle.spelling.specs.Spelling.{falseBytes, sameName, isName};
@@ -34,6 +35,18 @@ fn compared(b: u8, lower: bool) -> u8
     b
 }
 
+// Whether two bytes are the same, as they are or after lowering. Most are the same as they are, so that is asked first.
+fn same_byte(x: u8, y: u8, lower: bool) -> bool
+    ensures { λ r. ⌜ r ≡ eqb (compared lower x) (compared lower y) ⌝ }
+{
+    if x == y {
+        return true;
+    }
+    let a = compared(x, lower);
+    let b = compared(y, lower);
+    a == b
+}
+
 // Whether two runs have the same bytes, as they are or after lowering.
 pub fn same(a: &[u8], b: &[u8], lower: bool) -> bool
     ensures { λ r. ⌜ r ≡ same (map (compared lower) (now (a .entry))) (map (compared lower) (now (b .entry))) ⌝ }
@@ -43,9 +56,7 @@ pub fn same(a: &[u8], b: &[u8], lower: bool) -> bool
         if b.len() <= i {
             return false;
         }
-        let x = compared(a[i], lower);
-        let y = compared(b[i], lower);
-        if x != y {
+        if !same_byte(a[i], b[i], lower) {
             return false;
         }
         i += 1;

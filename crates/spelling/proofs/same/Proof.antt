@@ -5,8 +5,7 @@ use mathlib.Core.Path.{_≡_, refl, sym, _∙_}
 use mathlib.Core.Bool.{_&&_}
 use mathlib.Core.List.{map}
 use Prim.Native.Nat.{_≤_, _-_, _+_}
-use borrow.Author.Tests.{eq-eqb, ne-eqb}
-use lib.Dec.{eqb}
+use borrow.Author.Tests.{not-true, not-false}
 use lib.ListN.{length, drop}
 use Rattle.spelling.specs.Letters.{same}
 use Rattle.spelling.specs.Internal.{compared}
@@ -30,34 +29,30 @@ returns c =
     let a = h .before .before .before .args in
     sym (same-short (compared (a .lower)) (a .a .now) (a .b .now) (h .loop .i) (c .before .loop-test .taken) (c .if1 .taken)) ∙ h .loop .inv .2
 
-shared-slice-read-compared : tie.Need-shared-slice-read-compared Inv-loop μ-loop
-shared-slice-read-compared c = omega arith
+shared-slice-read-same-byte : tie.Need-shared-slice-read-same-byte Inv-loop μ-loop
+shared-slice-read-same-byte c = omega arith
 
-compared-requires : tie.Need-compared-requires Inv-loop μ-loop
-compared-requires c κs = tt
+shared-slice-read-same-byte-2 : tie.Need-shared-slice-read-same-byte-2 Inv-loop μ-loop
+shared-slice-read-same-byte-2 c = omega arith
 
-shared-slice-read-compared-2 : tie.Need-shared-slice-read-compared-2 Inv-loop μ-loop
-shared-slice-read-compared-2 c = omega arith
+same-byte-requires : tie.Need-same-byte-requires Inv-loop μ-loop
+same-byte-requires c κs = tt
 
-compared-requires-2 : tie.Need-compared-requires-2 Inv-loop μ-loop
-compared-requires-2 c κs = tt
-
--- the two bytes as they were compared
-step : (c : tie.After-compared2 Inv-loop μ-loop) → let h = c .before .before .before .before .before .before in
+-- what is left of the runs, by the two bytes as they were compared
+step : (c : tie.After-same-byte Inv-loop μ-loop) → let h = c .before .before .before .before .before in
     let a = h .before .before .before .args in
     let f = compared (a .lower) in
     same (map f (drop (h .loop .i) (a .a .now))) (map f (drop (h .loop .i) (a .b .now)))
-    ≡ (eqb (c .before .before .compared .result) (c .compared2 .result) && same (map f (drop (h .loop .i + 1) (a .a .now))) (map f (drop (h .loop .i + 1) (a .b .now))))
+    ≡ (c .same-byte .result && same (map f (drop (h .loop .i + 1) (a .a .now))) (map f (drop (h .loop .i + 1) (a .b .now))))
 step c =
-    let h = c .before .before .before .before .before .before in
+    let h = c .before .before .before .before .before in
     let a = h .before .before .before .args in
-    rw (c .before .before .compared .ensures, c .compared2 .ensures)
-    (same-step (compared (a .lower)) (a .a .now) (a .b .now) (h .loop .i) (omega arith) (omega arith))
+    rw (c .same-byte .ensures) (same-step (compared (a .lower)) (a .a .now) (a .b .now) (h .loop .i) (omega arith) (omega arith))
 
 returns-2 : tie.Need-returns-2 Inv-loop μ-loop
 returns-2 c =
-    let h = c .before .before .before .before .before .before .before in
-    sym (rw (ne-eqb _ _ (c .if2 .taken)) at (step (c .before))) ∙ h .loop .inv .2
+    let h = c .before .before .before .before .before .before in
+    sym (rw (not-true (c .before .same-byte .result) (c .if2 .taken)) at (step (c .before))) ∙ h .loop .inv .2
 
 add-i : tie.Need-add-i Inv-loop μ-loop
 add-i c = omega arith
@@ -67,8 +62,8 @@ loop-less c = omega arith
 
 loop-again : tie.Need-loop-again Inv-loop μ-loop
 loop-again c =
-    let h = c .before .before .before .before .before .before .before in
-    (omega arith, omega arith, sym (rw (eq-eqb _ _ (c .if2 .left)) at (step (c .before))) ∙ h .loop .inv .2)
+    let h = c .before .before .before .before .before .before in
+    (omega arith, omega arith, sym (rw (not-false (c .before .same-byte .result) (c .if2 .left)) at (step (c .before))) ∙ h .loop .inv .2)
 
 returns-3 : tie.Need-returns-3 Inv-loop μ-loop
 returns-3 c =
@@ -84,10 +79,9 @@ same-spec =
     μ-loop
     loop-holds
     returns
-    shared-slice-read-compared
-    compared-requires
-    shared-slice-read-compared-2
-    compared-requires-2
+    shared-slice-read-same-byte
+    shared-slice-read-same-byte-2
+    same-byte-requires
     returns-2
     add-i
     loop-less
