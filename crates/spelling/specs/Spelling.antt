@@ -9,8 +9,11 @@ use Rattle.search.specs.Search.{all}
 use Rattle.spelling.specs.Letters.{isLetter, isNameByte, lowered, same}
 
 -- two names are the same if they agree after lowering (02, §3)
+abbrev pub loweredName : List ℕ → List ℕ
+loweredName bs = map lowered bs
+
 abbrev pub sameName : List ℕ → List ℕ → Bool
-sameName xs ys = same (map lowered xs) (map lowered ys)
+sameName xs ys = same (loweredName xs) (loweredName ys)
 
 abbrev pub falseBytes : List ℕ
 falseBytes = 102 ∷ 97 ∷ 108 ∷ 115 ∷ 101 ∷ []
