@@ -1,4 +1,4 @@
--- A rule table's words and its rules: decoding in steps, decoding the words of rules, and what an accepted table has.
+-- A rule table's words and its rules: decoding the words of rules, and what an accepted table has.
 -- Assumes nothing.
 use mathlib.Core.Path.{_≡_, refl, sym, ap, _∙_}
 use mathlib.Core.Logic.{_≢_, inr}
@@ -14,32 +14,10 @@ use Rattle.search.specs.Search.{Each}
 use Rattle.logic_programs.specs.Rules.{Head, lit, falsum, Rule}
 use Rattle.logic_programs.specs.Words.{headWord, ruleWords, words, headOf, ruleSize, ruleAt, rulesIn, rulesOf, headFits, ruleFits, badRuleIn, badRule}
 use Rattle.search.proofs.Tests.{true-of-not, and-iff, or-iff, each-map, each-append}
-use Rattle.rule_tables.proofs.Fitting.{afterRule, fewer, badRuleFrom, badRuleFrom-cons, badRuleFrom-nil, badRule-from, ruleFits-iff}
+use Rattle.rule_tables.proofs.Fitting.{afterRule, badRuleFrom, badRuleFrom-cons, badRuleFrom-nil, badRule-from, ruleFits-iff}
+use Rattle.rule_tables.proofs.Walking.{rulesOf-nil, rulesOf-cons}
 use Rattle.answer_sets.proofs.Least.{HeadBelow, HeadsBelow}
 use borrow.Author.Tests.{ltb-true, lt-ltb, ne-eqb}
-
--- Any fuel is enough that is not less than the words
-
-rulesIn-same : (k j : ℕ) (ws : List ℕ) → length ws ≤ k → length ws ≤ j → rulesIn k ws ≡ rulesIn j ws
-rulesIn-same zero zero ws h g = refl
-rulesIn-same zero (suc j) [] h g = refl
-rulesIn-same zero (suc j) (w ∷ ws) h g = absurd (omega arith)
-rulesIn-same (suc k) zero [] h g = refl
-rulesIn-same (suc k) zero (w ∷ ws) h g = absurd (omega arith)
-rulesIn-same (suc k) (suc j) [] h g = refl
-rulesIn-same (suc k) (suc j) (w ∷ ws) h g =
-    ap {B = List Rule} (λ rs. ruleAt (w ∷ ws) ∷ rs) (rulesIn-same k j (afterRule (w ∷ ws)) (fewer w ws k h) (fewer w ws j g))
-
-pub rulesIn-enough : (k : ℕ) (ws : List ℕ) → length ws ≤ k → rulesIn k ws ≡ rulesIn (length ws) ws
-rulesIn-enough k ws h = rulesIn-same k (length ws) ws h (omega arith)
-
-pub rulesOf-nil : rulesOf [] ≡ []
-unfolding rulesOf
-rulesOf-nil = refl
-
-pub rulesOf-cons : (w : ℕ) (ws : List ℕ) → rulesOf (w ∷ ws) ≡ ruleAt (w ∷ ws) ∷ rulesOf (drop (ruleSize (w ∷ ws)) (w ∷ ws))
-unfolding rulesOf
-rulesOf-cons w ws = ap {B = List Rule} (λ rs. ruleAt (w ∷ ws) ∷ rs) (rulesIn-enough (length ws) (afterRule (w ∷ ws)) (fewer w ws (length ws) (omega arith)))
 
 -- The words of rules decode to the rules
 

@@ -1,4 +1,4 @@
--- The rule at the front of a run of words: what the parts that the code takes of it are, and what is left behind it.
+-- One round of derivation, rule by rule.
 -- Assumes nothing.
 use mathlib.Core.Path.{_≡_, refl, sym, _∙_, ap}
 use mathlib.Core.Bool.{Bool, true, false, cond, not, _&&_, _||_, and-false, false≢true}
@@ -18,60 +18,10 @@ use Rattle.logic_programs.specs.Rules.{Rule, lit, falsum}
 use Rattle.rule_tables.specs.Bodies.{marked, applies, frontApplies, frontDerives}
 use Rattle.answer_sets.specs.Verdicts.{round, headIs}
 use Rattle.logic_programs.specs.Words.{ruleSize, ruleAt, ruleFits, headFits, headOf, rulesOf, badRule}
-use Rattle.answer_sets.specs.Internal.{Sound}
+use Rattle.rule_tables.specs.Internal.{Sound}
 use Rattle.search.proofs.Stored.{getD-set}
-use Rattle.rule_tables.proofs.Fitting.{badRuleFrom, badRule-from, ruleFits-iff}
-use Rattle.rule_tables.proofs.Fronts.{whole-derives, bad-front}
-use Rattle.answer_sets.proofs.Decoding.{rulesOf-nil, rulesOf-cons}
-
--- a table of rules that is not at its end
-pub rules-front : (ws : List ℕ) → 0 < length ws → rulesOf ws ≡ ruleAt ws ∷ rulesOf (drop (ruleSize ws) ws)
-rules-front [] h = absurd (omega arith)
-rules-front (w ∷ ws) h = rulesOf-cons w ws
-
-pub rules-end : (ws : List ℕ) → length ws ≤ 0 → rulesOf ws ≡ []
-rules-end [] h = rulesOf-nil
-rules-end (w ∷ ws) h = absurd (omega arith)
-
--- the rule at the front of sound words, and the words behind it
-pub accepted-sound : (n : ℕ) (ws : List ℕ) → n ≤ 1024 → badRule n ws ≡ none → Sound ws
-unfolding badRuleFrom
-accepted-sound n ws few e = record { atoms = n; few = few; before = 0; at = 0; fits = sym (badRule-from n ws) ∙ e }
-
-module _ (ws : List ℕ) (h : 0 < length ws) (s : Sound ws) where
-  -- the test of the rule at the front passed
-  tested : (ruleFits (s .atoms) ws ≡ true) × (badRuleFrom (s .atoms) (suc (s .before)) (s .at + ruleSize ws) (drop (ruleSize ws) ws) ≡ none)
-  unfolding badRuleFrom
-  tested = passed (ltb (s .before) 4096) (ruleFits (s .atoms) ws) refl (sym (bad-front (s .atoms) (s .before) (s .at) ws h) ∙ s .fits)
-    where
-      passed : (a b : Bool) → b ≡ ruleFits (s .atoms) ws → {next : Option ℕ} → cond (a && b) next (some (s .at)) ≡ none → (ruleFits (s .atoms) ws ≡ true) × (next ≡ none)
-      passed true true q e = (sym q, e)
-      passed true false q e = absurd (let z : _≡_ {A = ℕ} 0 1 = cc in omega arith)
-      passed false b q e = absurd (let z : _≡_ {A = ℕ} 0 1 = cc in omega arith)
-
-  fit : (ruleSize ws ≤ length ws) × (headFits (s .atoms) (getD ws 0 0) ≡ true)
-  fit = let f = ruleFits-iff (s .atoms) ws .0 (tested .0) in (f .0, f .1)
-
-  pub sound-size : ruleSize ws ≤ length ws
-  sound-size = fit .0
-
-  pub sound-head : (getD ws 0 0 ≡ 65535 → ⊥) → getD ws 0 0 < 2048
-  sound-head literal = ⊎-elim (λ e. absurd (literal (eqb-true _ _ e))) (λ e. omega (arith, ltb-true (getD ws 0 0) (2 * s .atoms) e, s .few)) (or-iff _ _ .0 (fit .1))
-
-  pub sound-rest : Sound (drop (ruleSize ws) ws)
-  unfolding badRuleFrom
-  sound-rest = record { atoms = s .atoms; few = s .few; before = suc (s .before); at = s .at + ruleSize ws; fits = tested .1 }
-
--- the same, for a search of any first rule
-module _ (p : Rule → Bool) (k : ℕ) (ws : List ℕ) {R : Option ℕ} where
-  pub rule-stop : 0 < length ws → first p k (rulesOf ws) ≡ R → p (ruleAt ws) ≡ true → some k ≡ R
-  rule-stop h inv e = rw (rules-front ws h, e) at inv
-
-  pub rule-go : 0 < length ws → first p k (rulesOf ws) ≡ R → p (ruleAt ws) ≡ false → first p (k + 1) (rulesOf (drop (ruleSize ws) ws)) ≡ R
-  rule-go h inv e = rw add-one (rw (rules-front ws h, e) at inv)
-
-  pub rule-end : length ws ≤ 0 → first p k (rulesOf ws) ≡ R → none ≡ R
-  rule-end h inv = rw (rules-end ws h) at inv
+use Rattle.rule_tables.proofs.Fronts.{whole-derives}
+use Rattle.rule_tables.proofs.Walking.{rules-front, sound-size, sound-head}
 
 -- the rule at the front applies and has a literal as its head
 abbrev pub derives : Lits → Lits → List ℕ → Bool

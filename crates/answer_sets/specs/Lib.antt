@@ -3,4 +3,3 @@ pub mod Verdicts
 pub mod Answers
 pub mod Demand2
 pub mod Examples
-pub mod Internal

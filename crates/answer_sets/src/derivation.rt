@@ -8,7 +8,7 @@ ghost use Rattle.answer_sets.specs.Verdicts.{rounds};
 ghost use Rattle.answer_sets.specs.Verdicts.{round as roundOf};
 ghost use Rattle.logic_programs.specs.Words.{rulesOf, badRule};
 ghost use Rattle.rule_tables.specs.Bodies.{marked};
-ghost use Rattle.answer_sets.specs.Internal.{Sound};
+ghost use Rattle.rule_tables.specs.Internal.{Sound};
 
 // The literal heads whose bodies hold: negated parts are looked up in x, plain parts in the old marks.
 fn round(table: &[u16], x: [bool; 2048], old: [bool; 2048]) -> [bool; 2048]

@@ -16,7 +16,7 @@ ghost use Rattle.answer_sets.specs.Verdicts.{verdict, bothValues, isBrok
 ghost use Rattle.logic_programs.specs.Words.{rulesOf, badRule, ruleAt, ruleSize};
 ghost use Rattle.answer_sets.specs.Answers.{replyOf};
 ghost use Rattle.rule_tables.specs.Bodies.{marked};
-ghost use Rattle.answer_sets.specs.Internal.{Sound};
+ghost use Rattle.rule_tables.specs.Internal.{Sound};
 
 // Whether an atom has both values.
 fn both_values(x: &[bool], atom: usize) -> bool

@@ -17,7 +17,7 @@ use Rattle.search.specs.Search.{Each, first}
 use Rattle.search.specs.Replies.{Reply, refused, answered}
 use Rattle.search.proofs.Tests.{each-map}
 use Rattle.search.proofs.Lists.{none-iff}
-use Rattle.logic_programs.specs.Literals.{setOf}
+use Rattle.logic_programs.specs.Literals.{OneValue, setOf}
 use Rattle.logic_programs.specs.AnswerSets.{AnswerSet}
 use Rattle.answer_sets.specs.Verdicts.{Verdict, passes}
 use Rattle.logic_programs.specs.Words.{rulesOf}
@@ -40,7 +40,7 @@ use Rattle.history.specs.Checks as history
 use Rattle.causal.specs.declared.Reading.{Reading}
 use Rattle.causal.specs.Verdicts.{path, causalVerdict}
 use Rattle.causal.specs.Readings as causal
-use Rattle.correctness.specs.Demand3.{OneValue, Complete, PathOf, FourReadings, Demand3}
+use Rattle.correctness.specs.Demand3.{Complete, PathOf, FourReadings, Demand3}
 use Rattle.correctness.specs.Promises.{TranslatesExactly, PassesExactly, PathExactly}
 use Rattle.correctness.proofs.Reading.{causal-iff}
 use Rattle.correctness.proofs.Translated.{answer-set-iff-path}

@@ -1,5 +1,4 @@
 -- The theorems that need several layers.
-pub mod Supported
 pub mod Explained
 pub mod Reading
 pub mod Values

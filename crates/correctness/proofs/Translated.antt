@@ -14,12 +14,12 @@ use borrow.Author.Tests.{ltb-true, ltb-false, eq-eqb}
 use Rattle.search.specs.Search.{Each}
 use Rattle.search.proofs.Tests.{true-or-false, not-both, each-map, each-map₂}
 use Rattle.search.proofs.Lists.{each-iff-given, each-mapped}
-use Rattle.logic_programs.specs.Literals.{Lits, setOf}
+use Rattle.logic_programs.specs.Literals.{OneValue, Lits, setOf}
 use Rattle.logic_programs.specs.Rules.{Head, lit, falsum, Rule}
 use Rattle.logic_programs.specs.AnswerSets.{reduct, HeadIn, Closed, Consistent, AnswerSet}
-use Rattle.translation_bounds.proofs.Complements.{complement-even}
-use Rattle.correctness.specs.TightPrograms.{Support, Supported, LowerParts, Tight}
-use Rattle.correctness.proofs.Supported.{bodyIn, closed-rules, rules-support, support-cases, proposition-4}
+use Rattle.logic_programs.proofs.Complements.{complement-even}
+use Rattle.tight_programs.specs.TightPrograms.{Support, Supported, LowerParts, Tight}
+use Rattle.tight_programs.proofs.Supported.{bodyIn, closed-rules, rules-support, support-cases, proposition-4}
 use Rattle.answer_sets.proofs.Theorems.{setOf-below}
 use Rattle.description.specs.declared.Head as described
 use Rattle.description.specs.declared.Head.the-variants.{Lit, False}
@@ -39,7 +39,6 @@ use Rattle.causes.specs.Applying.{appliesAtStart, literalIn, headIs, someCause}
 use Rattle.causes.proofs.CausedHeads.{cause-heads, heads-cause}
 use Rattle.correctness.proofs.Explained.{satisfied-literal, literal-holds, literal-below}
 use Rattle.correctness.proofs.Reading.{Obeyed, Supplied, inStep, path-iff}
-use Rattle.correctness.specs.Demand3.{OneValue}
 use Rattle.correctness.proofs.Values.{fluent-in, complement-in, if-holds, after-holds}
 
 -- Codes and times

@@ -14,17 +14,16 @@ use borrow.Author.Tests.{ltb-false}
 use Rattle.search.specs.Search.{Each, all}
 use Rattle.search.proofs.Tests.{true-or-false, each-map, each-at}
 use Rattle.search.proofs.Lists.{all-mapped}
-use Rattle.logic_programs.specs.Literals.{holdsTrue, holdsFalse, setOf}
+use Rattle.logic_programs.specs.Literals.{OneValue, complement, holdsTrue, holdsFalse, setOf}
 use Rattle.logic_programs.specs.AnswerSets.{meets}
 use Rattle.answer_sets.proofs.Sets.{all-not-meets}
-use Rattle.translation_bounds.proofs.Complements.{complement-even, complement-odd, complement-below}
+use Rattle.logic_programs.proofs.Complements.{complement-even, complement-odd, complement-below}
 use Rattle.description.specs.Atoms.{atomCount}
 use Rattle.description.specs.Meaning.{Interpretation, satisfies, holds, together, stateAt, actionAt}
-use Rattle.correctness.specs.Demand3.{OneValue}
 use Rattle.search.proofs.Parity.{by-parity}
 use Rattle.description.proofs.Literals.{satisfies-even, satisfies-odd}
 use Rattle.description.proofs.Fits.{CodesBelow}
-use Rattle.rule_words.specs.RuleForms.{complement, atTime, complementsAt, literalsAt}
+use Rattle.rule_words.specs.RuleForms.{atTime, complementsAt, literalsAt}
 
 -- the atoms with value true
 abbrev pub truth : List ℕ → Interpretation

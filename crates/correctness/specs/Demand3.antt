@@ -3,14 +3,14 @@
 -- explained transitions.
 -- Assumes nothing.
 use mathlib.Core.Path.{_≡_}
-use mathlib.Core.Logic.{_↔_, _⊎_}
+use mathlib.Core.Logic.{_↔_}
 use mathlib.Core.List.{List}
 use mathlib.Core.Option.{none}
 use Prim.Native.Nat.{ℕ, _≤_, _<_}
 use lib.ListN.{length, take}
 use Rattle.search.specs.Search.{Each}
 use Rattle.search.specs.Replies.{refused, answered}
-use Rattle.logic_programs.specs.Literals.{setOf}
+use Rattle.logic_programs.specs.Literals.{OneValue, setOf}
 use Rattle.logic_programs.specs.AnswerSets.{AnswerSet}
 use Rattle.answer_sets.specs.Verdicts.{passes}
 use Rattle.answer_sets.specs.Answers as engine
@@ -24,10 +24,6 @@ use Rattle.translation.specs.Translated.{rulesFor, tableFor, tableAfter}
 use Rattle.history.specs.Checks as history
 use Rattle.causal.specs.Verdicts.{path}
 use Rattle.causal.specs.Readings as causal
-
--- one value: a byte is 1 or 2
-abbrev pub OneValue : ℕ → Type 0
-OneValue v = (v ≡ 1) ⊎ (v ≡ 2)
 
 -- the description is accepted: neither its records, of which some number is lent, nor its horizon are refused; and the set has
 -- one value for each atom: as many bytes as atoms, each 1 or 2

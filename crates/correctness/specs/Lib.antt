@@ -2,4 +2,3 @@
 pub mod Demand3
 pub mod CausalFaults
 pub mod Promises
-pub mod TightPrograms

@@ -5,9 +5,7 @@ use description::Law;
 use search::Found;
 use translation::Translated;
 ghost use mathlib.Core.Path.{_≡_};
-ghost use lib.Dec.{eqb};
 ghost use lib.ListN.{length};
-ghost use Rattle.search.specs.Search.{first, placeOf};
 ghost use Rattle.answer_sets.specs.Answers as engine;
 ghost use Rattle.history.specs.Checks.{replyOf, ofEngine, finding, checked, tableAfter};
 
@@ -19,21 +17,6 @@ pub enum Checked {
     Broken(usize),
     Unfounded(usize),
     Passes,
-}
-
-// The lowest atom of value 0.
-fn first_missing(values: &[u8]) -> Found
-    ensures { λ r. ⌜ placeOf r ≡ first (eqb 0) 0 (now (values .entry)) ⌝ }
-{
-    let mut i = 0;
-    while i < values.len() {
-        let value = values[i];
-        if value == 0 {
-            return Found::At(i);
-        }
-        i += 1;
-    }
-    Found::Nothing
 }
 
 // The engine's answer as the history check's.
@@ -53,7 +36,7 @@ fn from_engine(answer: Answer) -> Checked
 fn judge(values: &[u8], words: &[u16]) -> Checked
     ensures { λ r. ⌜ replyOf r ≡ finding (now (values .entry)) (now (words .entry)) ⌝ }
 {
-    if let Found::At(atom) = first_missing(values) {
+    if let Found::At(atom) = rule_tables::values::first_with(values, 0) {
         return Checked::Missing(atom);
     }
     from_engine(answer_sets::check_set(values, words))

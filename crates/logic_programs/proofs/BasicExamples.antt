@@ -1,16 +1,16 @@
 -- The worked examples of the definitions hold.
 -- Assumes nothing.
 use mathlib.Core.Path.{_≡_, refl}
-use mathlib.Core.Logic.{⊎-elim}
+use mathlib.Core.Logic.{⊎-elim, inl, inr}
 use mathlib.Core.Bool.{true, false}
-use mathlib.Core.List.{List, [], _∷_}
+use mathlib.Core.List.{List, [], _∷_, map}
 use Prim.Native.Nat.{ℕ, _+_, _*_, _%_}
 use native.Mathlib.Omega.{arith}
 use lib.Dec.{eqb}
 use borrow.Author.Tests.{eqb-true}
 use Rattle.search.specs.Search.{Each, chosen, range}
 use Rattle.search.proofs.Tests.{not-both, or-iff}
-use Rattle.logic_programs.specs.Literals.{Lits, setOf, holdsTrue, holdsFalse}
+use Rattle.logic_programs.specs.Literals.{Lits, complement, setOf, holdsTrue, holdsFalse, OneValue}
 use Rattle.logic_programs.specs.Rules.{Rule}
 use Rattle.logic_programs.specs.AnswerSets.{reduct, Closed, Subset, ProperSubset, Consistent, AnswerSet, literalHeaded, IsLeastClosed}
 use Rattle.logic_programs.specs.Words.{words, rulesOf}
@@ -32,6 +32,13 @@ decoded = refl
 held : chosen (setOf (0 ∷ 1 ∷ 2 ∷ 3 ∷ [])) (range 0 8) ≡ 2 ∷ 5 ∷ 6 ∷ 7 ∷ []
 unfolding setOf holdsTrue holdsFalse
 held = refl
+
+complements : map complement (p ∷ ¬p ∷ r ∷ 5 ∷ []) ≡ ¬p ∷ p ∷ 5 ∷ r ∷ []
+unfolding complement
+complements = refl
+
+not-one : (v : ℕ) → (v ≡ 1 → ⊥) → (v ≡ 2 → ⊥) → OneValue v → ⊥
+not-one v h g o = ⊎-elim h g o
 
 -- the first of a list, and the rest
 _&_ : {A B : Type 0} → A → B → A × B
@@ -114,4 +121,7 @@ definitions-hold = record {
   written = written;
   decoded = decoded;
   held = held;
+  one-value = (inl refl, (inr refl, tt));
+  not-one-value = (not-one 0 (λ e. omega arith) (λ e. omega arith), (not-one 3 (λ e. omega arith) (λ e. omega arith), tt));
+  complements = complements;
 }

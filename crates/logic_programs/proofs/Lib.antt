@@ -1,2 +1,3 @@
--- The worked examples of the definitions.
+-- Complementary literals, and the worked examples of the definitions.
+pub mod Complements
 pub mod BasicExamples

@@ -3,11 +3,11 @@
 -- Assumes nothing.
 use mathlib.Core.Path.{_≡_}
 use mathlib.Core.Bool.{false, _||_}
-use mathlib.Core.List.{List, [], _∷_}
+use mathlib.Core.List.{List, [], _∷_, map}
 use Prim.Native.Nat.{ℕ}
 use lib.Dec.{eqb}
 use Rattle.search.specs.Search.{Each, chosen, range}
-use Rattle.logic_programs.specs.Literals.{Lits, setOf}
+use Rattle.logic_programs.specs.Literals.{Lits, complement, setOf, OneValue}
 use Rattle.logic_programs.specs.Rules.{Head, lit, falsum, Rule}
 use Rattle.logic_programs.specs.AnswerSets.{PositiveRule, reduct, Closed, ProperSubset, Consistent, AnswerSet, literalHeaded, IsLeastClosed}
 use Rattle.logic_programs.specs.Words.{words, rulesOf}
@@ -131,7 +131,7 @@ recipeWords =
     ∷ []
 
 -- all of it: each set is an answer set or is not, for the reason given; the reduct and its least closed set; the words of
--- the rules and back; and the literals that four value bytes stand for
+-- the rules and back; the literals that four value bytes stand for, which values are one value, and complements
 pub record DefinitionsHold : Type 0 where
   pub answer-sets : Each IsAnswerSet answerSets
   pub other-sets : Each IsOther otherSets
@@ -142,3 +142,6 @@ pub record DefinitionsHold : Type 0 where
   pub written : words recipeRules ≡ recipeWords
   pub decoded : rulesOf recipeWords ≡ recipeRules
   pub held : chosen (setOf (0 ∷ 1 ∷ 2 ∷ 3 ∷ [])) (range 0 8) ≡ 2 ∷ 5 ∷ 6 ∷ 7 ∷ []
+  pub one-value : Each OneValue (1 ∷ 2 ∷ [])
+  pub not-one-value : Each (λ v. OneValue v → ⊥) (0 ∷ 3 ∷ [])
+  pub complements : map complement (p ∷ ¬p ∷ r ∷ 5 ∷ []) ≡ ¬p ∷ p ∷ 5 ∷ r ∷ []

@@ -14,7 +14,7 @@ use Rattle.search.specs.Search.{Each, first, range}
 use Rattle.search.specs.Replies.{Reply, refused, answered, orElse}
 use Rattle.search.proofs.Tests.{not-both, or-iff, each-map, first-none, length-range, getD-range}
 use Rattle.search.proofs.Lists.{none-iff}
-use Rattle.logic_programs.specs.Literals.{holdsTrue, holdsFalse, setOf, badValue}
+use Rattle.logic_programs.specs.Literals.{OneValue, holdsTrue, holdsFalse, setOf, badValue}
 use Rattle.answer_sets.specs.Verdicts.{Verdict, clash, broken, unfounded, passes, bothValues, verdict}
 use Rattle.logic_programs.specs.Words.{rulesOf}
 use Rattle.answer_sets.specs.Answers as engine
@@ -25,7 +25,7 @@ use Rattle.translation_bounds.proofs.Tables.{engine-judges}
 use Rattle.history.specs.Checks.{Finding, missing, judged, checked}
 use Rattle.causal.specs.Verdicts.{Causal, path}
 use Rattle.causal.specs.Readings.{reading}
-use Rattle.correctness.specs.Demand3.{OneValue, Complete, PathOf}
+use Rattle.correctness.specs.Demand3.{Complete, PathOf}
 use Rattle.correctness.proofs.Demand3.{demand-3}
 use Rattle.description_reader.specs.LineSteps.{Draft}
 use Rattle.description_reader.specs.Descriptions.{Taken, read, described, descriptionOf}

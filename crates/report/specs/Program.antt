@@ -7,13 +7,14 @@ use mathlib.Core.List.{List, _++_}
 use mathlib.Core.Option.{Option, none, some}
 use Prim.Native.Nat.{ℕ, _-_, _≤_, _<_}
 use lib.ListN.{length, getD}
+use Rattle.logic_programs.specs.Literals.{OneValue}
 use Rattle.search.specs.Search.{Each}
 use Rattle.search.specs.Replies.{answered}
 use Rattle.answer_sets.specs.Verdicts.{clash, broken, unfounded, passes}
 use Rattle.translation.specs.Translated.{rulesFor, tableFor}
 use Rattle.history.specs.Checks.{Finding, missing, judged}
 use Rattle.causal.specs.Verdicts.{Causal, path}
-use Rattle.correctness.specs.Demand3.{OneValue, PathOf}
+use Rattle.correctness.specs.Demand3.{PathOf}
 use Rattle.description_reader.specs.LineSteps.{Draft}
 use Rattle.description_reader.specs.Descriptions.{read, described, descriptionOf}
 use Rattle.history_values.specs.Values.{ActionsValued}

@@ -2,3 +2,4 @@
 pub mod Fitting
 pub mod Fronts
 pub mod Lookups
+pub mod Walking

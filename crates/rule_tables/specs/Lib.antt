@@ -1,2 +1,3 @@
 -- What the promises on rule tables, marks and values mean.
 pub mod Bodies
+pub mod Internal

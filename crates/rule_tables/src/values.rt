@@ -1,6 +1,8 @@
 // Value bytes, one an atom: 0 none, 1 true, 2 false, 3 both.
 use search::Found;
 ghost use mathlib.Core.Path.{_≡_};
+ghost use lib.Dec.{eqb};
+ghost use Rattle.search.specs.Search.{first, placeOf};
 ghost use Rattle.search.specs.Replies.{refusalOf, refusal};
 ghost use Rattle.logic_programs.specs.Literals.{setOf, holdsTrue, holdsFalse, badValue};
 
@@ -11,6 +13,21 @@ pub fn bad_value(values: &[u8]) -> Found
     let mut i = 0;
     while i < values.len() {
         if 3 < values[i] {
+            return Found::At(i);
+        }
+        i += 1;
+    }
+    Found::Nothing
+}
+
+// The lowest atom with a value.
+pub fn first_with(values: &[u8], value: u8) -> Found
+    ensures { λ r. ⌜ placeOf r ≡ first (eqb value) 0 (now (values .entry)) ⌝ }
+{
+    let mut i = 0;
+    while i < values.len() {
+        let found = values[i];
+        if found == value {
             return Found::At(i);
         }
         i += 1;

@@ -1,10 +1,9 @@
 -- The forms of the rules of the published translation (000, section 4), over n fluents and m actions, N of both: a law's rule for
 -- one time, and the two rules that leave an atom open.
 -- Assumes nothing.
-use mathlib.Core.Bool.{cond}
 use mathlib.Core.List.{List, [], _∷_, map}
-use Prim.Native.Nat.{ℕ, suc, _+_, _-_, _*_, _%_}
-use lib.Dec.{eqb}
+use Prim.Native.Nat.{ℕ, suc, _+_, _*_}
+use Rattle.logic_programs.specs.Literals.{complement}
 use Rattle.logic_programs.specs.Rules.{Head, lit, falsum, Rule}
 use Rattle.description.specs.declared.Head as described
 use Rattle.description.specs.declared.Head.the-variants.{Lit, False}
@@ -19,10 +18,6 @@ atTime N t c = 2 * (t * N) + c
 abbrev pub headAt : ℕ → ℕ → described.Head → Head
 headAt N t (Lit c) = lit (atTime N t c)
 headAt N t False = falsum
-
--- the literal complementary to c
-unfoldable pub complement : ℕ → ℕ
-complement c = cond (eqb (c % 2) 0) (c + 1) (c - 1)
 
 -- the complements of a list's literals at time t
 abbrev pub complementsAt : ℕ → ℕ → List ℕ → List ℕ

@@ -9,8 +9,9 @@ use description::Law;
 ghost use mathlib.Core.Path.{_≡_};
 ghost use Prim.Native.Nat.{_+_, _*_, _<_, _≤_};
 ghost use lib.ListN.{getD};
+ghost use Rattle.logic_programs.specs.Literals.{complement};
 ghost use Rattle.logic_programs.specs.Words.{headWord};
-ghost use Rattle.rule_words.specs.RuleForms.{complement, headAt};
+ghost use Rattle.rule_words.specs.RuleForms.{headAt};
 ghost use Rattle.rule_words.specs.Internal.{ruleWord, choiceWord};
 
 pub mod lists;

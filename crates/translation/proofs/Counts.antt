@@ -6,6 +6,7 @@ use Prim.Native.Nat.{ℕ, zero, suc, _+_, _*_}
 use native.Mathlib.Nat.{zero-mul, one-mul, suc-mul, add-mul, add-zero, zero-add}
 use native.Mathlib.Omega.{arith}
 use lib.ListN.{length, length-append, length-map}
+use Rattle.logic_programs.specs.Literals.{complement}
 use Rattle.logic_programs.specs.Rules.{Rule}
 use Rattle.logic_programs.specs.Words.{ruleWords, words}
 use Rattle.search.specs.Search.{range}
@@ -14,7 +15,7 @@ use Rattle.description.specs.declared.Kind.{Kind}
 use Rattle.description.specs.declared.Kind.the-variants.{Static, Dynamic}
 use Rattle.description.specs.declared.Law.{Law}
 use Rattle.description.specs.Laws.{ifList, afterList}
-use Rattle.rule_words.specs.RuleForms.{complement, atTime, staticRule, dynamicRule, choices}
+use Rattle.rule_words.specs.RuleForms.{atTime, staticRule, dynamicRule, choices}
 use Rattle.translation.specs.Rules.{staticRules, dynamicRules, perLaw, actionAtoms, choiceAtoms, translation}
 
 -- Words of rules

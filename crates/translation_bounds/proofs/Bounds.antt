@@ -7,11 +7,12 @@ use Prim.Native.Nat.{ℕ, suc, _+_, _*_, _≤_, _<_}
 use native.Mathlib.Nat.{mul-le-mul, mul-le-mul-left, mul-le-mul-right, suc-mul}
 use native.Mathlib.Omega.{arith}
 use lib.ListN.{length, length-take}
+use Rattle.logic_programs.specs.Literals.{complement}
 use Rattle.search.specs.Search.{Each}
 use Rattle.logic_programs.specs.Words.{words}
 use Rattle.search.proofs.Tests.{each-map}
 use Rattle.search.proofs.Lists.{each-mapped}
-use Rattle.translation_bounds.proofs.Complements.{complement-below}
+use Rattle.logic_programs.proofs.Complements.{complement-below}
 use Rattle.answer_sets.proofs.Least.{HeadBelow}
 use Rattle.answer_sets.proofs.Decoding.{RuleBelow, CodesBelow}
 use Rattle.description.specs.declared.Head as described
@@ -24,7 +25,7 @@ use Rattle.description.specs.Atoms.{actionAtom, atomCount}
 use Rattle.description.specs.Acceptance.{lawFits}
 use Rattle.description.proofs.Fits as fits
 use Rattle.description.proofs.Laws.{AllFit, fits-if, fits-after}
-use Rattle.rule_words.specs.RuleForms.{complement, atTime, headAt, complementsAt, literalsAt}
+use Rattle.rule_words.specs.RuleForms.{atTime, headAt, complementsAt, literalsAt}
 use Rattle.translation.specs.Rules.{translation}
 use Rattle.translation_bounds.proofs.RuleByRule.{AtStart, AtChoice, stepRule, each-rule}
 use Rattle.translation.proofs.Counts.{sumLaws, staticOf, dynamicOf, statics, dynamics, lawWordsOf, rule-count, word-count}

@@ -1,5 +1,4 @@
 -- Theorems on every translation, its horizon left open. Read in this order.
-pub mod Complements
 pub mod RuleByRule
 pub mod Bounds
 pub mod Tables

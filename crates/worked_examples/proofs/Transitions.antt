@@ -6,6 +6,7 @@ use mathlib.Core.Bool.{Bool, true, false}
 use mathlib.Core.List.{List, [], _∷_, List·Memᴰ, List·Memᴰ·head, List·Memᴰ·tail}
 use Prim.Native.Nat.{ℕ}
 use lib.ListN.{length}
+use Rattle.logic_programs.specs.Literals.{OneValue}
 use Rattle.search.specs.Search.{Each, tuples}
 use Rattle.search.proofs.Tests.{each-map}
 use Rattle.search.proofs.Lists.{chosen-iff, tuples-all}
@@ -13,7 +14,6 @@ use Rattle.description.specs.declared.Law.{Law}
 use Rattle.description.specs.Meaning.{Path}
 use Rattle.description.specs.Examples.{doorLaws, waterLaws}
 use Rattle.causal.specs.Verdicts.{Causal, contradicted, uncaused, path, causalVerdict}
-use Rattle.correctness.specs.Demand3.{OneValue}
 use Rattle.worked_examples.specs.Examples.{isPath, paths}
 use Rattle.worked_examples.specs.Worked.{doorTransitions, waterTransitions}
 use Rattle.correctness.proofs.Reading.{causal-iff}

@@ -3,6 +3,7 @@
 use mathlib.Core.Path.{refl}
 use mathlib.Core.List.{[], _∷_}
 use native.Mathlib.Omega.{arith}
+use Rattle.logic_programs.specs.Literals.{complement}
 use Rattle.search.specs.Search.{Each}
 use Rattle.spelling.specs.Spelling.{isName}
 use Rattle.text.specs.Bytes.{cut}
@@ -14,7 +15,6 @@ use Rattle.description_reader.specs.LineSteps.{headOf, lineStep}
 use Rattle.description_reader.specs.Descriptions.{described}
 use Rattle.shown_names.specs.Shown.{shownFluent, shownAction}
 use Rattle.history_reader.specs.Histories.{readHistory}
-use Rattle.rule_words.specs.RuleForms.{complement}
 use Rattle.translation.specs.Rules.{translation}
 use Rattle.written_form.specs.Writing.{descriptionText}
 use Rattle.written_form.specs.HistoryWriting.{valuesText}

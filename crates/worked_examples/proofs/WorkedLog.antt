@@ -3,12 +3,11 @@
 use mathlib.Core.Path.{refl}
 use native.Mathlib.Omega.{arith}
 use Rattle.search.specs.Search.{Each}
-use Rattle.logic_programs.specs.Literals.{setOf, holdsTrue, holdsFalse}
+use Rattle.logic_programs.specs.Literals.{complement, setOf, holdsTrue, holdsFalse}
 use Rattle.answer_sets.specs.Verdicts.{verdict}
 use Rattle.logic_programs.specs.Words.{rulesOf, badRule}
 use Rattle.answer_sets.specs.Answers as engine
 use Rattle.description.specs.Acceptance.{badRecord, badHorizon}
-use Rattle.rule_words.specs.RuleForms.{complement}
 use Rattle.translation.specs.Rules.{translation}
 use Rattle.translation.specs.Translated as translated
 use Rattle.history.specs.Checks as history

@@ -3,14 +3,13 @@
 use mathlib.Core.Path.{refl}
 use Rattle.search.specs.Search.{Each}
 use Rattle.search.proofs.Lists.{each-mapped}
-use Rattle.logic_programs.specs.Literals.{setOf, holdsTrue, holdsFalse}
+use Rattle.logic_programs.specs.Literals.{complement, setOf, holdsTrue, holdsFalse}
 use Rattle.answer_sets.specs.Verdicts.{verdict}
 use Rattle.logic_programs.specs.Words.{rulesOf, badRule}
 use Rattle.answer_sets.specs.Answers as engine
 use Rattle.answer_sets.specs.Examples as engine-list
 use Rattle.answer_sets.proofs.Examples as engine-list-holds
 use Rattle.description.specs.Acceptance.{badRecord, badHorizon}
-use Rattle.rule_words.specs.RuleForms.{complement}
 use Rattle.translation.specs.Rules.{translation}
 use Rattle.translation.specs.Translated as translated
 use Rattle.history.specs.Checks as history

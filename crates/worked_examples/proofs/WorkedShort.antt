@@ -1,6 +1,7 @@
 -- The worked examples of the short laws hold.
 -- Assumes nothing.
 use mathlib.Core.Path.{refl}
+use Rattle.logic_programs.specs.Literals.{complement}
 use Rattle.search.specs.Search.{Each}
 use Rattle.text.specs.Bytes.{cut}
 use Rattle.text.specs.Lines.{keyNumber, firstLine}
@@ -12,7 +13,6 @@ use Rattle.description_reader.specs.LineSteps.{headOf, lineStep}
 use Rattle.description_reader.specs.Descriptions.{described}
 use Rattle.shown_names.specs.Shown.{shownFluent}
 use Rattle.history_reader.specs.Histories.{readHistory}
-use Rattle.rule_words.specs.RuleForms.{complement}
 use Rattle.translation.specs.Rules.{translation}
 use Rattle.written_form.specs.Writing.{descriptionText}
 use Rattle.worked_examples.specs.Examples.{Holds}

@@ -7,14 +7,14 @@ use borrow.Author.Needs.{needs}
 use Rattle.history.proofs.judge.Statement.{statement}
 use Rattle.history.proofs.judge.Tie as tie
 
-first-missing-requires : tie.Need-first-missing-requires
-first-missing-requires c κs = search needs
+first-with-requires : tie.Need-first-with-requires
+first-with-requires c κs = search needs
 
 enum-known-atom : tie.Need-enum-known-atom
 enum-known-atom c = search needs
 
 returns : tie.Need-returns
-returns c = rw (at-place (c .before .before .before .first-missing .ensures) (c .before .atom .given .1))
+returns c = rw (at-place (c .before .before .before .first-with .ensures) (c .before .atom .given .1))
 
 enum-told : tie.Need-enum-told
 enum-told c = search needs
@@ -29,13 +29,13 @@ returns-2 : tie.Need-returns-2
 returns-2 c =
     let c2 = c .before .before in
     let c4 = c2 .before .before in
-    rw (no-place (c4 .first-missing .ensures) (c2 .enum-told .given .1)) (c .from-engine .ensures ∙ ap ofEngine (c .before .check-set .ensures .0))
+    rw (no-place (c4 .first-with .ensures) (c2 .enum-told .given .1)) (c .from-engine .ensures ∙ ap ofEngine (c .before .check-set .ensures .0))
 
 pub judge-spec : {M : Type 1} → statement M
 judge-spec =
     tie.close
     (tie.spec
-    first-missing-requires
+    first-with-requires
     enum-known-atom
     returns
     enum-told

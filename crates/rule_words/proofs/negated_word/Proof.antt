@@ -2,7 +2,7 @@
 -- Assumes nothing.
 use borrow.Author.Needs.{needs}
 use borrow.Author.Tests.{eq-eqb, ne-eqb}
-use Rattle.rule_words.specs.RuleForms.{complement}
+use Rattle.logic_programs.specs.Literals.{complement}
 use Rattle.rule_words.proofs.negated_word.Statement.{statement}
 use Rattle.rule_words.proofs.negated_word.Tie as tie
 

@@ -13,7 +13,7 @@ use Rattle.logic_programs.specs.Words.{rulesOf}
 use Rattle.rule_tables.specs.Bodies.{marked}
 use Rattle.search.proofs.Stored.{getD-replicate}
 use Rattle.answer_sets.proofs.Decoding.{accepted-below, codes-heads}
-use Rattle.answer_sets.proofs.Fronts.{accepted-sound}
+use Rattle.rule_tables.proofs.Walking.{accepted-sound}
 use Rattle.answer_sets.proofs.derivation.derive.Statement.{statement}
 use Rattle.answer_sets.proofs.derivation.derive.Tie as tie
 

@@ -10,10 +10,11 @@ use Rattle.logic_programs.specs.Words.{rulesOf}
 use lib.ListN.{length-replicate}
 use Rattle.answer_sets.specs.Verdicts.{round}
 use Rattle.rule_tables.specs.Bodies.{marked}
-use Rattle.answer_sets.specs.Internal.{Sound}
+use Rattle.rule_tables.specs.Internal.{Sound}
 use Rattle.search.proofs.Stored.{getD-replicate}
 use Rattle.rule_tables.proofs.Fronts.{left-behind, shorter}
-use Rattle.answer_sets.proofs.Fronts.{derives-literal, sound-size, sound-head, sound-rest, rules-end, round-turn}
+use Rattle.rule_tables.proofs.Walking.{sound-size, sound-head, sound-rest, rules-end}
+use Rattle.answer_sets.proofs.Fronts.{derives-literal, round-turn}
 use Rattle.answer_sets.proofs.derivation.round.Statement.{statement}
 use Rattle.answer_sets.proofs.derivation.round.Tie as tie
 

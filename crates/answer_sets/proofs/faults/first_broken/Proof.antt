@@ -7,10 +7,10 @@ use lib.ListN.{length}
 use Rattle.search.specs.Search.{first}
 use Rattle.logic_programs.specs.Words.{rulesOf}
 use Rattle.rule_tables.specs.Bodies.{marked}
-use Rattle.answer_sets.specs.Internal.{Sound}
+use Rattle.rule_tables.specs.Internal.{Sound}
 use Rattle.answer_sets.specs.Verdicts.{isBroken}
 use Rattle.rule_tables.proofs.Fronts.{left-behind, shorter}
-use Rattle.answer_sets.proofs.Fronts.{rule-stop, rule-go, rule-end, sound-size, sound-rest}
+use Rattle.rule_tables.proofs.Walking.{rule-stop, rule-go, rule-end, sound-size, sound-rest}
 use Rattle.answer_sets.proofs.faults.first_broken.Statement.{statement}
 use Rattle.answer_sets.proofs.faults.first_broken.Tie as tie
 

@@ -6,7 +6,7 @@ use borrow.Author.Needs.{needs}
 use Rattle.search.specs.Replies.{answered}
 use Rattle.search.proofs.Loops.{at-place, no-place}
 use Rattle.rule_tables.specs.Bodies.{marked}
-use Rattle.answer_sets.proofs.Fronts.{accepted-sound}
+use Rattle.rule_tables.proofs.Walking.{accepted-sound}
 use Rattle.answer_sets.proofs.Judging.{says-clash, says-broken, says-unfounded, says-passes}
 use Rattle.answer_sets.proofs.faults.judge.Statement.{statement}
 use Rattle.answer_sets.proofs.faults.judge.Tie as tie

@@ -1,4 +1,4 @@
--- `history::first_missing` meets its contract.
+-- `rule_tables::values::first_with` meets its contract.
 -- Assumes nothing.
 use native.Mathlib.Omega.{arith}
 use mathlib.Core.Path.{_≡_, refl, sym}
@@ -8,20 +8,20 @@ use lib.Dec.{eqb}
 use Rattle.search.specs.Search.{first}
 use Rattle.search.proofs.Loops.{first-stop, first-go, first-done}
 use borrow.Author.Tests.{eq-eqb, ne-eqb}
-use Rattle.history.proofs.first_missing.Statement.{statement}
-use Rattle.history.proofs.first_missing.Tie as tie
+use Rattle.rule_tables.proofs.values.first_with.Statement.{statement}
+use Rattle.rule_tables.proofs.values.first_with.Tie as tie
 
 abbrev Inv-loop : tie.InvT-loop
-Inv-loop values i₀ i = (i ≤ length values) × (first (eqb 0) i (drop i values) ≡ first (eqb 0) 0 values)
+Inv-loop values value i₀ i = (i ≤ length values) × (first (eqb value) i (drop i values) ≡ first (eqb value) 0 values)
 
 abbrev μ-loop : tie.MeasureT-loop
-μ-loop values i₀ i = length values - i
+μ-loop values value i₀ i = length values - i
 
 loop-holds : tie.Need-loop-holds Inv-loop μ-loop
 loop-holds c = (omega arith, refl)
 
-shared-slice-read-value : tie.Need-shared-slice-read-value Inv-loop μ-loop
-shared-slice-read-value c = omega arith
+shared-slice-read-found : tie.Need-shared-slice-read-found Inv-loop μ-loop
+shared-slice-read-found c = omega arith
 
 returns : tie.Need-returns Inv-loop μ-loop
 returns c =
@@ -44,14 +44,14 @@ loop-again c =
 returns-2 : tie.Need-returns-2 Inv-loop μ-loop
 returns-2 c = first-done {A = ℕ} _ _ (c .before .loop .i) 0 (c .loop-test .left) (c .before .loop .inv .1)
 
-pub first-missing-spec : {M : Type 1} → statement M
-first-missing-spec =
+pub first-with-spec : {M : Type 1} → statement M
+first-with-spec =
     tie.close
     (tie.spec
     Inv-loop
     μ-loop
     loop-holds
-    shared-slice-read-value
+    shared-slice-read-found
     returns
     add-i
     loop-less

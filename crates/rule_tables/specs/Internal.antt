@@ -1,4 +1,5 @@
--- Internal: what the crate's own functions promise each other. No public promise rests on it; a reader may pass it over.
+-- Internal: what functions that go through a table rule by rule need of it. No public promise rests on it; a reader may pass it
+-- over.
 -- Assumes nothing.
 use mathlib.Core.Path.{_≡_}
 use mathlib.Core.List.{List}

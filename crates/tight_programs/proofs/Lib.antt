@@ -1,0 +1,3 @@
+-- The answer sets of tight programs.
+pub mod Supported
+pub mod LiteralCompletion

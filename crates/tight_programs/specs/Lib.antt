@@ -1,0 +1,3 @@
+-- What is said of tight programs. Read in this order.
+pub mod TightPrograms
+pub mod LiteralCompletion

@@ -1,0 +1,1 @@
+// Theorems on tight programs; no code.
