@@ -9,7 +9,7 @@ ghost use Rattle.rule_tables.specs.Bodies.{marked, headIn, frontApplies,
 ghost use Rattle.logic_programs.specs.Words.{ruleSize, ruleFits, headFits, headOf, partsFit, badRule};
 
 // A word, or 0 past the end.
-fn word(words: &[u16], i: usize) -> usize
+pub fn word(words: &[u16], i: usize) -> usize
     ensures { λ r. ⌜ (r ≡ getD (now (words .entry)) i 0) × (r < 65536) ⌝ }
 {
     if i < words.len() {

@@ -1,0 +1,197 @@
+-- What is found, read by the formulas of literal completion: each formula's test, and the first that fails.
+-- Assumes nothing.
+use mathlib.Core.Path.{_≡_, refl, sym, _∙_, ap}
+use mathlib.Core.Logic.{_↔_, _⊎_, inl, inr, ⊎-elim, Iff·trans, Iff·and}
+use mathlib.Core.Bool.{Bool, true, false, cond, not}
+use mathlib.Core.List.{List, [], _∷_, List·Memᴰ, List·Memᴰ·head, List·Memᴰ·tail, List·Memᴰ·not-nil, List·Memᴰ·cases-cons}
+use mathlib.Core.Option.{Option, none, some}
+use Prim.Native.Nat.{ℕ, _*_, _<_}
+use native.Mathlib.Omega.{arith}
+use borrow.Author.Tests.{eqb-true, eqb-false, eq-eqb, ne-eqb, ltb-false}
+use lib.Dec.{eqb, ltb}
+use lib.ListN.{length, getD}
+use Rattle.search.specs.Search.{Each, all, first, range, Lowest, Nowhere}
+use Rattle.search.specs.Replies.{Reply, answered, orElse}
+use Rattle.search.proofs.Tests.{true-or-false, not-both, false-of-not, true-of-not, and-iff, iff-and₃, and-or-iff, all-each, each-map, each-map₂, first-lowest, first-nowhere, range-lowest}
+use Rattle.search.proofs.Lists.{none-iff, each-range}
+use Rattle.logic_programs.specs.Literals.{Lits, complement, setOf, OneValue, badValue}
+use Rattle.logic_programs.specs.Rules.{Head, lit, falsum, Rule}
+use Rattle.logic_programs.specs.Words.{rulesOf}
+use Rattle.tight_programs.specs.LiteralCompletion.{BodyHolds, SomeBody, Formula, Completion}
+use Rattle.completion.specs.Findings.{Finding, missing, clash, fails, holds, bodyHolds, sameHead, someBody, differ, literalFails, judged, finding}
+use Rattle.completion.specs.Meaning.{NoValue, BothValues, ByFormulas}
+
+-- The formulas' tests
+
+body-iff : (X : Lits) (r : Rule) → bodyHolds X r ≡ true ↔ BodyHolds X r
+body-iff X r = Iff·trans (and-iff (all (λ c. X (complement c)) (r .negated)) (all X (r .plain))) (
+  λ h. (all-each X (r .plain) .0 (h .1), all-each (λ c. X (complement c)) (r .negated) .0 (h .0)),
+  λ h. (all-each (λ c. X (complement c)) (r .negated) .1 (h .1), all-each X (r .plain) .1 (h .0)),
+)
+
+head-iff : (G H : Head) → sameHead G H ≡ true ↔ G ≡ H
+head-iff (lit c) (lit d) = (λ e. ap lit (eqb-true c d e), λ e. let same : c ≡ d = cc in eq-eqb c d same)
+head-iff (lit c) falsum = (λ e. absurd (not-both e refl), λ e. let z : _≡_ {A = ℕ} 0 1 = cc in absurd (omega arith))
+head-iff falsum (lit d) = (λ e. absurd (not-both e refl), λ e. let z : _≡_ {A = ℕ} 0 1 = cc in absurd (omega arith))
+head-iff falsum falsum = (λ e. refl, λ e. refl)
+
+some-iff : (Π : List Rule) (X : Lits) (H : Head) → someBody Π X H ≡ true ↔ SomeBody Π X H
+some-iff [] X H = (λ e. absurd (not-both e refl), λ (r, m, h, body). absurd (List·Memᴰ·not-nil m))
+some-iff (r ∷ rs) X H = Iff·trans (and-or-iff (sameHead (r .head) H) (bodyHolds X r) (someBody rs X H)) (
+  λ h. ⊎-elim (λ i. (r, List·Memᴰ·head refl, head-iff (r .head) H .0 (i .0), body-iff X r .0 (i .1))) (λ e. later (some-iff rs X H .0 e)) h,
+  λ s. earlier (some-iff rs X H .1) s,
+)
+  where
+    later : SomeBody rs X H → SomeBody (r ∷ rs) X H
+    later (q, m, h, body) = (q, List·Memᴰ·tail m, h, body)
+
+    earlier : (SomeBody rs X H → someBody rs X H ≡ true) → SomeBody (r ∷ rs) X H
+        → ((sameHead (r .head) H ≡ true) × (bodyHolds X r ≡ true)) ⊎ (someBody rs X H ≡ true)
+    earlier rest (q, m, h, body) =
+        ⊎-elim (λ (e : q ≡ r). inl (head-iff (r .head) H .1 (rw e at h), body-iff X r .1 (rw e at body))) (λ l. inr (rest (q, l, h, body)))
+        (List·Memᴰ·cases-cons m)
+
+differ-iff : (a b : Bool) → differ a b ≡ false ↔ (a ≡ true ↔ b ≡ true)
+differ-iff true true = (λ e. (λ t. t, λ t. t), λ h. refl)
+differ-iff true false = (λ e. absurd (not-both refl e), λ h. sym (h .0 refl))
+differ-iff false true = (λ e. absurd (not-both refl e), λ h. sym (h .1 refl))
+differ-iff false false = (λ e. (λ t. t, λ t. t), λ h. refl)
+
+module _ (Π : List Rule) (X : Lits) where
+  literal-iff : (c : ℕ) → literalFails Π X c ≡ false ↔ Formula Π X (lit c)
+  literal-iff c =
+      let some = some-iff Π X (lit c) in
+      Iff·trans (differ-iff (X c) (someBody Π X (lit c))) (
+        λ h. (λ x. some .0 (h .0 x), λ s. h .1 (some .1 s)),
+        λ h. (λ x. some .1 (h .0 x), λ s. h .1 (some .0 s)),
+      )
+
+  fails-iff : (c : ℕ) → literalFails Π X c ≡ true ↔ (Formula Π X (lit c) → ⊥)
+  fails-iff c = (λ t f. not-both t (literal-iff c .1 f), λ h. true-of-not (literalFails Π X c) (λ f. h (literal-iff c .0 f)))
+
+  false-iff : someBody Π X falsum ≡ false ↔ Formula Π X falsum
+  false-iff = (
+    λ f. (λ x. absurd x, λ s. not-both (some-iff Π X falsum .1 s) f),
+    λ h. false-of-not (someBody Π X falsum) (λ t. h .1 (some-iff Π X falsum .0 t)),
+  )
+
+  false-fails-iff : someBody Π X falsum ≡ true ↔ (Formula Π X falsum → ⊥)
+  false-fails-iff = (λ t f. not-both t (false-iff .1 f), λ h. true-of-not (someBody Π X falsum) (λ f. h (false-iff .0 f)))
+
+  none-fails-iff : (n : ℕ) → first (literalFails Π X) 0 (range 0 n) ≡ none ↔ ((c : ℕ) → c < n → Formula Π X (lit c))
+  none-fails-iff n =
+      Iff·trans (none-iff (literalFails Π X) 0 (range 0 n))
+      (Iff·trans (each-range (λ c. literalFails Π X c ≡ false) 0 n (λ i. i) (λ i. omega arith))
+      (λ h c b. literal-iff c .0 (h c b), λ h c b. literal-iff c .1 (h c b)))
+
+-- Values
+
+module _ (vs : List ℕ) where
+  value-iff : (v w : ℕ) → eqb w v ≡ true ↔ v ≡ w
+  value-iff v w = (λ e. sym (eqb-true w v e), λ e. eq-eqb w v (sym e))
+
+  missing-iff : (a : ℕ) → first (eqb 0) 0 vs ≡ some a ↔ Lowest (NoValue vs) (length vs) a
+  missing-iff = first-lowest (eqb 0) 0 vs (length vs) refl (NoValue vs) (λ i b. value-iff (getD vs i 0) 0)
+
+  not-missing-iff : first (eqb 0) 0 vs ≡ none ↔ Nowhere (NoValue vs) (length vs)
+  not-missing-iff = first-nowhere (eqb 0) 0 vs (length vs) refl (NoValue vs) (λ i b. value-iff (getD vs i 0) 0)
+
+  clash-iff : (a : ℕ) → first (eqb 3) 0 vs ≡ some a ↔ Lowest (BothValues vs) (length vs) a
+  clash-iff = first-lowest (eqb 3) 0 vs (length vs) refl (BothValues vs) (λ i b. value-iff (getD vs i 0) 3)
+
+  one : (v : ℕ) → ltb 3 v ≡ false → (eqb 0 v ≡ false) × (eqb 3 v ≡ false) → OneValue v
+  one v few h =
+      ⊎-elim (λ t. inl (eqb-true v 1 t))
+      (λ f. inr (omega (arith, ltb-false 3 v few, eqb-false 0 v (h .0), eqb-false 3 v (h .1), eqb-false v 1 f))) (true-or-false (eqb v 1))
+
+  other : (v w : ℕ) → (w ≡ 1 → ⊥) → (w ≡ 2 → ⊥) → OneValue v → eqb w v ≡ false
+  other v w h g o = ne-eqb w v (λ (e : w ≡ v). ⊎-elim (λ (q : v ≡ 1). h (e ∙ q)) (λ (q : v ≡ 2). g (e ∙ q)) o)
+
+  pub one-value-iff : badValue vs ≡ none → ((first (eqb 0) 0 vs ≡ none) × (first (eqb 3) 0 vs ≡ none)) ↔ Each OneValue vs
+  one-value-iff few = (
+    λ h. each-map₂ (λ v b g. one v b g) vs (none-iff (ltb 3) 0 vs .0 few)
+        (each-map₂ (λ v a b. (a, b)) vs (none-iff (eqb 0) 0 vs .0 (h .0)) (none-iff (eqb 3) 0 vs .0 (h .1))),
+    λ o. (
+      none-iff (eqb 0) 0 vs .1 (each-map (λ v. other v 0 (λ e. omega arith) (λ e. omega arith)) vs o),
+      none-iff (eqb 3) 0 vs .1 (each-map (λ v. other v 3 (λ e. omega arith) (λ e. omega arith)) vs o),
+    ),
+  )
+
+-- What is found, from the four searches
+
+abbrev of : Option ℕ → Option ℕ → Option ℕ → Bool → Finding
+of a b c d = orElse a missing (orElse b clash (orElse c (λ k. fails (lit k)) (cond d (fails falsum) holds)))
+
+of-missing : (a b c : Option ℕ) (d : Bool) (k : ℕ) → of a b c d ≡ missing k ↔ a ≡ some k
+of-missing (some i) b c d k = (λ e. cc, λ e. cc)
+of-missing none (some i) c d k = (λ e. cc, λ e. cc)
+of-missing none none (some i) d k = (λ e. cc, λ e. cc)
+of-missing none none none true k = (λ e. cc, λ e. cc)
+of-missing none none none false k = (λ e. cc, λ e. cc)
+
+of-clash : (a b c : Option ℕ) (d : Bool) (k : ℕ) → of a b c d ≡ clash k ↔ ((a ≡ none) × (b ≡ some k))
+of-clash (some i) b c d k = (λ e. (cc, cc), λ h. cc)
+of-clash none (some i) c d k = (λ e. (cc, cc), λ h. cc)
+of-clash none none (some i) d k = (λ e. (cc, cc), λ h. cc)
+of-clash none none none true k = (λ e. (cc, cc), λ h. cc)
+of-clash none none none false k = (λ e. (cc, cc), λ h. cc)
+
+of-fails : (a b c : Option ℕ) (d : Bool) (k : ℕ) → of a b c d ≡ fails (lit k) ↔ (((a ≡ none) × (b ≡ none)) × (c ≡ some k))
+of-fails (some i) b c d k = (λ e. ((cc, cc), cc), λ h. cc)
+of-fails none (some i) c d k = (λ e. ((cc, cc), cc), λ h. cc)
+of-fails none none (some i) d k = (λ e. ((cc, cc), cc), λ h. cc)
+of-fails none none none true k = (λ e. ((cc, cc), cc), λ h. cc)
+of-fails none none none false k = (λ e. ((cc, cc), cc), λ h. cc)
+
+of-false : (a b c : Option ℕ) (d : Bool) → of a b c d ≡ fails falsum ↔ (((a ≡ none) × (b ≡ none)) × (c ≡ none) × (d ≡ true))
+of-false (some i) b c d = (λ e. ((cc, cc), cc, cc), λ h. cc)
+of-false none (some i) c d = (λ e. ((cc, cc), cc, cc), λ h. cc)
+of-false none none (some i) d = (λ e. ((cc, cc), cc, cc), λ h. cc)
+of-false none none none true = (λ e. ((cc, cc), cc, cc), λ h. cc)
+of-false none none none false = (λ e. ((cc, cc), cc, cc), λ h. cc)
+
+of-holds : (a b c : Option ℕ) (d : Bool) → of a b c d ≡ holds ↔ (((a ≡ none) × (b ≡ none)) × (c ≡ none) × (d ≡ false))
+of-holds (some i) b c d = (λ e. ((cc, cc), cc, cc), λ h. cc)
+of-holds none (some i) c d = (λ e. ((cc, cc), cc, cc), λ h. cc)
+of-holds none none (some i) d = (λ e. ((cc, cc), cc, cc), λ h. cc)
+of-holds none none none true = (λ e. ((cc, cc), cc, cc), λ h. cc)
+of-holds none none none false = (λ e. ((cc, cc), cc, cc), λ h. cc)
+
+module _ (vs ws : List ℕ) (few : badValue vs ≡ none) (reply : Reply Finding) (is : reply ≡ answered (finding vs ws)) where
+  abbrev Π : List Rule
+  Π = rulesOf ws
+
+  abbrev X : Lits
+  X = setOf vs
+
+  abbrev a : Option ℕ
+  a = first (eqb 0) 0 vs
+
+  abbrev b : Option ℕ
+  b = first (eqb 3) 0 vs
+
+  abbrev c : Option ℕ
+  c = first (literalFails Π X) 0 (range 0 (2 * length vs))
+
+  abbrev d : Bool
+  d = someBody Π X falsum
+
+  found : (f : Finding) → reply ≡ answered f ↔ of a b c d ≡ f
+  unfolding finding judged
+  found f = let same : reply ≡ answered (of a b c d) = is in (λ e. cc, λ e. cc)
+
+  one-value : ((a ≡ none) × (b ≡ none)) ↔ Each OneValue vs
+  one-value = one-value-iff vs few
+
+  pub by-formulas : ByFormulas vs Π reply
+  by-formulas = record {
+    missing-exactly = λ k. Iff·trans (found (missing k)) (Iff·trans (of-missing a b c d k) (missing-iff vs k));
+    clash-exactly = λ k. Iff·trans (found (clash k)) (Iff·trans (of-clash a b c d k) (Iff·and (not-missing-iff vs) (clash-iff vs k)));
+    fails-exactly = λ k. Iff·trans (found (fails (lit k))) (Iff·trans (of-fails a b c d k)
+        (Iff·and one-value (range-lowest (literalFails Π X) (2 * length vs) (λ i. Formula Π X (lit i) → ⊥) (λ i low. fails-iff Π X i) k)));
+    false-exactly = Iff·trans (found (fails falsum)) (Iff·trans (of-false a b c d)
+        (iff-and₃ one-value (none-fails-iff Π X (2 * length vs)) (false-fails-iff Π X)));
+    holds-exactly = Iff·trans (found holds) (Iff·trans (of-holds a b c d)
+        (Iff·trans (iff-and₃ one-value (none-fails-iff Π X (2 * length vs)) (false-iff Π X))
+        (λ h. (h .0, record { of-literals = h .1; of-falsum = h .2 }), λ h. (h .0, h .1 .of-literals, h .1 .of-falsum))));
+  }

@@ -1,0 +1,101 @@
+// Judging by the completion formulas: whether a set of literals satisfies the literal completion of a rule table. No derivation is
+// made: one pass through the table marks the heads that have a body that holds, and one through the literals compares them with
+// the set. It knows nothing of what atoms mean.
+mod heads;
+mod levels;
+
+use search::Found;
+ghost use mathlib.Core.Path.{_≡_};
+ghost use mathlib.Core.Option.{none};
+ghost use Prim.Native.Nat.{_≤_};
+ghost use lib.ListN.{length};
+ghost use Rattle.search.specs.Replies.{answered};
+ghost use Rattle.logic_programs.specs.Words.{badRule};
+ghost use Rattle.completion.specs.Findings.{finding};
+ghost use Rattle.completion.specs.Answers.{replyOf, answer, answerByLevels};
+ghost use Rattle.completion.specs.Internal.{testedOf, tested};
+ghost use Rattle.completion.specs.Meaning.{SaysFormulas, SaysLevels};
+
+// A refusal's number and place; or the first that holds: the lowest atom without a value, the lowest with both, the head word of
+// the first formula that fails, which is a literal's code, or 65535 for false, which comes last.
+pub enum Answer {
+    Refused(u8, usize),
+    Missing(usize),
+    Clash(usize),
+    Fails(usize),
+    Holds,
+}
+
+// Whether refusals 10, 11 and 12 let values and a table pass.
+enum Tested {
+    Refused(u8, usize),
+    Accepted,
+}
+
+// The first of refusals 10, 11 and 12 whose condition is met.
+fn test(values: &[u8], table: &[u16]) -> Tested
+    ensures { λ r. ⌜ testedOf r ≡ tested (now (values .entry)) (now (table .entry)) ⌝ }
+{
+    let atoms = values.len();
+    if 1024 < atoms {
+        return Tested::Refused(10, atoms);
+    }
+    if let Found::At(place) = rule_tables::values::bad_value(values) {
+        return Tested::Refused(11, place);
+    }
+    if let Found::At(place) = rule_tables::table::bad_rule(table, atoms) {
+        return Tested::Refused(12, place);
+    }
+    Tested::Accepted
+}
+
+// What is found of accepted values and an accepted table.
+fn judge(values: &[u8], table: &[u16]) -> Answer
+    requires { ⌜ length (now values) ≤ 1024 ⌝ }
+    requires { ⌜ badRule (length (now values)) (now table) ≡ none ⌝ }
+    ensures { λ r. ⌜ replyOf r ≡ answered (finding (now (values .entry)) (now (table .entry))) ⌝ }
+{
+    if let Found::At(atom) = rule_tables::values::first_with(values, 0) {
+        return Answer::Missing(atom);
+    }
+    if let Found::At(atom) = rule_tables::values::first_with(values, 3) {
+        return Answer::Clash(atom);
+    }
+    let held = heads::held_heads(table, values);
+    if let Found::At(word) = heads::first_failing(values, &held) {
+        return Answer::Fails(word);
+    }
+    if let Found::At(word) = heads::false_failing(&held) {
+        return Answer::Fails(word);
+    }
+    Answer::Holds
+}
+
+// The answer to value bytes, one an atom, and the words of a rule table. Nothing that is lent changes.
+pub fn check_completion(values: &[u8], table: &[u16]) -> Answer
+    ensures { λ r. ⌜ replyOf r ≡ answer (now (values .entry)) (now (table .entry)) ⌝ }
+    ensures { λ r. ⌜ SaysFormulas (now (values .entry)) (now (table .entry)) (replyOf r) ⌝ }
+{
+    let result = test(values, table);
+    match result {
+        Tested::Refused(number, place) => Answer::Refused(number, place),
+        Tested::Accepted => judge(values, table),
+    }
+}
+
+// The same with a level for each literal code, which show that the table is tight: then it holds exactly if the engine passes.
+pub fn check_by_levels(values: &[u8], table: &[u16], levels: &[u16]) -> Answer
+    ensures { λ r. ⌜ replyOf r ≡ answerByLevels (now (values .entry)) (now (table .entry)) (now (levels .entry)) ⌝ }
+    ensures { λ r. ⌜ SaysLevels (now (values .entry)) (now (table .entry)) (now (levels .entry)) (replyOf r) ⌝ }
+{
+    let result = test(values, table);
+    match result {
+        Tested::Refused(number, place) => Answer::Refused(number, place),
+        Tested::Accepted => {
+            if let Found::At(place) = levels::bad_levels(table, levels, values.len()) {
+                return Answer::Refused(13, place);
+            }
+            judge(values, table)
+        }
+    }
+}
