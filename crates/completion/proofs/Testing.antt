@@ -1,15 +1,12 @@
 -- The answer, from what the tests found, in the order in which the code makes them.
 -- Assumes nothing.
 use mathlib.Core.Path.{_≡_, refl, sym, _∙_}
-use mathlib.Core.Bool.{Bool, true, false, cond}
 use mathlib.Core.List.{List}
 use mathlib.Core.Option.{Option, none, some}
 use Prim.Native.Nat.{ℕ, _≤_, _<_}
 use native.Mathlib.Omega.{arith}
-use borrow.Author.Tests.{lt-ltb, le-ltb, ltb-false}
-use lib.Dec.{ltb}
+use borrow.Author.Tests.{lt-ltb, le-ltb}
 use lib.ListN.{length}
-use Rattle.search.proofs.Tests.{true-or-false}
 use Rattle.search.specs.Replies.{Reply, refused, answered, orRefuse}
 use Rattle.logic_programs.specs.Literals.{badValue}
 use Rattle.logic_programs.specs.Words.{badRule}
@@ -17,6 +14,7 @@ use Rattle.rule_tables.specs.Internal.{Sound}
 use Rattle.rule_tables.proofs.Walking.{accepted-sound}
 use Rattle.answer_sets.specs.Answers.{tooManyValues}
 use Rattle.answer_sets.specs.Demand2.{Accepted}
+use Rattle.answer_sets.proofs.Theorems.{few-values}
 use Rattle.completion.specs.Findings.{Finding, finding}
 use Rattle.completion.specs.LevelLists.{badLevels}
 use Rattle.completion.specs.Answers.{afterTests, answer, answerByLevels}
@@ -70,13 +68,6 @@ module _ (vs ws : List ℕ) where
   pub comes-next : {A : Type 0} (next : Reply A) → Accepted vs ws → next ≡ afterTests vs ws next
   comes-next next h = rw (h .0, h .1, h .2)
 
-  few-values : Accepted vs ws → length vs ≤ 1024
-  few-values h = go (ltb 1024 (length vs)) refl (h .0)
-    where
-      go : (b : Bool) → ltb 1024 (length vs) ≡ b → cond b (some (length vs)) none ≡ none → length vs ≤ 1024
-      go true t e = absurd (let z : _≡_ {A = ℕ} 0 1 = cc in omega arith)
-      go false f e = ltb-false 1024 (length vs) f
-
   -- the answers from there on
   pub says-refused : {number place : ℕ} → refused number place ≡ tested vs ws → refused number place ≡ answer vs ws
   unfolding answer
@@ -104,7 +95,7 @@ module _ (vs ws : List ℕ) where
 
   -- what the functions behind the tests need
   pub judge-ready : answered tt ≡ tested vs ws → (length vs ≤ 1024) × (badRule (length vs) ws ≡ none)
-  judge-ready e = let accepted = accepts e in (few-values accepted, accepted .2)
+  judge-ready e = let accepted = accepts e in (few-values vs (accepted .0), accepted .2)
 
   pub levels-ready : answered tt ≡ tested vs ws → (length vs ≤ 1024) × Sound ws
   levels-ready e = let ready = judge-ready e in (ready .0, accepted-sound (length vs) ws (ready .0) (ready .1))

@@ -1,9 +1,9 @@
 -- Demand 3, for every accepted description, an open horizon and every set with one value for each atom. The engine's part goes
--- through what the engine promises (demand 2: it passes exactly the answer sets), the history check's through the engine's. And what the functions
--- open to callers promise of it.
+-- through what the engine promises (demand 2: it passes exactly the answer sets), the history check's through the engine's, that
+-- of the completion formulas through Proposition 3. And what the functions open to callers promise of it.
 -- Assumes nothing.
 use mathlib.Core.Path.{_≡_, refl, sym, _∙_, ap}
-use mathlib.Core.Logic.{_↔_, ⊎-elim, Iff·trans}
+use mathlib.Core.Logic.{_↔_, ⊎-elim, Iff·trans, Iff·symm}
 use mathlib.Core.Bool.{Bool, false, cond}
 use mathlib.Core.List.{List}
 use mathlib.Core.Option.{none, some}
@@ -40,10 +40,13 @@ use Rattle.history.specs.Checks as history
 use Rattle.causal.specs.declared.Reading.{Reading}
 use Rattle.causal.specs.Verdicts.{path, causalVerdict}
 use Rattle.causal.specs.Readings as causal
-use Rattle.correctness.specs.Demand3.{Complete, PathOf, FourReadings, Demand3}
+use Rattle.completion.specs.Findings.{holds}
+use Rattle.completion.specs.Answers as completion
+use Rattle.completion.proofs.Theorems.{holds-answer-set}
+use Rattle.correctness.specs.Demand3.{Complete, PathOf, FiveReadings, Demand3}
 use Rattle.correctness.specs.Promises.{TranslatesExactly, PassesExactly, PathExactly}
 use Rattle.correctness.proofs.Reading.{causal-iff}
-use Rattle.correctness.proofs.Translated.{answer-set-iff-path}
+use Rattle.correctness.proofs.Translated.{translation-tight, answer-set-iff-path}
 
 -- a value that is 1 or 2 is no byte over 3, is not 0, and is one value
 fits-byte : (v : ℕ) → OneValue v → ltb 3 v ≡ false
@@ -95,6 +98,14 @@ module _ (d : Description) (ls : List Law) (lent : ℕ) (vs : List ℕ) (complet
   unfolding Demand2
   by-engine = Iff·trans (rw decoded at (demand-2 vs (tableFor d ls) accepted .passes-exactly)) by-answer-set
 
+  -- the published rules are tight, by their codes
+  by-completion : completion.answer vs (tableFor d ls) ≡ answered holds ↔ PathOf d ls vs
+  by-completion =
+      Iff·trans
+      (rw decoded at (holds-answer-set vs (tableFor d ls) accepted one (λ c. c)
+      (rw decoded (translation-tight (d .fluents) (d .actions) (d .horizon) (lawsOf d ls) (accepted-law d ls lent taken)))))
+      by-answer-set
+
   -- the words that the translation left at the front are those of the rules
   left-in-front : (old : List ℕ) → length (tableFor d ls) ≤ length old → take (length (tableFor d ls)) (tableAfter d ls lent old) ≡ tableFor d ls
   left-in-front old enough =
@@ -104,6 +115,10 @@ module _ (d : Description) (ls : List Law) (lent : ℕ) (vs : List ℕ) (complet
   by-translated : (old : List ℕ) → length (tableFor d ls) ≤ length old
       → engine.answer vs (take (length (tableFor d ls)) (tableAfter d ls lent old)) ≡ answered passes ↔ PathOf d ls vs
   by-translated old enough = rw (left-in-front old enough) by-engine
+
+  by-formulas : (old : List ℕ) → length (tableFor d ls) ≤ length old
+      → completion.answer vs (take (length (tableFor d ls)) (tableAfter d ls lent old)) ≡ answered holds ↔ PathOf d ls vs
+  by-formulas old enough = rw (left-in-front old enough) by-completion
 
   -- the history check adds nothing to the engine's verdict where every value is 1 or 2
   checked-engine : (room : ℕ) → length (tableFor d ls) ≤ room → history.checked d ls lent vs room ≡ history.ofEngine (engine.answer vs (tableFor d ls))
@@ -125,29 +140,35 @@ module _ (d : Description) (ls : List Law) (lent : ℕ) (vs : List ℕ) (complet
   by-causal : causal.reading d ls lent vs ≡ answered path ↔ PathOf d ls vs
   by-causal = Iff·trans (λ e. let v = read-verdict in cc, λ e. let v = read-verdict in cc) (causal-iff (d .fluents) (d .actions) (d .horizon) (lawsOf d ls) vs)
 
-  four-readings : FourReadings d ls lent vs
+  five-readings : FiveReadings d ls lent vs
   unfolding history.checked
-  four-readings = record {
+  five-readings = record {
     answer-set = by-answer-set;
     engine-passes = by-translated;
+    completion-holds = by-formulas;
     history-passes = by-history;
     history-refused = λ room short. rw (accepted-short d ls lent room taken horizon short) refl;
     causal-path = by-causal;
   }
 
 pub demand-3 : Demand3
-demand-3 d ls lent vs complete = four-readings d ls lent vs complete
+demand-3 d ls lent vs complete = five-readings d ls lent vs complete
 
 -- What functions promise of their own answers
 
 module _ (d : Description) (ls : List Law) (lent : ℕ) where
   pub translates-exactly : (old new : List ℕ) → new ≡ tableAfter d ls lent old → TranslatesExactly d ls lent old new
   unfolding TranslatesExactly
-  translates-exactly old new e vs complete enough = rw e (demand-3 d ls lent vs complete .engine-passes old enough)
+  translates-exactly old new e vs complete enough =
+      let five = demand-3 d ls lent vs complete in (rw e (five .engine-passes old enough), rw e (five .completion-holds old enough))
 
   pub passes-exactly : (vs : List ℕ) (room : ℕ) (r : Checked) → history.replyOf r ≡ history.checked d ls lent vs room → PassesExactly d ls lent vs room r
   unfolding PassesExactly
-  passes-exactly vs room r e complete enough = rw e (demand-3 d ls lent vs complete .history-passes room enough)
+  passes-exactly vs room r e complete enough =
+      rw e (by-path, Iff·trans by-path (Iff·symm (by-completion d ls lent vs complete)))
+    where
+      by-path : history.checked d ls lent vs room ≡ answered (history.judged passes) ↔ PathOf d ls vs
+      by-path = demand-3 d ls lent vs complete .history-passes room enough
 
   pub path-exactly : (vs : List ℕ) (r : Reading) → causal.replyOf r ≡ causal.reading d ls lent vs → PathExactly d ls lent vs r
   unfolding PathExactly

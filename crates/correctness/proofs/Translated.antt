@@ -83,8 +83,8 @@ no-parts : (level : ℕ → ℕ) (h : Head) → LowerParts level [] h
 no-parts level (lit c) = tt
 no-parts level falsum = tt
 
-translation-tight : (n m T : ℕ) (ls : List Law) → Each (Fits n m) ls → Tight (λ c. c) (translation n m T ls)
-translation-tight n m T ls fit =
+rules-tight : (n m T : ℕ) (ls : List Law) → Each (Fits n m) ls → Tight (λ c. c) (translation n m T ls)
+rules-tight n m T ls fit =
     each-rule (λ r. LowerParts (λ c. c) (r .plain) (r .head)) n m T ls .1 (
       each-map (λ l f. at-start (l .kind) l) ls fit,
       λ t b. each-map (λ l f. in-step t (l .kind) l (f .after-list)) ls fit,
@@ -108,6 +108,9 @@ translation-tight n m T ls fit =
         → LowerParts (λ c. c) ((stepRule N t k l) .plain) ((stepRule N t k l) .head)
     in-step t Static l low = no-parts (λ c. c) (headAt N (suc t) (l .head))
     in-step t Dynamic l low = earlier t (afterList l) (l .head) low
+
+pub translation-tight : (n m T : ℕ) (ls : List Law) → Each (λ l. lawFits n m l ≡ true) ls → Tight (λ c. c) (translation n m T ls)
+translation-tight n m T ls laws-fit = rules-tight n m T ls (each-map (λ l e. law-fits n m l e) ls laws-fit)
 
 step-head : (N t : ℕ) (k : Kind) (l : Law) → (stepRule N t k l) .head ≡ headAt N (suc t) (l .head)
 step-head N t Static l = refl
@@ -305,7 +308,7 @@ module _ (n m T : ℕ) (ls : List Law) (vs : List ℕ)
 
   pub answer-set-iff-path : AnswerSet (translation n m T ls) (setOf vs) ↔ Path n m T ls vs
   answer-set-iff-path =
-      Iff·trans (proposition-4 (λ c. c) Π (translation-tight n m T ls fit) X)
+      Iff·trans (proposition-4 (λ c. c) Π (translation-tight n m T ls laws-fit) X)
       (Iff·trans (
         λ h. let laws = closed-iff .0 (h .1) in (laws .0, λ t b. (laws .1 t b, supported-supplied (h .2) t b)),
         λ h. (consistent, closed-iff .1 (h .0, λ t b. h .1 t b .0), supplied-supported (λ t b. h .1 t b .1)),

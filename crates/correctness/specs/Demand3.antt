@@ -1,6 +1,6 @@
 -- Demand 3: one claim about a whole history, its horizon left open. The published translation, the engine on the words
--- that the translation left, the history check and the causal reading each pass a set exactly if it is a path of causally
--- explained transitions.
+-- that the translation left, the completion formulas of those words, the history check and the causal reading each pass a set
+-- exactly if it is a path of causally explained transitions.
 -- Assumes nothing.
 use mathlib.Core.Path.{_≡_}
 use mathlib.Core.Logic.{_↔_}
@@ -14,6 +14,8 @@ use Rattle.logic_programs.specs.Literals.{OneValue, setOf}
 use Rattle.logic_programs.specs.AnswerSets.{AnswerSet}
 use Rattle.answer_sets.specs.Verdicts.{passes}
 use Rattle.answer_sets.specs.Answers as engine
+use Rattle.completion.specs.Findings.{holds}
+use Rattle.completion.specs.Answers as completion
 use Rattle.description.specs.declared.Law.{Law}
 use Rattle.description.specs.declared.Description.{Description}
 use Rattle.description.specs.Laws.{lawsOf}
@@ -37,13 +39,16 @@ pub record Complete (d : Description) (ls : List Law) (lent : ℕ) (vs : List �
 abbrev pub PathOf : Description → List Law → List ℕ → Type 0
 PathOf d ls vs = Path (d .fluents) (d .actions) (d .horizon) (lawsOf d ls) vs
 
--- each of the four readings passes the set exactly if it is a path
-pub record FourReadings (d : Description) (ls : List Law) (lent : ℕ) (vs : List ℕ) : Type 0 where
+-- each of the five readings passes the set exactly if it is a path
+pub record FiveReadings (d : Description) (ls : List Law) (lent : ℕ) (vs : List ℕ) : Type 0 where
   -- 000, Proposition 1
   pub answer-set : AnswerSet (rulesFor d ls) (setOf vs) ↔ PathOf d ls vs
   -- the translated table: the words left at the front of a table that is long enough, whatever stood there before
   pub engine-passes : (old : List ℕ) → length (tableFor d ls) ≤ length old
       → engine.answer vs (take (length (tableFor d ls)) (tableAfter d ls lent old)) ≡ answered passes ↔ PathOf d ls vs
+  -- the completion formulas of the same words
+  pub completion-holds : (old : List ℕ) → length (tableFor d ls) ≤ length old
+      → completion.answer vs (take (length (tableFor d ls)) (tableAfter d ls lent old)) ≡ answered holds ↔ PathOf d ls vs
   -- for every table that is long enough; else the refusal is 9
   pub history-passes : (room : ℕ) → length (tableFor d ls) ≤ room → history.checked d ls lent vs room ≡ answered (history.judged passes) ↔ PathOf d ls vs
   pub history-refused : (room : ℕ) → room < length (tableFor d ls) → history.checked d ls lent vs room ≡ refused 9 (length (tableFor d ls))
@@ -51,4 +56,4 @@ pub record FourReadings (d : Description) (ls : List Law) (lent : ℕ) (vs : Lis
 
 -- for all descriptions, law runs, numbers lent and values
 abbrev pub Demand3 : Type 0
-Demand3 = (d : Description) (ls : List Law) (lent : ℕ) (vs : List ℕ) → Complete d ls lent vs → FourReadings d ls lent vs
+Demand3 = (d : Description) (ls : List Law) (lent : ℕ) (vs : List ℕ) → Complete d ls lent vs → FiveReadings d ls lent vs

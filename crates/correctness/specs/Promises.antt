@@ -9,6 +9,8 @@ use lib.ListN.{length, take}
 use Rattle.search.specs.Replies.{answered}
 use Rattle.answer_sets.specs.Verdicts.{passes}
 use Rattle.answer_sets.specs.Answers as engine
+use Rattle.completion.specs.Findings.{holds}
+use Rattle.completion.specs.Answers as completion
 use Rattle.description.specs.declared.Law.{Law}
 use Rattle.description.specs.declared.Description.{Description}
 use Rattle.translation.specs.Translated.{tableFor}
@@ -19,17 +21,21 @@ use Rattle.causal.specs.Verdicts.{path}
 use Rattle.causal.specs.Readings as causal
 use Rattle.correctness.specs.Demand3.{Complete, PathOf}
 
--- of a translation that found the old table and left the new one: the engine passes a set on the words in front exactly if it
--- is a path; for a table that was long enough, else the refusal is 9
+-- of a translation that found the old table and left the new one: on the words in front the engine passes a set exactly if it
+-- is a path, and the completion formulas hold exactly then; for a table that was long enough, else the refusal is 9
 unfoldable pub TranslatesExactly : Description → List Law → ℕ → List ℕ → List ℕ → Type 0
 TranslatesExactly d ls lent old new =
     (vs : List ℕ) → Complete d ls lent vs → length (tableFor d ls) ≤ length old
-    → engine.answer vs (take (length (tableFor d ls)) new) ≡ answered passes ↔ PathOf d ls vs
+    → (engine.answer vs (take (length (tableFor d ls)) new) ≡ answered passes ↔ PathOf d ls vs)
+    × (completion.answer vs (take (length (tableFor d ls)) new) ≡ answered holds ↔ PathOf d ls vs)
 
--- of a history check's answer: for a table that is long enough; else the refusal is 9
+-- of a history check's answer: passes exactly if the set is a path, and exactly if the completion formulas hold on the words
+-- that it leaves; for a table that is long enough, else the refusal is 9
 unfoldable pub PassesExactly : Description → List Law → ℕ → List ℕ → ℕ → Checked → Type 0
 PassesExactly d ls lent vs room r =
-    Complete d ls lent vs → length (tableFor d ls) ≤ room → history.replyOf r ≡ answered (history.judged passes) ↔ PathOf d ls vs
+    Complete d ls lent vs → length (tableFor d ls) ≤ room
+    → (history.replyOf r ≡ answered (history.judged passes) ↔ PathOf d ls vs)
+    × (history.replyOf r ≡ answered (history.judged passes) ↔ completion.answer vs (tableFor d ls) ≡ answered holds)
 
 -- of a causal reading's answer
 unfoldable pub PathExactly : Description → List Law → ℕ → List ℕ → Reading → Type 0

@@ -5,20 +5,16 @@ use mathlib.Core.Logic.{_↔_, Iff·trans}
 use mathlib.Core.List.{List}
 use Prim.Native.Nat.{ℕ, _+_, _*_, _%_, _≤_, _<_}
 use native.Mathlib.Omega.{arith}
-use borrow.Author.Tests.{ltb-false}
-use mathlib.Core.Bool.{Bool, true, false, cond}
-use mathlib.Core.Option.{Option, none, some}
-use lib.Dec.{ltb}
 use lib.ListN.{length}
 use Rattle.search.specs.Search.{Lowest}
 use Rattle.search.specs.Replies.{Reply, refused, answered}
 use Rattle.logic_programs.specs.Literals.{setOf}
 use Rattle.answer_sets.specs.Verdicts.{Verdict, clash, broken, unfounded, passes, verdict}
 use Rattle.logic_programs.specs.Words.{rulesOf, badRule}
-use Rattle.answer_sets.specs.Answers.{tooManyValues, answer}
+use Rattle.answer_sets.specs.Answers.{answer}
 use Rattle.answer_sets.specs.Demand2.{Accepted, Judged, Demand2}
 use Rattle.answer_sets.proofs.Decoding.{accepted-count}
-use Rattle.answer_sets.proofs.Theorems.{accepted-judged}
+use Rattle.answer_sets.proofs.Theorems.{few-values, accepted-judged}
 use Rattle.answer_codes.specs.Codes.{coded, replyCode, verdictCode}
 use Rattle.huntyghai.specs.SetCodes.{Numbered, SetNumbered}
 
@@ -33,13 +29,6 @@ same-value k x y p q e =
 other-code : (k j x y : ℕ) → k < 256 → j < 256 → coded k x ≡ coded j y → k ≡ j
 unfolding coded
 other-code k j x y p q e = omega (arith, e)
-
-few-values : (vs : List ℕ) → tooManyValues vs ≡ none → length vs ≤ 1024
-few-values vs e = go (ltb 1024 (length vs)) refl e
-  where
-    go : (b : Bool) → ltb 1024 (length vs) ≡ b → cond b (some (length vs)) none ≡ none → length vs ≤ 1024
-    go true q h = absurd (let z : _≡_ {A = ℕ} 0 1 = cc in omega arith)
-    go false q h = ltb-false 1024 (length vs) q
 
 -- the value that a verdict names is within bounds, so a number below the bound tells the verdict
 abbrev Small : Verdict → Type 0
