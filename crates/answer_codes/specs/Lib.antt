@@ -1,2 +1,3 @@
 -- Answers as numbers.
 pub mod Codes
+pub mod FormulaCodes

@@ -7,11 +7,13 @@ use translation::Translated;
 ghost use mathlib.Core.Path.{_≡_};
 ghost use Prim.Native.Nat.{_<_};
 ghost use Rattle.answer_sets.specs.Answers;
+ghost use Rattle.completion.specs.Answers as completed;
 ghost use Rattle.translation.specs.Translated.{outcomeOf};
 ghost use Rattle.history.specs.Checks;
 ghost use Rattle.causal.specs.Readings;
 ghost use Rattle.history_reader.specs.Histories.{historyReplyOf};
 ghost use Rattle.answer_codes.specs.Codes.{coded, pair, replyCode, verdictCode, findingCode, causalCode, writtenCode, readCode};
+ghost use Rattle.answer_codes.specs.FormulaCodes.{formulaCode};
 
 // A code, and 256 times a value of up to 56 bits.
 pub fn number(code: u8, value: usize) -> u64
@@ -52,6 +54,19 @@ pub fn of_checked(checked: Checked) -> u64
         Checked::Broken(rule) => number(66, rule),
         Checked::Unfounded(code) => number(67, code),
         Checked::Passes => number(64, 0),
+    }
+}
+
+// The answer by the completion formulas: 65, 68, 72 and 73.
+pub fn of_completion(said: completion::Answer) -> u64
+    ensures { λ r. ⌜ r ≡ replyCode formulaCode (completed.replyOf said) ⌝ }
+{
+    match said {
+        completion::Answer::Refused(k, place) => number(k, place),
+        completion::Answer::Missing(atom) => number(68, atom),
+        completion::Answer::Clash(atom) => number(65, atom),
+        completion::Answer::Fails(word) => number(73, word),
+        completion::Answer::Holds => number(72, 0),
     }
 }
 

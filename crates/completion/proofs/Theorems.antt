@@ -32,7 +32,7 @@ use Rattle.completion.proofs.Formulas.{by-formulas}
 use Rattle.completion.proofs.Tightness.{not-above-iff, tight-iff, completion-answer-set}
 
 module _ (vs ws : List ℕ) (accepted : Accepted vs ws) where
-  answered-finding : answer vs ws ≡ answered (finding vs ws)
+  pub answered-finding : answer vs ws ≡ answered (finding vs ws)
   unfolding answer
   answered-finding = sym (comes-next vs ws (answered (finding vs ws)) accepted)
 
@@ -69,9 +69,18 @@ module _ (vs ws levels : List ℕ) (accepted : Accepted vs ws) where
   lowest : (i : ℕ) → rules ≡ some i ↔ Lowest (NotAbove levels Π) (length Π) i
   lowest = first-lowest (λ r. not (standsAbove levels r)) noRule Π (length Π) refl (NotAbove levels Π) (λ i b. not-above-iff levels (getD Π i noRule))
 
-  next : reply ≡ orRefuse (badLevels n ws levels) 13 (answered (finding vs ws))
+  pub next : reply ≡ orRefuse (badLevels n ws levels) 13 (answered (finding vs ws))
   unfolding answerByLevels
   next = sym (comes-next vs ws (orRefuse (badLevels n ws levels) 13 (answered (finding vs ws))) accepted)
+
+  -- a place that refusal 13 names: that of the count, or a rule's
+  pub place-below : (k : ℕ) → badLevels n ws levels ≡ some k → k < 65536
+  unfolding badLevels
+  place-below k e = go (eqb (length levels) (2 * n)) refl
+    where
+      go : (b : Bool) → eqb (length levels) (2 * n) ≡ b → k < 65536
+      go true t = omega (arith, lowest k .0 (rw t at e) .0, accepted-count (length vs) ws (accepted .2))
+      go false f = let w = rw f at e in let same : k ≡ 65535 = cc in omega arith
 
   -- the count is wrong, or the rules decide
   counted : {b : Bool} → eqb (length levels) (2 * n) ≡ b

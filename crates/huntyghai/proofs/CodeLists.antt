@@ -11,9 +11,11 @@ use lib.Dec.{eqb}
 use lib.ListN.{length}
 use Rattle.search.specs.Search.{Each, all}
 use Rattle.search.specs.Replies.{Reply, refused, answered}
-use Rattle.search.proofs.Tests.{not-both, or-iff}
+use Rattle.search.proofs.Tests.{not-both, or-iff, all-each}
 use Rattle.answer_sets.specs.Verdicts.{Verdict, clash, broken, unfounded, passes}
 use Rattle.answer_sets.specs.Answers.{answer}
+use Rattle.completion.specs.Findings as formulas
+use Rattle.completion.specs.Answers as completed
 use Rattle.translation.specs.Translated.{Written, written, outcome}
 use Rattle.history.specs.Checks.{Finding, missing, judged, checked}
 use Rattle.causal.specs.Verdicts.{Causal, contradicted, uncaused, path}
@@ -26,6 +28,7 @@ use Rattle.refusals.specs.Refusals.{among, RefusedBy}
 use Rattle.refusals.proofs.Readers.{among-more}
 use Rattle.refusals.proofs.Checks.{which-refusals}
 use Rattle.answer_codes.specs.Codes.{coded, replyCode, verdictCode, findingCode, causalCode, writtenCode, readCode}
+use Rattle.answer_codes.specs.FormulaCodes.{formulaCode}
 use Rattle.huntyghai.specs.Texts.{translatedTaken, translatedText, checkedTaken, checkedText, readingOf, readingOfInput}
 use Rattle.huntyghai.specs.CodeLists.{CodeAmong}
 
@@ -61,6 +64,36 @@ set-codes vs ws =
     of (clash a) = listed engineCodes 65 a (omega arith) refl
     of (broken r) = listed engineCodes 66 r (omega arith) refl
     of (unfounded c) = listed engineCodes 67 c (omega arith) refl
+
+abbrev pub completionCodes : List ℕ
+completionCodes = 10 ∷ 11 ∷ 12 ∷ 65 ∷ 68 ∷ 72 ∷ 73 ∷ []
+
+abbrev pub levelCodes : List ℕ
+levelCodes = 10 ∷ 11 ∷ 12 ∷ 13 ∷ 65 ∷ 68 ∷ 72 ∷ 73 ∷ []
+
+-- the codes of what is found by the formulas are in every list that has these four
+formula-codes : (codes : List ℕ) → all (λ c. among c codes) (65 ∷ 68 ∷ 72 ∷ 73 ∷ []) ≡ true → (f : formulas.Finding) → CodeAmong codes (formulaCode f)
+formula-codes codes within f = of f
+  where
+    each : Each (λ c. among c codes ≡ true) (65 ∷ 68 ∷ 72 ∷ 73 ∷ [])
+    each = all-each (λ c. among c codes) (65 ∷ 68 ∷ 72 ∷ 73 ∷ []) .0 within
+
+    of : (g : formulas.Finding) → CodeAmong codes (formulaCode g)
+    of (formulas.missing a) = listed codes 68 a (omega arith) (each .1 .0)
+    of (formulas.clash a) = listed codes 65 a (omega arith) (each .0)
+    of (formulas.fails h) = listed codes 73 _ (omega arith) (each .1 .1 .1 .0)
+    of formulas.holds = listed codes 72 0 (omega arith) (each .1 .1 .0)
+
+pub completion-codes : (vs ws : List ℕ) → CodeAmong completionCodes (replyCode formulaCode (completed.answer vs ws))
+completion-codes vs ws =
+    reply-among (10 ∷ 11 ∷ 12 ∷ []) completionCodes formulaCode (completed.answer vs ws) (omega arith, (omega arith, (omega arith, tt))) refl
+    (which-refusals .completion vs ws) (λ f _. formula-codes completionCodes refl f)
+
+pub level-codes : (vs ws levels : List ℕ) → CodeAmong levelCodes (replyCode formulaCode (completed.answerByLevels vs ws levels))
+level-codes vs ws levels =
+    reply-among (10 ∷ 11 ∷ 12 ∷ 13 ∷ []) levelCodes formulaCode (completed.answerByLevels vs ws levels)
+    (omega arith, (omega arith, (omega arith, (omega arith, tt)))) refl
+    (which-refusals .levels vs ws levels) (λ f _. formula-codes levelCodes refl f)
 
 six-small : Each (λ (x : ℕ). x < 256) (1 ∷ 2 ∷ 3 ∷ 4 ∷ 5 ∷ 6 ∷ [])
 six-small = (omega arith, (omega arith, (omega arith, (omega arith, (omega arith, (omega arith, tt))))))

@@ -1,3 +1,4 @@
 pub mod Texts
 pub mod SetCodes
+pub mod FormulaNumbers
 pub mod CodeLists

@@ -14,19 +14,19 @@ use Rattle.logic_programs.specs.Words.{rulesOf, badRule}
 use Rattle.answer_sets.specs.Answers.{answer}
 use Rattle.answer_sets.specs.Demand2.{Accepted, Judged, Demand2}
 use Rattle.answer_sets.proofs.Decoding.{accepted-count}
-use Rattle.answer_sets.proofs.Theorems.{few-values, accepted-judged}
+use Rattle.answer_sets.proofs.Theorems.{few-values, accepted-judged, demand-2}
 use Rattle.answer_codes.specs.Codes.{coded, replyCode, verdictCode}
 use Rattle.huntyghai.specs.SetCodes.{Numbered, SetNumbered}
 
 -- equal numbers have equal codes and, below 2 to the 56, equal values
-same-value : (k x y : ℕ) → x < 72057594037927936 → y < 72057594037927936 → coded k x ≡ coded k y → x ≡ y
+pub same-value : (k x y : ℕ) → x < 72057594037927936 → y < 72057594037927936 → coded k x ≡ coded k y → x ≡ y
 unfolding coded
 same-value k x y p q e =
     let low : x % 72057594037927936 ≡ x = omega arith in
     let high : y % 72057594037927936 ≡ y = omega arith in
     omega (arith, e, low, high)
 
-other-code : (k j x y : ℕ) → k < 256 → j < 256 → coded k x ≡ coded j y → k ≡ j
+pub other-code : (k j x y : ℕ) → k < 256 → j < 256 → coded k x ≡ coded j y → k ≡ j
 unfolding coded
 other-code k j x y p q e = omega (arith, e)
 
@@ -118,3 +118,8 @@ module _ (vs ws : List ℕ) (number : ℕ) (is : number ≡ replyCode verdictCod
 pub set-numbered : (vs ws : List ℕ) (number : ℕ) → number ≡ replyCode verdictCode (answer vs ws) → Demand2 vs ws (answer vs ws) → SetNumbered vs ws number
 unfolding SetNumbered
 set-numbered vs ws number is promised accepted = numbered vs ws number is promised accepted
+
+-- the engine's number is that of passes exactly if it passes
+pub passes-told : (vs ws : List ℕ) → Accepted vs ws → replyCode verdictCode (answer vs ws) ≡ coded 64 0 ↔ answer vs ws ≡ answered passes
+passes-told vs ws accepted =
+    told vs ws (replyCode verdictCode (answer vs ws)) refl (demand-2 vs ws) accepted passes (tells-passes (verdict (length vs) (rulesOf ws) (setOf vs)))

@@ -8,12 +8,15 @@ ghost use Prim.Native.Nat.{_≤_};
 ghost use lib.ListN.{length};
 ghost use lib.Seq.{sets};
 ghost use Rattle.answer_sets.specs.Answers.{answer};
+ghost use Rattle.completion.specs.Answers as completed;
 ghost use Rattle.history_reader.specs.Histories.{readHistory, historyReplied, valuesLeft};
 ghost use Rattle.report.specs.Output.{output};
 ghost use Rattle.report.specs.Program.{Program};
 ghost use Rattle.answer_codes.specs.Codes.{replyCode, verdictCode, readCode};
+ghost use Rattle.answer_codes.specs.FormulaCodes.{formulaCode};
 ghost use Rattle.huntyghai.specs.Texts.{translatedText, tableOfText, checkedText, tableOfCheck, readingOfInput};
 ghost use Rattle.huntyghai.specs.SetCodes.{SetNumbered};
+ghost use Rattle.huntyghai.specs.FormulaNumbers.{CompletionNumbered, LevelsNumbered};
 ghost use Rattle.huntyghai.specs.CodeLists.{CodeAmong};
 
 // What the program check prints for an input, as far as the buffer goes; the result is the whole output's length, at most 400.
@@ -34,6 +37,26 @@ pub extern "C" fn huntyghai_check_set(values: &[u8], table: &[u16]) -> u64
     ensures { λ r. ⌜ CodeAmong (10 ∷ 11 ∷ 12 ∷ 64 ∷ 65 ∷ 66 ∷ 67 ∷ []) r ⌝ }
 {
     answer_codes::of_answer(answer_sets::check_set(values, table))
+}
+
+// The answer by the completion formulas to values and a table.
+#[no_mangle]
+pub extern "C" fn huntyghai_check_completion(values: &[u8], table: &[u16]) -> u64
+    ensures { λ r. ⌜ r ≡ replyCode formulaCode (completed.answer (now (values .entry)) (now (table .entry))) ⌝ }
+    ensures { λ r. ⌜ CompletionNumbered (now (values .entry)) (now (table .entry)) r ⌝ }
+    ensures { λ r. ⌜ CodeAmong (10 ∷ 11 ∷ 12 ∷ 65 ∷ 68 ∷ 72 ∷ 73 ∷ []) r ⌝ }
+{
+    answer_codes::of_completion(completion::check_completion(values, table))
+}
+
+// The same with a level for each literal code.
+#[no_mangle]
+pub extern "C" fn huntyghai_check_by_levels(values: &[u8], table: &[u16], levels: &[u16]) -> u64
+    ensures { λ r. ⌜ r ≡ replyCode formulaCode (completed.answerByLevels (now (values .entry)) (now (table .entry)) (now (levels .entry))) ⌝ }
+    ensures { λ r. ⌜ LevelsNumbered (now (values .entry)) (now (table .entry)) (now (levels .entry)) r ⌝ }
+    ensures { λ r. ⌜ CodeAmong (10 ∷ 11 ∷ 12 ∷ 13 ∷ 65 ∷ 68 ∷ 72 ∷ 73 ∷ []) r ⌝ }
+{
+    answer_codes::of_completion(completion::check_by_levels(values, table, levels))
 }
 
 // Translates the description at the text's start.

@@ -1,4 +1,4 @@
--- The numbers by which the engine and, behind a description that was taken, the translation, the history check and the causal
+-- The numbers by which the engine, the judging by formulas and, behind a description that was taken, the translation, the history check and the causal
 -- reading refuse. Besides, what is known of a whole input that the readers take.
 -- Assumes nothing.
 use mathlib.Core.Path.{_≡_, refl, sym, ap, subst, _∙_}
@@ -10,12 +10,17 @@ use native.Mathlib.Omega.{arith}
 use borrow.Author.Tests.{eq-eqb, eqb-true}
 use lib.Dec.{eqb}
 use lib.ListN.{length}
-use Rattle.search.specs.Search.{Each, first}
+use Rattle.search.specs.Search.{Each, all, first}
 use Rattle.search.specs.Replies.{Reply, refused, answered, orElse, orRefuse}
-use Rattle.logic_programs.specs.Literals.{badValue}
-use Rattle.answer_sets.specs.Verdicts.{Verdict}
-use Rattle.logic_programs.specs.Words.{badRule}
+use Rattle.search.proofs.Tests.{all-each}
+use Rattle.logic_programs.specs.Literals.{setOf, badValue}
+use Rattle.answer_sets.specs.Verdicts.{Verdict, verdict}
+use Rattle.logic_programs.specs.Words.{rulesOf, badRule}
 use Rattle.answer_sets.specs.Answers.{tooManyValues, answer}
+use Rattle.completion.specs.Findings as findings
+use Rattle.completion.specs.LevelLists.{badLevels}
+use Rattle.completion.specs.Answers as completed
+use Rattle.completion.specs.Answers.{afterTests}
 use Rattle.description.specs.declared.Law.{Law}
 use Rattle.description.specs.declared.Description.{Description}
 use Rattle.description.specs.Laws.{lawsOf}
@@ -46,11 +51,27 @@ or-refused : {A : Type 0} (numbers : List ℕ) (o : Option ℕ) (number : ℕ) (
 or-refused numbers (some place) number next e h = e
 or-refused numbers none number next e h = h refl
 
+-- 10, 11 and 12 are tested, and what comes next refuses by one of the numbers too
+tests-by : {A : Type 0} (numbers : List ℕ) (vs ws : List ℕ) (next : Reply A) → all (λ k. among k numbers) (10 ∷ 11 ∷ 12 ∷ []) ≡ true → RefusedBy numbers next
+    → RefusedBy numbers (afterTests vs ws next)
+tests-by numbers vs ws next within h =
+    let (ten, (eleven, (twelve, _))) = all-each (λ k. among k numbers) (10 ∷ 11 ∷ 12 ∷ []) .0 within in
+    or-refused numbers (tooManyValues vs) 10 _ ten
+    (λ _. or-refused numbers (badValue vs) 11 _ eleven (λ _. or-refused numbers (badRule (length vs) ws) 12 _ twelve (λ _. h)))
+
 engine-by : (vs ws : List ℕ) → RefusedBy (10 ∷ 11 ∷ 12 ∷ []) (answer vs ws)
 unfolding answer
-engine-by vs ws =
-    or-refused (10 ∷ 11 ∷ 12 ∷ []) (tooManyValues vs) 10 _ refl
-    (λ _. or-refused (10 ∷ 11 ∷ 12 ∷ []) (badValue vs) 11 _ refl (λ _. or-refused (10 ∷ 11 ∷ 12 ∷ []) (badRule (length vs) ws) 12 _ refl (λ _. tt)))
+engine-by vs ws = tests-by (10 ∷ 11 ∷ 12 ∷ []) vs ws (answered (verdict (length vs) (rulesOf ws) (setOf vs))) refl tt
+
+completion-by : (vs ws : List ℕ) → RefusedBy (10 ∷ 11 ∷ 12 ∷ []) (completed.answer vs ws)
+unfolding completed.answer
+completion-by vs ws = tests-by (10 ∷ 11 ∷ 12 ∷ []) vs ws (answered (findings.finding vs ws)) refl tt
+
+levels-by : (vs ws levels : List ℕ) → RefusedBy (10 ∷ 11 ∷ 12 ∷ 13 ∷ []) (completed.answerByLevels vs ws levels)
+unfolding completed.answerByLevels
+levels-by vs ws levels =
+    tests-by (10 ∷ 11 ∷ 12 ∷ 13 ∷ []) vs ws _ refl
+    (or-refused (10 ∷ 11 ∷ 12 ∷ 13 ∷ []) (badLevels (length vs) ws levels) 13 (answered (findings.finding vs ws)) refl (λ _. tt))
 
 -- a description that was taken, with its own laws
 module _ (text : List ℕ) (d : Draft) (rest : List ℕ) (lines : ℕ) (is : described 64 text ≡ answered (read d rest lines)) where
@@ -137,6 +158,8 @@ module _ (input : List ℕ) (d : Draft) (rest : List ℕ) (lines : ℕ) (vs : Li
 pub which-refusals : WhichRefusals
 which-refusals = record {
   engine = engine-by;
+  completion = completion-by;
+  levels = levels-by;
   description = λ lent text. described-by lent text;
   history = history-by;
   input = input-by;

@@ -7,6 +7,7 @@ use Prim.Native.Nat.{ℕ, _≤_}
 use lib.Dec.{eqb}
 use Rattle.search.specs.Replies.{Reply, refused, answered}
 use Rattle.answer_sets.specs.Answers.{answer}
+use Rattle.completion.specs.Answers as completed
 use Rattle.translation.specs.Translated.{outcome}
 use Rattle.history.specs.Checks.{checked}
 use Rattle.causal.specs.Readings.{reading}
@@ -26,6 +27,8 @@ RefusedBy numbers (answered a) = Unit
 
 pub record WhichRefusals : Type 0 where
   pub engine : (values table : List ℕ) → RefusedBy (10 ∷ 11 ∷ 12 ∷ []) (answer values table)
+  pub completion : (values table : List ℕ) → RefusedBy (10 ∷ 11 ∷ 12 ∷ []) (completed.answer values table)
+  pub levels : (values table levels : List ℕ) → RefusedBy (10 ∷ 11 ∷ 12 ∷ 13 ∷ []) (completed.answerByLevels values table levels)
   pub description : (lent : ℕ) (text : List ℕ) → RefusedBy (1 ∷ 2 ∷ 3 ∷ 4 ∷ 5 ∷ 6 ∷ []) (described lent text)
   pub history : (text behind : List ℕ) (room : ℕ) → RefusedBy (1 ∷ 2 ∷ 3 ∷ 4 ∷ 5 ∷ 6 ∷ 7 ∷ 10 ∷ []) (readHistory text behind room)
   -- of a whole input: the buffer is as long as the atoms are many
