@@ -1,17 +1,21 @@
 //! The one number in which the library gives an answer.
 
 use crate::reading::causal::Causal;
+use crate::reading::completion::Completion;
 use crate::reading::engine::Verdict;
 use crate::reading::Refusal;
 
 /// Codes up to this one are refusals by that number; every other answer has a code above it.
 pub const LAST_REFUSAL: u8 = 63;
-/// Codes of the verdicts on a set, the history check's `missing` among them.
+/// Codes of the verdicts on a set, the history check's `missing` among them. The completion formulas share two of them.
 pub const PASSES: u8 = 64;
 pub const CLASH: u8 = 65;
 pub const BROKEN: u8 = 66;
 pub const UNFOUNDED: u8 = 67;
 pub const MISSING: u8 = 68;
+/// Codes of what the completion formulas say.
+pub const HOLDS: u8 = 72;
+pub const FAILS: u8 = 73;
 /// Codes of the causal reading's verdicts.
 pub const PATH: u8 = 80;
 pub const CONTRADICTED: u8 = 81;
@@ -74,6 +78,17 @@ impl From<Verdict> for Answer {
     }
 }
 
+impl From<Completion> for Answer {
+    fn from(completion: Completion) -> Self {
+        match completion {
+            Completion::Holds => Answer::new(HOLDS, 0),
+            Completion::Fails(code) => Answer::new(FAILS, usize::from(code)),
+            Completion::Missing(atom) => Answer::new(MISSING, atom),
+            Completion::Clash(atom) => Answer::new(CLASH, atom),
+        }
+    }
+}
+
 impl From<Causal> for Answer {
     fn from(causal: Causal) -> Self {
         match causal {
@@ -93,6 +108,8 @@ pub fn meaning(code: u8) -> &'static str {
         BROKEN => "broken",
         UNFOUNDED => "unfounded",
         MISSING => "missing",
+        HOLDS => "holds",
+        FAILS => "fails",
         PATH => "path",
         CONTRADICTED => "contradicted",
         UNCAUSED => "uncaused",

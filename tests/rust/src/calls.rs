@@ -1,10 +1,11 @@
-//! The six calls of the C header as a trait, and the independent reading behind it.
+//! The eight calls of the C header as a trait, and the independent reading behind it.
 //!
 //! Buffers are lent as the header lends them, so that a comparison can look at every byte a call leaves behind.
 
 use crate::answer::{Answer, READ};
 use crate::reading::causal::causal_reading;
 use crate::reading::check::check_history;
+use crate::reading::completion::{check_by_levels, check_completion};
 use crate::reading::description::read_description;
 use crate::reading::engine::check_set;
 use crate::reading::history::{read_lines, values_fit};
@@ -13,7 +14,7 @@ use crate::reading::report::{printed, with_history, Input};
 use crate::reading::translation::translate;
 use crate::reading::{Refusal, MAX_LAWS};
 
-/// The six calls.
+/// The eight calls.
 pub trait Calls {
     fn report(&self, input: &[u8], out: &mut [u8]) -> usize;
     fn check_set(&self, values: &[u8], table: &[u16]) -> Answer;
@@ -21,6 +22,8 @@ pub trait Calls {
     fn read_history(&self, description: &[u8], history: &[u8], values: &mut [u8]) -> Answer;
     fn check_history(&self, text: &[u8], values: &[u8], table: &mut [u16]) -> Answer;
     fn causal_reading(&self, input: &[u8]) -> Answer;
+    fn check_completion(&self, values: &[u8], table: &[u16]) -> Answer;
+    fn check_by_levels(&self, values: &[u8], table: &[u16], levels: &[u16]) -> Answer;
 }
 
 /// A reader of texts. All calls are made over it, so that a reader with a slip is a library with that slip, on which the
@@ -93,5 +96,13 @@ impl<R: Reader> Calls for R {
             let causal = causal_reading(&read.description, &read.values)?;
             Ok(Answer::from(causal))
         }))
+    }
+
+    fn check_completion(&self, values: &[u8], table: &[u16]) -> Answer {
+        settle(check_completion(values, table).map(Answer::from))
+    }
+
+    fn check_by_levels(&self, values: &[u8], table: &[u16], levels: &[u16]) -> Answer {
+        settle(check_by_levels(values, table, levels).map(Answer::from))
     }
 }

@@ -1,4 +1,4 @@
-//! The six functions of the C header, and safe calls of them.
+//! The eight functions of the C header, and safe calls of them.
 //!
 //! Only the programs that link the library include this file; it is no part of the package's own library.
 
@@ -28,6 +28,20 @@ extern "C" {
         table_length: usize,
     ) -> u64;
     fn huntyghai_causal_reading(input: *const u8, input_length: usize) -> u64;
+    fn huntyghai_check_completion(
+        values: *const u8,
+        values_length: usize,
+        table: *const u16,
+        table_length: usize,
+    ) -> u64;
+    fn huntyghai_check_by_levels(
+        values: *const u8,
+        values_length: usize,
+        table: *const u16,
+        table_length: usize,
+        levels: *const u16,
+        levels_length: usize,
+    ) -> u64;
 }
 
 /// The linked library.
@@ -116,5 +130,25 @@ impl Calls for Lent {
     fn causal_reading(&self, input: &[u8]) -> Answer {
         // SAFETY: as said at `Lent`.
         Answer::from_number(self.reading(input, |text| unsafe { huntyghai_causal_reading(text, input.len()) }))
+    }
+
+    fn check_completion(&self, values: &[u8], table: &[u16]) -> Answer {
+        // SAFETY: as said at `Lent`.
+        Answer::from_number(self.reading(values, |bytes| {
+            self.reading(table, |words| unsafe {
+                huntyghai_check_completion(bytes, values.len(), words, table.len())
+            })
+        }))
+    }
+
+    fn check_by_levels(&self, values: &[u8], table: &[u16], levels: &[u16]) -> Answer {
+        // SAFETY: as said at `Lent`. The three parts may overlap, for none is written to.
+        Answer::from_number(self.reading(values, |bytes| {
+            self.reading(table, |words| {
+                self.reading(levels, |heights| unsafe {
+                    huntyghai_check_by_levels(bytes, values.len(), words, table.len(), heights, levels.len())
+                })
+            })
+        }))
     }
 }

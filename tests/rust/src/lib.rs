@@ -8,6 +8,7 @@
 //! - `cargo test`: the contract's worked examples, its refusals, and slips that the comparison must find.
 //! - `cargo run --release --bin reading < INPUT`: what the reading prints where the program `check` prints its answer.
 //! - `cargo run --release --bin largest [HORIZON]`: the largest recipe, or a belt of some horizon.
+//! - `cargo run --release --bin completion_cases DIRECTORY`: the stored cases of the completion formulas, with answers.
 //! - `cargo run --release --bin compare [SEED [TEXTS [TABLES]]]`: the comparison, with the library linked.
 //! - `cargo run --release --bin benchmark [CHECK [PROGRAM=RECIPE ...]]`: times, with the library linked.
 //! - `cargo run --release --features causal_times --bin causal_benchmark`: times of the causal reading by itself.
@@ -19,6 +20,7 @@ pub mod answer;
 pub mod calls;
 pub mod clingo;
 pub mod compare;
+pub mod completion_cases;
 pub mod generate;
 pub mod measure;
 pub mod random;

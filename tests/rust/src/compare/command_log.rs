@@ -212,6 +212,14 @@ impl Calls for Library {
             _ => Reading.causal_reading(input),
         }
     }
+
+    fn check_completion(&self, values: &[u8], table: &[u16]) -> Answer {
+        Reading.check_completion(values, table)
+    }
+
+    fn check_by_levels(&self, values: &[u8], table: &[u16], levels: &[u16]) -> Answer {
+        Reading.check_by_levels(values, table, levels)
+    }
 }
 
 #[test]

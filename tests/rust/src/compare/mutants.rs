@@ -115,6 +115,14 @@ impl Calls for Mutant {
             _ => answer,
         }
     }
+
+    fn check_completion(&self, values: &[u8], table: &[u16]) -> Answer {
+        Reading.check_completion(values, table)
+    }
+
+    fn check_by_levels(&self, values: &[u8], table: &[u16], levels: &[u16]) -> Answer {
+        Reading.check_by_levels(values, table, levels)
+    }
 }
 
 fn small_run(slip: Slip) -> (bool, String) {

@@ -1,9 +1,11 @@
-//! Random inputs: descriptions, histories, texts at the limits, damaged texts, capitals, and ground rule tables.
+//! Random inputs: descriptions, histories, texts at the limits, damaged texts, capitals, and ground rule tables, also
+//! with levels.
 
 pub mod damage;
 pub mod descriptions;
 pub mod histories;
 pub mod letters;
+pub mod levels;
 pub mod limits;
 pub mod render;
 pub mod tables;

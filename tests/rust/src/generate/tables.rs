@@ -6,10 +6,10 @@ use crate::reading::{FALSE_HEAD, MAX_ATOMS, MAX_RULES};
 
 /// A rule that owns its parts.
 #[derive(Clone, Debug, Default)]
-struct Made {
-    head: u16,
-    negated: Vec<u16>,
-    plain: Vec<u16>,
+pub(super) struct Made {
+    pub(super) head: u16,
+    pub(super) negated: Vec<u16>,
+    pub(super) plain: Vec<u16>,
 }
 
 /// What sort of table a case is.
@@ -98,7 +98,7 @@ fn codes(random: &mut Random, atoms: usize, lengths: &[usize]) -> Vec<u16> {
 }
 
 /// A table's words.
-fn words(rules: &[Made]) -> Vec<u16> {
+pub(super) fn words(rules: &[Made]) -> Vec<u16> {
     let mut words = Vec::new();
     for rule in rules {
         words.extend([rule.head, rule.negated.len() as u16, rule.plain.len() as u16]);
@@ -168,9 +168,17 @@ fn spoil(random: &mut Random, values: &mut [u8]) {
     }
 }
 
+fn loops(random: &mut Random) -> (Vec<u8>, Vec<u16>) {
+    let (mut values, rules) = loop_rules(random);
+    if random.chance(1, 6) {
+        spoil(random, &mut values);
+    }
+    (values, words(&rules))
+}
+
 /// Loops of atoms that only support one another, some of them begun from outside. A set that holds a whole loop breaks
 /// no rule, so only the derivation can tell.
-fn loops(random: &mut Random) -> (Vec<u8>, Vec<u16>) {
+pub(super) fn loop_rules(random: &mut Random) -> (Vec<u8>, Vec<Made>) {
     let atoms = random.between(1, 40);
     let mut rules = Vec::new();
     let mut order: Vec<usize> = (0..atoms).collect();
@@ -188,10 +196,7 @@ fn loops(random: &mut Random) -> (Vec<u8>, Vec<u16>) {
         one_loop(random, members, started, &mut rules);
     }
     random.shuffle(&mut rules);
-    if random.chance(1, 6) {
-        spoil(random, &mut values);
-    }
-    (values, words(&rules))
+    (values, rules)
 }
 
 /// Each member from the one before it, the first from the last; a started loop has a rule for its first member too.
@@ -301,7 +306,7 @@ fn many_rules(random: &mut Random) -> (Vec<u8>, Vec<u16>) {
 }
 
 /// A good table with one word changed, words cut off, or words put behind it.
-fn damaged_table(random: &mut Random) -> (Vec<u8>, Vec<u16>) {
+pub(super) fn damaged_table(random: &mut Random) -> (Vec<u8>, Vec<u16>) {
     let (mut values, mut table) = sound(random, 12, 16);
     if table.is_empty() {
         table.extend([FALSE_HEAD, 0, 0]);
@@ -326,7 +331,7 @@ fn damaged_table(random: &mut Random) -> (Vec<u8>, Vec<u16>) {
 }
 
 /// A good or damaged table with values over 3, or with too many of them.
-fn damaged_values(random: &mut Random) -> (Vec<u8>, Vec<u16>) {
+pub(super) fn damaged_values(random: &mut Random) -> (Vec<u8>, Vec<u16>) {
     let (mut values, table) = if random.chance(1, 3) {
         damaged_table(random)
     } else {

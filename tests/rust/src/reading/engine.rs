@@ -26,12 +26,17 @@ pub struct Rule<'a> {
 
 /// Is the set held by the values an answer set of the table's rules? Conditions 10, 11 and 12 come first.
 pub fn check_set(values: &[u8], table: &[u16]) -> Result<Verdict, Refusal> {
+    let rules = accept(values, table)?;
+    Ok(verdict(values, &rules))
+}
+
+/// Conditions 10, 11 and 12 on values and a given table; the table's rules if none is met.
+pub fn accept<'a>(values: &[u8], table: &'a [u16]) -> Result<Vec<Rule<'a>>, Refusal> {
     if values.len() > MAX_ATOMS {
         return Err(Refusal::new(10, values.len()));
     }
     values_known(values)?;
-    let rules = read_rules(table, values.len())?;
-    Ok(verdict(values, &rules))
+    read_rules(table, values.len())
 }
 
 /// Condition 11: no byte is over 3.

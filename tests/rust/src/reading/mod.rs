@@ -1,7 +1,9 @@
-//! The contract, read independently: text, translation, engine, history check, causal reading and printed output.
+//! The contract, read independently: text, translation, engine, completion formulas, history check, causal reading and
+//! printed output.
 
 pub mod causal;
 pub mod check;
+pub mod completion;
 pub mod description;
 pub mod engine;
 pub mod history;
@@ -16,6 +18,8 @@ pub mod translation;
 mod command_log;
 #[cfg(test)]
 mod examples;
+#[cfg(test)]
+mod formulas;
 #[cfg(test)]
 mod letter_case;
 #[cfg(test)]
