@@ -7,6 +7,10 @@ each, clingo is asked twice: whether the set is an answer set of the program,
 which is written here from the description alone, and, by a second program that
 takes rules and set as facts, which verdict the contract gives. The two must
 agree on what passes, and the program `solver_cases` must give the same verdict.
+Where each atom has one value, the second program also says whether the
+completion formulas hold, or which is the first that fails, 65535 for that of
+false; and `solver_cases` writes that behind the verdict. They must hold of what
+passes, and of no other recipe.
 
     compare.py                       3,000 recipes and 3,000 tables
     compare.py --recipes N --tables M --seed S --program PATH
@@ -43,6 +47,7 @@ from table_cases import random_tables
 ROOT = os.path.dirname(os.path.dirname(os.path.dirname(os.path.abspath(__file__))))
 PROGRAM = os.path.join(ROOT, "target", "bin", "solver_cases")
 VERDICTS = ["passes", "broken", "unfounded", "missing", "clash"]
+FORMULAS = ["holds", "holds and does not pass", "a literal fails", "only false fails", "not asked"]
 
 BATCH_BYTES = 65000  # each file of one run of the program stays below this
 STORE_BYTES = 64000  # so does each stored file
@@ -73,20 +78,33 @@ def show_case(title, case, lines):
     print("---")
 
 
+def formulas_agree(case, judged):
+    """What passes meets the formulas; a recipe that meets them passes, for its
+    rules can be levelled by time, and a table's often cannot."""
+    passes, holds = judged.verdict == "passes", judged.formulas == "holds"
+    if judged.formulas is None:
+        return True
+    return passes == holds if case.program.history else holds or not passes
+
+
 def judge(cases):
-    """Clingo's verdict lines; None if its two readings or a statement differ."""
-    lines = solver.verdicts([(case.program, case.codes) for case in cases])
-    for case, line in zip(cases, lines):
-        if (line == "passes") != should_pass(case):
+    """Clingo's lines; None if its two readings, a statement or the formulas differ."""
+    found = solver.judge([(case.program, case.codes) for case in cases])
+    for case, judged in zip(cases, found):
+        said = "verdict program: " + judged.line()
+        if (judged.verdict == "passes") != should_pass(case):
             reading = "is an answer set" if case.answer_set else "is no answer set"
             show_case("the two readings by clingo differ", case,
-                      ["verdict program: " + line, "plain program: the set " + reading])
+                      [said, "plain program: the set " + reading])
             return None
-        if not agrees_with_statement(case.stated, line):
+        if not agrees_with_statement(case.stated, judged.verdict):
             show_case("clingo's verdict is not the stated one", case,
-                      ["verdict program: " + line, "stated: " + case.stated])
+                      [said, "stated: " + case.stated])
             return None
-    return lines
+        if not formulas_agree(case, judged):
+            show_case("clingo's verdict and the formulas differ", case, [said])
+            return None
+    return [judged.line() for judged in found]
 
 
 # ---------------------------------------------------------------- the program
@@ -230,11 +248,21 @@ def false_heads(case):
     return "none" if not words else "false" if words == {"false"} else "with capitals"
 
 
+def formulas(line):
+    """What a line says of the completion formulas, in words."""
+    if line.endswith("holds"):
+        return "holds" if line.startswith("passes") else "holds and does not pass"
+    if "fails" in line:
+        return "only false fails" if line.endswith(" 65535") else "a literal fails"
+    return "not asked"
+
+
 def report(recipes, recipe_lines, tables, table_lines):
     for kind, cases, lines in (("recipes", recipes, recipe_lines), ("tables", tables, table_lines)):
         groups = [case.group for case in cases]
         print("%s: %d" % (kind, len(cases)))
         print("  verdicts: " + tally((line.split()[0] for line in lines), VERDICTS))
+        print("  formulas: " + tally(map(formulas, lines), FORMULAS))
         print("  made: " + tally(groups, sorted(set(groups))))
         print("  different programs: %d" % len({id(case.program) for case in cases}))
         print("  atoms: " + tally_ranges([case.program.atoms for case in cases],

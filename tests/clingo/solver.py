@@ -1,10 +1,12 @@
 """Calls of clingo: answer sets of a plain program, whether given sets are
 answer sets, sets that are closed but perhaps not least, and the verdicts by a
-second program that is handed the rules and the sets as facts.
+second program that is handed the rules and the sets as facts. That program also
+says what the completion formulas make of each set with one value an atom.
 """
 
 import shutil
 import subprocess
+from typing import NamedTuple, Optional
 
 from language import FALSE_HEAD
 
@@ -12,6 +14,11 @@ from language import FALSE_HEAD
 # plain parts; neg(P,R,L), pos(P,R,I,L): its parts; case(C,P): case C is a set
 # for program P; in(C,L): literal code L is in that set; history(C): every atom
 # below size(P,N) must have a value.
+#
+# The formulas are asked for a set that gives each atom just one value. That of a
+# literal fails where the literal is in the set and no body for it is met, or the
+# other way round; that of false where a body for it is met. A body is met if its
+# plain parts and the complements of its negated parts are in the set.
 VERDICT_PROGRAM = """
 dropped(C,R) :- case(C,P), in(C,L), neg(P,R,L).
 kept(C,R) :- case(C,P), rule(P,R,_,_), not dropped(C,R).
@@ -35,6 +42,21 @@ first(C,F) :- case(C,_), O = #min{ Q : rank(C,Q) }, order(F,O).
 verdict(C,F,N) :- first(C,F), N = #min{ M : fault(C,F,M) }.
 verdict(C,passes,0) :- case(C,_), not fault(C,_,_).
 #show verdict/3.
+
+literal(P,0..2*N-1) :- size(P,N), N > 0.
+one_value(C,A) :- case(C,P), size(P,N), A = 0..N-1, 1 = { in(C,2*A); in(C,2*A+1) }.
+asked(C) :- case(C,P), size(P,N), N = #count{ A : one_value(C,A) }.
+
+unmet(C,R) :- asked(C), case(C,P), pos(P,R,_,L), not in(C,L).
+unmet(C,R) :- asked(C), case(C,P), neg(P,R,L), not in(C,L^1).
+met(C,H) :- asked(C), case(C,P), rule(P,R,H,_), not unmet(C,R).
+fails(C,L) :- asked(C), case(C,P), literal(P,L), in(C,L), not met(C,L).
+fails(C,L) :- asked(C), case(C,P), literal(P,L), met(C,L), not in(C,L).
+fails(C,65535) :- met(C,none).
+
+formulas(C,fails,L) :- fails(C,_), L = #min{ M : fails(C,M) }.
+formulas(C,holds,0) :- asked(C), not fails(C,_).
+#show formulas/3.
 """
 
 # A call of the second program takes cases of about so many rule parts.
@@ -111,20 +133,39 @@ def case_facts(number, program_number, program, codes):
     return facts + ["in(%d,%d)." % (number, code) for code in sorted(codes)]
 
 
-def verdict_line(model, number_of_cases):
-    """The verdict atoms of one answer set as lines, in case order."""
-    lines = [None] * number_of_cases
+class Judged(NamedTuple):
+    """What the second program says of a case."""
+
+    verdict: str
+    formulas: Optional[str]  # None where some atom has no value or both
+
+    def line(self):
+        """The line the compared program is to write."""
+        return self.verdict if self.formulas is None else self.verdict + " " + self.formulas
+
+
+def said(model, name, number_of_cases):
+    """The atoms of one name in an answer set: for each case its word, with a
+    number but where there is nothing to name; None where there is no atom."""
+    found = [None] * number_of_cases
     for atom in model:
-        case, fault, place = atom[len("verdict("):-1].split(",")
-        if lines[int(case)] is not None:
-            raise RuntimeError("two verdicts for case " + case)
-        lines[int(case)] = fault if fault == "passes" else "%s %s" % (fault, place)
-    if None in lines:
-        raise RuntimeError("no verdict for case %d" % lines.index(None))
-    return lines
+        if atom.startswith(name + "("):
+            case, word, place = atom[len(name) + 1:-1].split(",")
+            if found[int(case)] is not None:
+                raise RuntimeError("two answers by %s for case %s" % (name, case))
+            found[int(case)] = word if word in ("passes", "holds") else "%s %s" % (word, place)
+    return found
 
 
-def verdict_batch(batch):
+def judged(model, number_of_cases):
+    """What one answer set says of each case, in case order."""
+    verdicts = said(model, "verdict", number_of_cases)
+    if None in verdicts:
+        raise RuntimeError("no verdict for case %d" % verdicts.index(None))
+    return list(map(Judged, verdicts, said(model, "formulas", number_of_cases)))
+
+
+def judge_batch(batch):
     facts, numbers = [], {}
     for number, (program, codes) in enumerate(batch):
         if id(program) not in numbers:
@@ -134,20 +175,20 @@ def verdict_batch(batch):
     found, _ = run(VERDICT_PROGRAM + "\n".join(facts) + "\n", ["--models=2"])
     if len(found) != 1:
         raise RuntimeError("the verdict program has %d answer sets" % len(found))
-    return verdict_line(found[0], len(batch))
+    return judged(found[0], len(batch))
 
 
 def weight(program):
     return 1 + program.atoms + sum(3 + len(rule[1]) + len(rule[2]) for rule in program.rules)
 
 
-def verdicts(pairs):
-    """The verdict lines of (program, set of codes) pairs, in order."""
-    lines, batch, load = [], [], 0
+def judge(pairs):
+    """What is said of (program, set of codes) pairs, in order."""
+    found, batch, load = [], [], 0
     for program, codes in pairs:
         batch.append((program, codes))
         load += weight(program)
         if load >= VERDICT_BATCH:
-            lines += verdict_batch(batch)
+            found += judge_batch(batch)
             batch, load = [], 0
-    return lines + (verdict_batch(batch) if batch else [])
+    return found + (judge_batch(batch) if batch else [])
