@@ -1,6 +1,8 @@
 //! The comparison of a library's calls with the independent reading.
 
 pub mod brute;
+pub mod completion;
+pub mod formulas;
 pub mod letters;
 pub mod logs;
 pub mod tables;
@@ -17,8 +19,11 @@ mod mutants;
 mod short_laws;
 #[cfg(test)]
 mod short_refusals;
+#[cfg(test)]
+mod wrong_formulas;
 
 use crate::calls::Calls;
+use crate::generate::tables::case;
 use crate::random::Random;
 use std::io::{self, Write};
 use tally::Tally;
@@ -73,10 +78,19 @@ fn all_cases(library: &impl Calls, plan: &Plan, tally: &mut Tally) -> Result<(),
             .map_err(|found| located(plan, "text", number, &found))?;
     }
     for number in 0..plan.tables {
-        let mut random = case_random(plan.seed, 2, number);
-        tables::compare(library, &mut random, tally).map_err(|found| located(plan, "table", number, &found))?;
+        table_cases(library, plan, number, tally).map_err(|found| located(plan, "table", number, &found))?;
     }
     Ok(())
+}
+
+/// One table for the engine, the same for the completion formulas, and one made for them alone.
+fn table_cases(library: &impl Calls, plan: &Plan, number: usize, tally: &mut Tally) -> Result<(), Difference> {
+    let made = case(&mut case_random(plan.seed, 2, number));
+    tables::compare(library, &made, tally)?;
+    // Levels are drawn apart, so that they change no table.
+    let mut random = case_random(plan.seed, 4, number);
+    completion::compare_table(library, &made, &mut random, tally)?;
+    completion::compare(library, &mut random, tally)
 }
 
 fn located(plan: &Plan, sort: &str, number: usize, found: &Difference) -> Difference {

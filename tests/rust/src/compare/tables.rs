@@ -5,25 +5,23 @@ use super::tally::{Call, Tally};
 use super::Difference;
 use crate::answer::{Answer, LAST_REFUSAL, PASSES};
 use crate::calls::{Calls, Reading};
-use crate::generate::tables::{case, Case};
-use crate::random::Random;
+use crate::generate::tables::Case;
 
-/// Makes one case and compares it.
-pub fn compare(library: &impl Calls, random: &mut Random, tally: &mut Tally) -> Result<(), Difference> {
-    let made = case(random);
+/// Compares one case.
+pub fn compare(library: &impl Calls, made: &Case, tally: &mut Tally) -> Result<(), Difference> {
     tally.table(made.kind);
     tally.call(Call::CheckSet);
     let ours = Reading.check_set(&made.values, &made.table);
     let theirs = library.check_set(&made.values, &made.table);
     tally.code(Call::CheckSet, ours.code);
     if ours != theirs {
-        return Err(difference(&made, ours, theirs, "the reading"));
+        return Err(difference(made, ours, theirs, "the reading"));
     }
     if made.values.len() <= MOST_ATOMS && ours.code > LAST_REFUSAL {
         let wanted = is_answer_set(&made.values, &made.table);
         tally.defined(wanted);
         if wanted != (ours.code == PASSES) {
-            return Err(difference(&made, ours, theirs, "both, against the definition"));
+            return Err(difference(made, ours, theirs, "both, against the definition"));
         }
     }
     Ok(())

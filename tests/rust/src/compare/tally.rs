@@ -1,9 +1,12 @@
 //! How many cases of each kind and how many answers of each code were seen.
 
+use super::formulas::{Formula, FORMULAS};
 use super::letters::{Capital, CAPITALS};
 use super::logs::{Log, LOGS};
-use crate::answer::{meaning, BROKEN, CLASH, CONTRADICTED, MISSING, PASSES, PATH, READ, UNCAUSED, UNFOUNDED, WRITTEN};
-use crate::generate::{tables, texts};
+use crate::answer::{
+    meaning, BROKEN, CLASH, CONTRADICTED, FAILS, HOLDS, MISSING, PASSES, PATH, READ, UNCAUSED, UNFOUNDED, WRITTEN,
+};
+use crate::generate::{levels, tables, texts};
 use crate::reading::lines::Key;
 use crate::reading::MAX_HORIZON;
 use std::io::{self, Write};
@@ -18,15 +21,19 @@ pub enum Call {
     ReadHistory,
     CheckHistory,
     CausalReading,
+    CheckCompletion,
+    CheckByLevels,
 }
 
-/// The verdicts of the history check, and those of the causal reading.
+/// The verdicts of the history check, those of the causal reading, and what is said by the completion formulas, with the
+/// refusals that come before.
 const CHECKED: [u8; 5] = [PASSES, CLASH, BROKEN, UNFOUNDED, MISSING];
 const CAUSAL: [u8; 3] = [PATH, CONTRADICTED, UNCAUSED];
+const COMPLETION: [u8; 7] = [10, 11, 12, CLASH, MISSING, HOLDS, FAILS];
 
 /// All calls: name, and the codes each can give according to the header. For the report these are the codes of the
 /// answers it prints.
-const CALLS: [(Call, &str, &[&[u8]]); 6] = [
+const CALLS: [(Call, &str, &[&[u8]]); 8] = [
     (Call::Report, "report", &[&[1, 2, 3, 4, 5, 6, 7], &CHECKED, &CAUSAL]),
     (
         Call::CheckSet,
@@ -45,6 +52,8 @@ const CALLS: [(Call, &str, &[&[u8]]); 6] = [
         "causal_reading",
         &[&[1, 2, 3, 4, 5, 6, 7, 11], &CAUSAL],
     ),
+    (Call::CheckCompletion, "check_completion", &[&COMPLETION]),
+    (Call::CheckByLevels, "check_by_levels", &[&COMPLETION, &[13]]),
 ];
 
 /// The keys that laws begin with.
@@ -64,6 +73,8 @@ const PASSING_BANDS: [RangeInclusive<usize>; 5] = [1..=1, 2..=5, 6..=10, 11..=20
 pub struct Tally {
     texts: [u64; texts::KINDS.len()],
     tables: [u64; tables::KINDS.len()],
+    /// Tables with levels.
+    levels: [u64; levels::KINDS.len()],
     codes: [[u64; 256]; CALLS.len()],
     calls: [u64; CALLS.len()],
     /// Small programs also tested against the definition.
@@ -76,6 +87,8 @@ pub struct Tally {
     logs: [u64; LOGS.len()],
     /// Texts as examples of capitals.
     capitals: [u64; CAPITALS.len()],
+    /// Answers by the completion formulas.
+    formulas: [u64; FORMULAS.len()],
 }
 
 impl Default for Tally {
@@ -89,6 +102,7 @@ impl Tally {
         Tally {
             texts: [0; texts::KINDS.len()],
             tables: [0; tables::KINDS.len()],
+            levels: [0; levels::KINDS.len()],
             codes: [[0; 256]; CALLS.len()],
             calls: [0; CALLS.len()],
             defined: [0; 2],
@@ -96,6 +110,7 @@ impl Tally {
             laws: [0; LAWS.len()],
             logs: [0; LOGS.len()],
             capitals: [0; CAPITALS.len()],
+            formulas: [0; FORMULAS.len()],
         }
     }
 
@@ -105,6 +120,14 @@ impl Tally {
 
     pub fn table(&mut self, kind: usize) {
         self.tables[kind] += 1;
+    }
+
+    pub fn levels(&mut self, kind: usize) {
+        self.levels[kind] += 1;
+    }
+
+    pub fn formula(&mut self, formula: Formula) {
+        self.formulas[formula as usize] += 1;
     }
 
     pub fn call(&mut self, call: Call) {
@@ -144,6 +167,9 @@ impl Tally {
         for ((_, name, _), count) in tables::KINDS.iter().zip(self.tables) {
             writeln!(out, "tables, {name}: {count}")?;
         }
+        for ((_, name, _), count) in levels::KINDS.iter().zip(self.levels) {
+            writeln!(out, "levels, {name}: {count}")?;
+        }
         for band in PASSING_BANDS {
             let count: u64 = self.passing[band.clone()].iter().sum();
             writeln!(
@@ -161,6 +187,9 @@ impl Tally {
         }
         for ((_, name), count) in CAPITALS.iter().zip(self.capitals) {
             writeln!(out, "capitals, {name}: {count}")?;
+        }
+        for ((_, name), count) in FORMULAS.iter().zip(self.formulas) {
+            writeln!(out, "formulas, {name}: {count}")?;
         }
         let [no, yes] = self.defined;
         writeln!(
@@ -185,25 +214,25 @@ impl Tally {
 
     /// The kinds of command logs that were seen fewer times than asked for.
     pub fn rare_logs(&self, least: u64) -> Vec<String> {
-        let counts = LOGS.iter().zip(self.logs);
-        let rare = counts.filter(|(_, count)| *count < least);
-        rare.map(|((_, name), count)| format!("histories, {name}: {count}, wanted {least}"))
-            .collect()
+        rare("histories", &LOGS, &self.logs, least)
     }
 
     /// The kinds of capitals that were seen fewer times than asked for.
     pub fn rare_capitals(&self, least: u64) -> Vec<String> {
-        let counts = CAPITALS.iter().zip(self.capitals);
-        let rare = counts.filter(|(_, count)| *count < least);
-        rare.map(|((_, name), count)| format!("capitals, {name}: {count}, wanted {least}"))
-            .collect()
+        rare("capitals", &CAPITALS, &self.capitals, least)
     }
 
-    /// The codes of each call, the forms of laws, the kinds of command logs and those of capitals that were seen fewer
-    /// times than asked for.
+    /// The kinds of answers by the completion formulas that were seen fewer times than asked for.
+    pub fn rare_formulas(&self, least: u64) -> Vec<String> {
+        rare("formulas", &FORMULAS, &self.formulas, least)
+    }
+
+    /// The codes of each call, the forms of laws, the kinds of command logs, of capitals and of answers by the completion
+    /// formulas that were seen fewer times than asked for.
     pub fn too_rare(&self, least: u64) -> Vec<String> {
         let mut rare = self.rare_logs(least);
         rare.extend(self.rare_capitals(least));
+        rare.extend(self.rare_formulas(least));
         for ((_, name), count) in LAWS.iter().zip(self.laws) {
             if count < least {
                 rare.push(format!("laws by {name}: {count}, wanted {least}"));
@@ -219,4 +248,12 @@ impl Tally {
         }
         rare
     }
+}
+
+/// Of some kinds, those seen fewer times than asked for.
+fn rare<T>(what: &str, kinds: &[(T, &str)], counts: &[u64], least: u64) -> Vec<String> {
+    let counts = kinds.iter().zip(counts).filter(|(_, count)| **count < least);
+    counts
+        .map(|((_, name), count)| format!("{what}, {name}: {count}, wanted {least}"))
+        .collect()
 }

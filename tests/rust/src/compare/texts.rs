@@ -1,10 +1,14 @@
 //! One text, put through all calls that take a text, by both sides.
 
+use super::completion;
+use super::formulas::Formula;
 use super::letters;
 use super::logs::{examples, Log};
 use super::tally::{Call, Tally};
 use super::Difference;
-use crate::answer::{Answer, BROKEN, CLASH, CONTRADICTED, MISSING, PASSES, PATH, UNCAUSED, UNFOUNDED};
+use crate::answer::{
+    Answer, BROKEN, CLASH, CONTRADICTED, FAILS, HOLDS, MISSING, PASSES, PATH, UNCAUSED, UNFOUNDED, WRITTEN,
+};
 use crate::calls::{Calls, Reading};
 use crate::generate::letters::with_capitals;
 use crate::generate::texts::text;
@@ -25,6 +29,22 @@ struct Known {
     need: usize,
     /// The history, if it can be read.
     history: Option<History>,
+}
+
+impl Known {
+    /// The history's values if there is just one for each atom.
+    fn complete_values(&self) -> Option<&[u8]> {
+        let values = &self.history.as_ref()?.values;
+        values.iter().all(|value| matches!(value, 1 | 2)).then_some(values)
+    }
+
+    /// The time of each literal, by which the rules of a translation can be levelled.
+    fn times(&self) -> Vec<u16> {
+        let codes = 2 * self.description.atoms();
+        (0..codes)
+            .map(|code| (code / 2 / self.description.stride()) as u16)
+            .collect()
+    }
 }
 
 /// A history: what its lines list, and its values.
@@ -68,6 +88,7 @@ pub fn compare(
     case.read_history()?;
     case.check_history()?;
     case.causal_reading()?;
+    case.completion()?;
     case.spelled_anew(letters)
 }
 
@@ -180,6 +201,42 @@ impl<'a, C: Calls> Case<'a, C> {
         if wanted != given {
             return Err(self.difference("causal_reading", &wanted, &given, "nothing lent"));
         }
+        Ok(())
+    }
+
+    /// A history with one value an atom: the words that the library's translation writes are judged by the completion
+    /// formulas, with times as levels and without levels, and these must hold exactly if its history check passes, and
+    /// exactly if its engine does. Every second one will do.
+    fn completion(&mut self) -> Result<(), Difference> {
+        let Some(known) = self.known.as_ref().filter(|_| self.random.chance(1, 2)) else {
+            return Ok(());
+        };
+        let Some(values) = known.complete_values() else {
+            return Ok(());
+        };
+        let mut table = vec![0; known.need];
+        let text = &self.text[..known.description.length];
+        let levels = known.times();
+        let checked = self.library.check_history(text, values, &mut table.clone());
+        let written = self.library.translate(text, &mut table);
+        let lent = completion::Lent {
+            values,
+            table: &table,
+            levels: &levels,
+        };
+        let answers = completion::compare_calls(self.library, &lent, self.tally)?;
+        let engine = self.library.check_set(values, &table);
+        let wanted = if checked.code == PASSES { HOLDS } else { FAILS };
+        let agree = engine == checked && answers.completion.code == wanted && answers.by_levels == answers.completion;
+        if written.code != WRITTEN || !agree {
+            let all = [checked, engine, answers.completion, answers.by_levels];
+            let found = completion::difference("history check against formulas", &lent, &all);
+            return Err(self.difference(&found.0, &wanted, &answers.completion.code, "as above"));
+        }
+        self.tally.formula(match wanted {
+            HOLDS => Formula::HistoryPasses,
+            _ => Formula::HistoryNotPasses,
+        });
         Ok(())
     }
 

@@ -141,3 +141,10 @@ const TURNS: [(u8, bool); 13] = [
 fn sort_of(answer: Answer) -> (u8, bool) {
     (answer.code, answer.value == u64::from(FALSE_HEAD))
 }
+
+/// A stored file of crates/completion_cases.
+#[cfg(test)]
+pub fn stored(name: &str) -> String {
+    let directory = concat!(env!("CARGO_MANIFEST_DIR"), "/../../crates/completion_cases/");
+    std::fs::read_to_string([directory, name].concat()).expect("the cases are stored")
+}

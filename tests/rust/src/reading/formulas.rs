@@ -6,8 +6,7 @@ use super::{Refusal, FALSE_HEAD, MAX_ATOMS, MAX_RULES};
 use crate::calls::Reading;
 use crate::compare::brute::is_answer_set;
 use crate::completion_cases::chosen::{self, words, ELEVEN};
-use crate::completion_cases::{answer_line, stored_cases, Case};
-use std::fs;
+use crate::completion_cases::{answer_line, stored, stored_cases, Case};
 
 #[test]
 fn chosen_cases_are_answered_as_the_papers_say() {
@@ -189,12 +188,6 @@ fn with_levels_the_formulas_hold_of_the_complete_answer_sets() {
         }
     }
     assert!(seen[0] > 10_000 && seen[1] > 100, "{seen:?}");
-}
-
-/// A stored file of crates/completion_cases.
-fn stored(name: &str) -> String {
-    let directory = concat!(env!("CARGO_MANIFEST_DIR"), "/../../crates/completion_cases/");
-    fs::read_to_string([directory, name].concat()).expect("the cases are stored")
 }
 
 #[test]
