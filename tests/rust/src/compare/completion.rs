@@ -2,7 +2,7 @@
 //! against its engine's.
 
 use super::brute::{is_answer_set, MOST_ATOMS};
-use super::formulas::{agreement, example, levels_example};
+use super::formulas::{agreement, example, levels_example, Contradiction};
 use super::tally::{Call, Tally};
 use super::Difference;
 use crate::answer::{Answer, FAILS, HOLDS};
@@ -94,7 +94,7 @@ fn against_engine(library: &impl Calls, lent: &Lent, answers: &Answers, tally: &
     let Answers { completion, by_levels } = *answers;
     match agreement(engine, completion, by_levels) {
         Ok(seen) => seen.into_iter().for_each(|formula| tally.formula(formula)),
-        Err(()) => {
+        Err(Contradiction) => {
             return Err(difference(
                 "engine against formulas",
                 lent,

@@ -71,9 +71,13 @@ fn is_last(answer: Answer) -> bool {
     answer.value == u64::from(FALSE_HEAD)
 }
 
-/// What the engine's answer on the same set is an example of, or none where it contradicts the formulas. They must agree
-/// where levels are taken; and what passes meets the formulas in any case.
-pub fn agreement(engine: Answer, completion: Answer, by_levels: Answer) -> Result<Option<Formula>, ()> {
+/// The engine says of a set what the formulas rule out.
+#[derive(Clone, Copy, Debug, PartialEq, Eq)]
+pub struct Contradiction;
+
+/// What the engine's answer beside those by the formulas is an example of. They must agree where levels are taken; and what
+/// passes meets the formulas in any case.
+pub fn agreement(engine: Answer, completion: Answer, by_levels: Answer) -> Result<Option<Formula>, Contradiction> {
     let passes = engine.code == PASSES;
     let holds = completion.code == HOLDS;
     match by_levels.code {
@@ -81,8 +85,8 @@ pub fn agreement(engine: Answer, completion: Answer, by_levels: Answer) -> Resul
             true => Formula::LevelsPass,
             false => Formula::LevelsNotPass,
         })),
-        HOLDS | FAILS => Err(()),
-        _ if passes && !holds => Err(()),
+        HOLDS | FAILS => Err(Contradiction),
+        _ if passes && !holds => Err(Contradiction),
         _ => Ok((holds && !passes).then_some(Formula::Differ)),
     }
 }
