@@ -168,9 +168,8 @@ fn time_growth() {
 /// The size of a hand-made table: atoms, rules for each atom, and negated parts of each rule.
 type Size = (usize, usize, usize);
 
-/// Hand-made tables: words doubled with the same atoms and
-/// rules, atoms doubled with the same words, and both doubled. Work that grows with words times literals shows in the last
-/// two.
+/// Hand-made tables: words doubled with the same atoms and rules, atoms doubled with the same words, and both doubled. Work
+/// that grows with words times literals shows in the last two.
 const GROWING: [(&str, [Size; 4]); 3] = [
     ("words", [(256, 1, 1), (256, 1, 5), (256, 1, 13), (256, 1, 29)]),
     ("atoms", [(128, 32, 1), (256, 16, 1), (512, 8, 1), (1_024, 4, 1)]),
