@@ -2,8 +2,9 @@
 //!
 //! `benchmark [CHECK [PROGRAM=RECIPE ...]]`. CHECK is the program check; the others are programs for clingo, each with
 //! the recipe it was made from: where clingo is installed, they are solved and timed as well. The figures hold for the
-//! machine and the day they are taken on; nothing depends on them. The reading looks through all rules for each completion
-//! formula, so there the ratio says little; how the library's time grows says more, and how it stands to the engine's.
+//! machine and the day they are taken on; nothing depends on them. The reading looks through all rules for each
+//! completion formula, so there the ratio says little; how the library's time grows says more, and how it stands to the
+//! engine's.
 
 #[path = "../lent.rs"]
 mod lent;
@@ -51,8 +52,8 @@ fn sample(label: &str, text: Vec<u8>) -> Sample {
     sample
 }
 
-/// Both sides must say that the set passes and that the completion formulas hold; anything else is no measure of the same
-/// work.
+/// Both sides must say that the set passes and that the completion formulas hold; anything else is no measure of the
+/// same work.
 fn agree_on_table(label: &str, values: &[u8], table: &[u16]) {
     let sides: [&dyn Calls; 2] = [&LIBRARY, &Reading];
     for side in sides {
@@ -168,8 +169,8 @@ fn time_growth() {
 /// The size of a hand-made table: atoms, rules for each atom, and negated parts of each rule.
 type Size = (usize, usize, usize);
 
-/// Hand-made tables: words doubled with the same atoms and rules, atoms doubled with the same words, and both doubled. Work
-/// that grows with words times literals shows in the last two.
+/// Hand-made tables: words doubled with the same atoms and rules, atoms doubled with the same words, and both doubled.
+/// Work that grows with words times literals shows in the last two.
 const GROWING: [(&str, [Size; 4]); 3] = [
     ("words", [(256, 1, 1), (256, 1, 5), (256, 1, 13), (256, 1, 29)]),
     ("atoms", [(128, 32, 1), (256, 16, 1), (512, 8, 1), (1_024, 4, 1)]),

@@ -1,8 +1,8 @@
 //! Writes the stored cases of the completion formulas, and their answers by the independent reading.
 //!
-//! `cargo run --release --bin completion_cases ../../crates/completion_cases`, in tests/rust: the cases go to `data/cases`
-//! in that directory and the answers to `stdout`. Which cases were chosen by hand, and for what, is said in
-//! `src/completion_cases/chosen.rs`; the form of the lines in `src/completion_cases/mod.rs`.
+//! `cargo run --release --bin completion_cases ../../crates/completion_cases`, in tests/rust: the cases go to
+//! `data/cases` in that directory and the answers to `stdout`. Which cases were chosen by hand, and for what, is said
+//! in `src/completion_cases/chosen.rs`; the form of the lines in `src/completion_cases/mod.rs`.
 
 use readings::calls::Reading;
 use readings::completion_cases::{answer_line, chosen, stored_cases};

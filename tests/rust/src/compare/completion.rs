@@ -1,5 +1,5 @@
-//! One rule table, judged by the completion formulas with and without levels, by both sides; and the library's answers held
-//! against its engine's.
+//! One rule table, judged by the completion formulas with and without levels, by both sides; and the library's answers
+//! held against its engine's.
 
 use super::brute::{is_answer_set, MOST_ATOMS};
 use super::formulas::{agreement, example, levels_example, Contradiction};

@@ -75,8 +75,8 @@ fn is_last(answer: Answer) -> bool {
 #[derive(Clone, Copy, Debug, PartialEq, Eq)]
 pub struct Contradiction;
 
-/// What the engine's answer beside those by the formulas is an example of. They must agree where levels are taken; and what
-/// passes meets the formulas in any case.
+/// What the engine's answer beside those by the formulas is an example of. They must agree where levels are taken; and
+/// what passes meets the formulas in any case.
 pub fn agreement(engine: Answer, completion: Answer, by_levels: Answer) -> Result<Option<Formula>, Contradiction> {
     let passes = engine.code == PASSES;
     let holds = completion.code == HOLDS;

@@ -25,8 +25,8 @@ pub enum Call {
     CheckByLevels,
 }
 
-/// The verdicts of the history check, those of the causal reading, and what is said by the completion formulas, with the
-/// refusals that come before.
+/// The verdicts of the history check, those of the causal reading, and what is said by the completion formulas, with
+/// the refusals that come before.
 const CHECKED: [u8; 5] = [PASSES, CLASH, BROKEN, UNFOUNDED, MISSING];
 const CAUSAL: [u8; 3] = [PATH, CONTRADICTED, UNCAUSED];
 const COMPLETION: [u8; 7] = [10, 11, 12, CLASH, MISSING, HOLDS, FAILS];
@@ -227,8 +227,8 @@ impl Tally {
         rare("formulas", &FORMULAS, &self.formulas, least)
     }
 
-    /// The codes of each call, the forms of laws, the kinds of command logs, of capitals and of answers by the completion
-    /// formulas that were seen fewer times than asked for.
+    /// The codes of each call, the forms of laws, the kinds of command logs, of capitals and of answers by the
+    /// completion formulas that were seen fewer times than asked for.
     pub fn too_rare(&self, least: u64) -> Vec<String> {
         let mut rare = self.rare_logs(least);
         rare.extend(self.rare_capitals(least));

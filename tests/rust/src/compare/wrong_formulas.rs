@@ -1,7 +1,7 @@
 //! The completion formulas read as they should not be: the comparison and the stored cases must find each such slip.
 //!
-//! The bodies that hold are marked in one pass over the rules, and then each literal is held against its marks. Without a slip
-//! this is a second way to read the formulas.
+//! The bodies that hold are marked in one pass over the rules, and then each literal is held against its marks. Without
+//! a slip this is a second way to read the formulas.
 
 use super::completion::compare;
 use super::formulas::agreement;
@@ -42,13 +42,15 @@ enum Slip {
     /// Only literals in the set are asked, or only those not in it.
     OnlySupport,
     OnlyClosed,
-    /// Only positive or only negative literals are asked; those in no head, or in no rule at all, are not; nor is the last.
+    /// Only positive or only negative literals are asked; those in no head, or in no rule at all, are not; nor is the
+    /// last.
     PositiveOnly,
     NegativeOnly,
     NoHeadSkipped,
     NoRuleSkipped,
     LastLiteralSkipped,
-    /// False is not asked, comes first, is told as the code behind the last literal, or fails where none of its bodies holds.
+    /// False is not asked, comes first, is told as the code behind the last literal, or fails where none of its bodies
+    /// holds.
     FalseNotAsked,
     FalseFirst,
     FalseNumbered,
@@ -56,7 +58,8 @@ enum Slip {
     /// The highest literal that fails is told, or the lowest one's atom.
     Highest,
     AtomTold,
-    /// Clash comes before missing; the lowest atom with either fault decides; missing is false; the highest atom is told.
+    /// Clash comes before missing; the lowest atom with either fault decides; missing is false; the highest atom is
+    /// told.
     ClashFirst,
     EitherFault,
     MissingFalse,
@@ -64,8 +67,8 @@ enum Slip {
     /// Values 0 and 3 come before 12, or before 13.
     FaultBefore12,
     FaultBefore13,
-    /// The engine's verdict instead: passes, and else the head of the rule broken or the literal unfounded. Or the formulas,
-    /// but where they hold, unfounded literals fail.
+    /// The engine's verdict instead: passes, and else the head of the rule broken or the literal unfounded. Or the
+    /// formulas, but where they hold, unfounded literals fail.
     Engine,
     Derived,
     /// Levels are as high or higher, or the other way round.

@@ -1,8 +1,9 @@
 //! Cases chosen by hand, each with its name and the answer that the papers give; no program was asked for any of them.
 //!
-//! A case is one line: name, rules, values, levels and answer, with bars between. Rules are written `a: b, -c, not d` with
-//! semicolons between; the letters are atoms 0, 1, 2 and so on, a hyphen makes a literal negative, and `false` heads a
-//! constraint. Behind `words` a table's words stand as they are. The levels are `none` for the call without them.
+//! A case is one line: name, rules, values, levels and answer, with bars between. Rules are written `a: b, -c, not d`
+//! with semicolons between; the letters are atoms 0, 1, 2 and so on, a hyphen makes a literal negative, and `false`
+//! heads a constraint. Behind `words` a table's words stand as they are. The levels are `none` for the call without
+//! them.
 
 use super::Case;
 use crate::reading::description::read_description;
@@ -165,8 +166,8 @@ the word where the second rule starts | words 0 1 0 1 0 0 | 1 | none | refused 1
 /// Program (11) of document 000: p and q are chosen, r follows from q.
 pub const ELEVEN: &str = "a: not -a; -a: not a; b: not -b; -b: not b; c: b";
 
-/// All its complete sets. Its formulas say that q and r are true: where they differ, r's fails; where neither is true, that
-/// of its complement, which no rule is for.
+/// All its complete sets. Its formulas say that q and r are true: where they differ, r's fails; where neither is true,
+/// that of its complement, which no rule is for.
 const ELEVEN_SETS: [(&str, [u8; 3], &str); 8] = [
     ("program 11: p, q, r", [1, 1, 1], "holds"),
     ("program 11: -p, q, r", [2, 1, 1], "holds"),

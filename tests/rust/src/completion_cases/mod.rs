@@ -1,8 +1,8 @@
 //! Cases of the two calls that judge by the completion formulas, as lines of numbers that a program can read.
 //!
-//! A case is one line of decimal numbers with single spaces between: 0 for the call without levels or 1 for the call with
-//! them; the number of atoms and their values; with levels, the number of levels and the levels; then the table's words up
-//! to the line's end. Its answer is a line such as `holds`, `fails 6`, `missing 3` or `refused 13 65535`.
+//! A case is one line of decimal numbers with single spaces between: 0 for the call without levels or 1 for the call
+//! with them; the number of atoms and their values; with levels, the number of levels and the levels; then the table's
+//! words up to the line's end. Its answer is a line such as `holds`, `fails 6`, `missing 3` or `refused 13 65535`.
 
 pub mod chosen;
 

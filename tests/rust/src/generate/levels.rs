@@ -1,5 +1,5 @@
-//! Random rule tables with levels. Most sets are drawn first, with one value an atom, and then rules that fit them, so that
-//! the completion formulas hold of many.
+//! Random rule tables with levels. Most sets are drawn first, with one value an atom, and then rules that fit them, so
+//! that the completion formulas hold of many.
 
 use super::tables::{damaged_table, damaged_values, loop_rules, words, Made};
 use crate::random::Random;
@@ -360,8 +360,8 @@ pub fn lent_levels(random: &mut Random, atoms: usize, table: &[u16]) -> Vec<u16>
     levels
 }
 
-/// The least levels that fit a table: heads are raised above their plain parts until they stay. Where there are none, or
-/// the table cannot be read, raising ends all the same.
+/// The least levels that fit a table: heads are raised above their plain parts until they stay. Where there are none,
+/// or the table cannot be read, raising ends all the same.
 fn least_levels(atoms: usize, table: &[u16]) -> Vec<u16> {
     let mut levels = vec![0u16; 2 * atoms];
     let rules = read_rules(table, atoms).unwrap_or_default();

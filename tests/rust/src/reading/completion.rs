@@ -1,8 +1,8 @@
 //! The completion formulas (document 000, section 6): a verdict on a set without derivation.
 //!
-//! For each literal its presence in the set must equal that of some body of a rule for it, and no body of a rule headed by
-//! false may hold. Whether that says the same as the engine depends on the rules: it does where they have levels, and so a
-//! caller may lend them.
+//! For each literal its presence in the set must equal that of some body of a rule for it, and no body of a rule headed
+//! by false may hold. Whether that says the same as the engine depends on the rules: it does where they have levels,
+//! and so a caller may lend them.
 
 use super::engine::{accept, Rule};
 use super::{Refusal, FALSE_HEAD};

@@ -1,4 +1,5 @@
-//! Judging by the completion formulas: cases chosen by hand, limits, and Proposition 3 of document 000 on all small programs.
+//! Judging by the completion formulas: cases chosen by hand, limits, and Proposition 3 of document 000 on all small
+//! programs.
 
 use super::completion::{check_by_levels, check_completion, Completion};
 use super::engine::{check_set, Verdict};
@@ -150,8 +151,9 @@ fn all_levels(codes: u32, below: u16) -> Vec<Vec<u16>> {
         .collect()
 }
 
-/// Holds a program against the definition, with every level list there is. Two rules have a longest way of three literals,
-/// so three levels are enough. Counts programs for which some levels fit, and others of which engine and formulas differ.
+/// Holds a program against the definition, with every level list there is. Two rules have a longest way of three
+/// literals, so three levels are enough. Counts programs for which some levels fit, and others of which engine and
+/// formulas differ.
 fn hold_against_definition(table: &[u16], atoms: u32, all_levels: &[Vec<u16>], seen: &mut [usize; 2]) {
     let sets = complete_sets(atoms);
     let is_taken = |levels: &&Vec<u16>| check_by_levels(&sets[0], table, levels).is_ok();
