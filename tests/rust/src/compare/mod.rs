@@ -83,13 +83,15 @@ fn all_cases(library: &impl Calls, plan: &Plan, tally: &mut Tally) -> Result<(),
     Ok(())
 }
 
-/// One table for the engine, the same for the completion formulas, and one made for them alone.
+/// One table for the engine, every second one for the completion formulas too, and one made for them alone.
 fn table_cases(library: &impl Calls, plan: &Plan, number: usize, tally: &mut Tally) -> Result<(), Difference> {
     let made = case(&mut case_random(plan.seed, 2, number));
     tables::compare(library, &made, tally)?;
     // Levels are drawn apart, so that they change no table.
     let mut random = case_random(plan.seed, 4, number);
-    completion::compare_table(library, &made, &mut random, tally)?;
+    if random.chance(1, 2) {
+        completion::compare_table(library, &made, &mut random, tally)?;
+    }
     completion::compare(library, &mut random, tally)
 }
 

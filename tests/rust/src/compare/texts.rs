@@ -206,9 +206,9 @@ impl<'a, C: Calls> Case<'a, C> {
 
     /// A history with one value an atom: the words that the library's translation writes are judged by the completion
     /// formulas, with times as levels and without levels, and these must hold exactly if its history check passes, and
-    /// exactly if its engine does. Every second one will do.
+    /// exactly if its engine does. One text in three will do.
     fn completion(&mut self) -> Result<(), Difference> {
-        let Some(known) = self.known.as_ref().filter(|_| self.random.chance(1, 2)) else {
+        let Some(known) = self.known.as_ref().filter(|_| self.random.chance(1, 3)) else {
             return Ok(());
         };
         let Some(values) = known.complete_values() else {
