@@ -36,7 +36,7 @@ module _ (vs ws : List ℕ) (accepted : Accepted vs ws) where
   unfolding answer
   answered-finding = sym (comes-next vs ws (answered (finding vs ws)) accepted)
 
-  says : ByFormulas vs (rulesOf ws) (answer vs ws)
+  pub says : ByFormulas vs (rulesOf ws) (answer vs ws)
   says = by-formulas vs ws (accepted .1) (answer vs ws) answered-finding
 
   -- of a tight table, for one value an atom, what holds are the answer sets

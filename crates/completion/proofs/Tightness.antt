@@ -48,23 +48,25 @@ tight-iff levels Π = Iff·trans (none-iff (λ r. not (standsAbove levels r)) 0 
           λ low. false-of-not (not (standsAbove levels r)) (λ t. not-both (above .1 low) (not-iff (standsAbove levels r) .0 t)),
         )
 
+-- An atom's two literals, by its value
+
+pub even-in : (vs : List ℕ) (a : ℕ) → setOf vs (2 * a) ≡ holdsTrue (getD vs a 0)
+unfolding setOf
+even-in vs a =
+    let even : (2 * a) % 2 ≡ 0 = omega arith in
+    let half : (2 * a) / 2 ≡ a = omega arith in
+    rw (even, half)
+
+pub odd-in : (vs : List ℕ) (a : ℕ) → setOf vs (2 * a + 1) ≡ holdsFalse (getD vs a 0)
+unfolding setOf
+odd-in vs a =
+    let odd : (2 * a + 1) % 2 ≡ 1 = omega arith in
+    let half : (2 * a + 1) / 2 ≡ a = omega arith in
+    rw (odd, half)
+
 -- A set with one value for each atom is complete and consistent
 
 module _ (vs : List ℕ) (one : Each OneValue vs) where
-  even-in : (a : ℕ) → setOf vs (2 * a) ≡ holdsTrue (getD vs a 0)
-  unfolding setOf
-  even-in a =
-      let even : (2 * a) % 2 ≡ 0 = omega arith in
-      let half : (2 * a) / 2 ≡ a = omega arith in
-      rw (even, half)
-
-  odd-in : (a : ℕ) → setOf vs (2 * a + 1) ≡ holdsFalse (getD vs a 0)
-  unfolding setOf
-  odd-in a =
-      let odd : (2 * a + 1) % 2 ≡ 1 = omega arith in
-      let half : (2 * a + 1) / 2 ≡ a = omega arith in
-      rw (odd, half)
-
   value : (a : ℕ) → a < length vs → OneValue (getD vs a 0)
   value a b = each-at OneValue 0 vs .0 one a b
 
@@ -75,14 +77,14 @@ module _ (vs : List ℕ) (one : Each OneValue vs) where
   pub one-consistent : Consistent (setOf vs)
   one-consistent a t f =
       let low = setOf-below vs (2 * a) t in
-      not-both-values (getD vs a 0) (value a (omega arith)) (sym (even-in a) ∙ t) (sym (odd-in a) ∙ f)
+      not-both-values (getD vs a 0) (value a (omega arith)) (sym (even-in vs a) ∙ t) (sym (odd-in vs a) ∙ f)
 
   pub one-complete : CompleteSet (length vs) (setOf vs)
   unfolding holdsTrue holdsFalse
   one-complete = record {
     over = setOf-below vs;
     complete = λ a b.
-        ⊎-elim (λ (e : getD vs a 0 ≡ 1). inl (even-in a ∙ ap holdsTrue e)) (λ (e : getD vs a 0 ≡ 2). inr (odd-in a ∙ ap holdsFalse e)) (value a b);
+        ⊎-elim (λ (e : getD vs a 0 ≡ 1). inl (even-in vs a ∙ ap holdsTrue e)) (λ (e : getD vs a 0 ≡ 2). inr (odd-in vs a ∙ ap holdsFalse e)) (value a b);
   }
 
 -- An accepted table is over the literals of the values' atoms

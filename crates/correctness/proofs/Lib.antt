@@ -5,3 +5,4 @@ pub mod Values
 pub mod Translated
 pub mod Demand3
 pub mod CausalFaults
+pub mod MissingAndClash

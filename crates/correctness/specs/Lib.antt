@@ -2,3 +2,4 @@
 pub mod Demand3
 pub mod CausalFaults
 pub mod Promises
+pub mod MissingAndClash

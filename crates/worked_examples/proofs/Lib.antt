@@ -12,4 +12,5 @@ pub mod WorkedCapitals
 pub mod WorkedFormat
 pub mod WorkedLong
 pub mod WorkedOutputs
+pub mod WorkedFormulas
 pub mod Worked

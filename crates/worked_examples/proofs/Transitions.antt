@@ -15,7 +15,7 @@ use Rattle.description.specs.Meaning.{Path}
 use Rattle.description.specs.Examples.{doorLaws, waterLaws}
 use Rattle.causal.specs.Verdicts.{Causal, contradicted, uncaused, path, causalVerdict}
 use Rattle.worked_examples.specs.Examples.{isPath, paths}
-use Rattle.worked_examples.specs.Worked.{doorTransitions, waterTransitions}
+use Rattle.worked_examples.specs.Transitions.{doorTransitions, waterTransitions}
 use Rattle.correctness.proofs.Reading.{causal-iff}
 
 is-path-iff : (v : Causal) → isPath v ≡ true ↔ v ≡ path

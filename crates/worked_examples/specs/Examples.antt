@@ -2,13 +2,15 @@
 -- Assumes nothing.
 use mathlib.Core.Path.{_≡_}
 use mathlib.Core.Bool.{Bool, true, false}
-use mathlib.Core.List.{List, []}
+use mathlib.Core.List.{List, [], _∷_}
 use Prim.Native.Nat.{ℕ}
 use lib.ListN.{length}
-use Rattle.search.specs.Search.{chosen}
-use Rattle.search.specs.Replies.{Reply}
+use Rattle.search.specs.Search.{chosen, tuples}
+use Rattle.search.specs.Replies.{Reply, refused, answered}
 use Rattle.answer_sets.specs.Verdicts.{Verdict}
 use Rattle.answer_sets.specs.Answers as engine
+use Rattle.completion.specs.Findings as formulas
+use Rattle.completion.specs.Answers as completion
 use Rattle.description.specs.declared.Law.{Law}
 use Rattle.description.specs.declared.Description.{Description}
 use Rattle.translation.specs.Translated as translated
@@ -35,6 +37,17 @@ isPath path = true
 isPath (contradicted t l) = false
 isPath (uncaused t f) = false
 
+abbrev pub isHolds : Reply formulas.Finding → Bool
+isHolds (answered formulas.holds) = true
+isHolds (answered (formulas.missing a)) = false
+isHolds (answered (formulas.clash a)) = false
+isHolds (answered (formulas.fails h)) = false
+isHolds (refused k p) = false
+
+-- the sets with one value for each of n atoms that satisfy the completion formulas of a table
+abbrev pub holding : ℕ → List ℕ → List (List ℕ)
+holding n ws = chosen (λ vs. isHolds (completion.answer vs ws)) (tuples (1 ∷ 2 ∷ []) n)
+
 -- the value lists of a horizon that the causal verdict passes: states for horizon 0, transitions for horizon 1
 abbrev pub paths : ℕ → ℕ → ℕ → List Law → List (List ℕ) → List (List ℕ)
 paths n m T ls vss = chosen (λ vs. isPath (causalVerdict n m T ls vs)) vss
@@ -45,6 +58,11 @@ pub data Example : Type 0 where
   engineSays : List ℕ → List ℕ → Reply Verdict → Example
   -- of all sets over so many atoms, those that pass a table
   passingAre : ℕ → List ℕ → List (List ℕ) → Example
+  -- values and a table by the completion formulas, without levels and with them
+  formulasSay : List ℕ → List ℕ → Reply formulas.Finding → Example
+  levelsSay : List ℕ → List ℕ → List ℕ → Reply formulas.Finding → Example
+  -- of all sets with one value for each of so many atoms, those that satisfy the completion formulas of a table
+  holdingAre : ℕ → List ℕ → List (List ℕ) → Example
   -- a description, its laws, and the room in the table
   translates : Description → List Law → ℕ → Reply Written → Example
   -- the words that are written
@@ -82,6 +100,9 @@ pub data Example : Type 0 where
 abbrev pub Holds : Example → Type 0
 Holds (engineSays vs ws reply) = engine.answer vs ws ≡ reply
 Holds (passingAre atoms ws vss) = passing ws (allValues atoms) ≡ vss
+Holds (formulasSay vs ws reply) = completion.answer vs ws ≡ reply
+Holds (levelsSay vs ws levels reply) = completion.answerByLevels vs ws levels ≡ reply
+Holds (holdingAre atoms ws vss) = holding atoms ws ≡ vss
 Holds (translates d ls words reply) = translated.outcome d ls (length ls) words ≡ reply
 Holds (tableIs d ls ws) = translated.tableFor d ls ≡ ws
 Holds (tableLeft d ls before after) = translated.tableAfter d ls (length ls) before ≡ after

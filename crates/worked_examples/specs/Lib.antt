@@ -9,4 +9,6 @@ pub mod Recipe
 pub mod Short
 pub mod Log
 pub mod Capitals
+pub mod Transitions
+pub mod Formulas
 pub mod Worked

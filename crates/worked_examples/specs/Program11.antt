@@ -1,21 +1,17 @@
 -- Program (11) of 000, section 6, and its answer sets.
 -- Assumes nothing.
 use mathlib.Core.Bool.{Bool, true, false}
-use mathlib.Core.List.{List, [], _∷_, _++_}
+use mathlib.Core.List.{List, [], _∷_}
 use Prim.Native.Nat.{ℕ}
 use Rattle.search.specs.Search.{chosen, tuples}
 use Rattle.search.specs.Replies.{Reply, refused, answered}
 use Rattle.answer_sets.specs.Verdicts.{Verdict, clash, broken, unfounded, passes}
 use Rattle.answer_sets.specs.Answers.{answer}
+use Rattle.completion.specs.Examples.{eleven}
 
 -- p ← not ¬p; ¬p ← not p; q ← not ¬q; ¬q ← not q; r ← q, where p, q, r are atoms 0, 1, 2
 abbrev pub program11 : List ℕ
-program11 =
-    (0 ∷ 1 ∷ 0 ∷ 1 ∷ [])
-    ++ (1 ∷ 1 ∷ 0 ∷ 0 ∷ [])
-    ++ (2 ∷ 1 ∷ 0 ∷ 3 ∷ [])
-    ++ (3 ∷ 1 ∷ 0 ∷ 2 ∷ [])
-    ++ (4 ∷ 0 ∷ 1 ∷ 2 ∷ [])
+program11 = eleven
 
 -- {p, q, r}, {p, ¬q}, {¬p, q, r}, {¬p, ¬q}
 abbrev pub answerSets11 : List (List ℕ)

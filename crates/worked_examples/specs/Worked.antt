@@ -1,6 +1,6 @@
 -- Worked examples of all layers, gathered as one list: the full recipe and M1 to M10 with all that 01 prints of them, the
 -- horizons and tables at the limits, the transitions of 000's two examples, and the rules of the text format, of the short
--- laws, of the command log and of letter case one by one.
+-- laws, of the command log and of letter case one by one; and the same recipes and programs by the completion formulas.
 -- Assumes nothing.
 use mathlib.Core.List.{List, [], _∷_, _++_, map}
 use Prim.Native.Nat.{ℕ}
@@ -31,21 +31,9 @@ use Rattle.worked_examples.specs.Recipe.{recipeFluents, recipeActions, r
 use Rattle.worked_examples.specs.Short.{shortRecipeExamples, shortOutputExamples, shortExamples}
 use Rattle.worked_examples.specs.Log.{logExamples, callerExamples, logOutputs}
 use Rattle.worked_examples.specs.Capitals.{styleExamples, styleOutputs, capitalExamples}
+use Rattle.worked_examples.specs.Transitions.{doorTransitions, waterTransitions}
+use Rattle.worked_examples.specs.Formulas.{crateFormulas, crateLevels, formulaExamples}
 use Rattle.worked_examples.specs.Format.{readerExamples, lineExamples, historyExamples, longExamples}
-
--- a state, an action and a resulting state as values, 1 true and 2 false
-abbrev pub doorTransitions : List (List ℕ)
-doorTransitions = (1 ∷ 1 ∷ 2 ∷ []) ∷ (1 ∷ 2 ∷ 1 ∷ []) ∷ (2 ∷ 1 ∷ 2 ∷ []) ∷ (2 ∷ 2 ∷ 1 ∷ []) ∷ []
-
-abbrev pub waterTransitions : List (List ℕ)
-waterTransitions =
-    (1 ∷ 1 ∷ 1 ∷ 1 ∷ 1 ∷ [])
-    ∷ (1 ∷ 1 ∷ 2 ∷ 1 ∷ 1 ∷ [])
-    ∷ (2 ∷ 1 ∷ 1 ∷ 1 ∷ 1 ∷ [])
-    ∷ (2 ∷ 1 ∷ 2 ∷ 2 ∷ 1 ∷ [])
-    ∷ (2 ∷ 2 ∷ 1 ∷ 1 ∷ 1 ∷ [])
-    ∷ (2 ∷ 2 ∷ 2 ∷ 2 ∷ 2 ∷ [])
-    ∷ []
 
 -- an engine example of the crate below
 abbrev pub fromEngine : engine-examples.Example → Example
@@ -206,4 +194,7 @@ worked =
     ∷ capitalExamples
     ∷ longOutputs
     ∷ codeExamples
+    ∷ crateFormulas
+    ∷ crateLevels
+    ∷ formulaExamples
     ∷ [])

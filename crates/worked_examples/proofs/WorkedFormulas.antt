@@ -1,0 +1,25 @@
+-- The worked examples by the completion formulas hold.
+-- Assumes nothing.
+use mathlib.Core.Path.{refl}
+use Rattle.search.specs.Search.{Each}
+use Rattle.search.proofs.Lists.{each-mapped}
+use Rattle.logic_programs.specs.Literals.{complement, setOf, holdsTrue, holdsFalse}
+use Rattle.logic_programs.specs.Words.{rulesOf, badRule}
+use Rattle.completion.specs.Findings.{judged, finding}
+use Rattle.completion.specs.LevelLists.{badLevels}
+use Rattle.completion.specs.Answers.{answer, answerByLevels}
+use Rattle.completion.specs.Examples as of-crate
+use Rattle.completion.proofs.Examples as of-crate-holds
+use Rattle.worked_examples.specs.Examples.{Holds}
+use Rattle.worked_examples.specs.Formulas.{fromFormulas, fromLevels, crateFormulas, crateLevels, formulaExamples}
+
+-- as their crate shows
+pub crate-formulas : Each Holds crateFormulas
+crate-formulas = each-mapped Holds fromFormulas of-crate.examples .1 of-crate-holds.worked
+
+pub crate-levels : Each Holds crateLevels
+crate-levels = each-mapped Holds fromLevels of-crate.levelExamples .1 of-crate-holds.worked-levels
+
+pub formula-examples : Each Holds formulaExamples
+unfolding answer answerByLevels badLevels finding judged rulesOf badRule setOf holdsTrue holdsFalse complement
+formula-examples = (refl, (refl, (refl, (refl, (refl, (refl, (refl, (refl, (refl, (refl, (refl, (refl, (refl, (refl, (refl, (refl, (refl, tt)))))))))))))))))
