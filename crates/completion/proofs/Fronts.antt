@@ -4,6 +4,7 @@ use mathlib.Core.Path.{_≡_, refl, sym, _∙_, ap}
 use mathlib.Core.Bool.{Bool, true, false, cond, not, _&&_, _||_, and-false, Bool·beq}
 use mathlib.Core.List.{List, [], _∷_}
 use mathlib.Core.Logic.{_⊎_, inl, inr}
+use mathlib.Core.Option.{none, some}
 use Prim.Native.Nat.{ℕ, _+_, _-_, _*_, _≤_, _<_}
 use native.Mathlib.Omega.{arith}
 use borrow.Author.Tests.{lt-leb, le-leb, lt-ltb, le-ltb, not-true, not-false, eqb-true, eqb-false, eq-eqb, ne-eqb}
@@ -19,7 +20,7 @@ use Rattle.rule_tables.specs.Internal.{Sound}
 use Rattle.rule_tables.proofs.Walking.{rules-front, sound-size, sound-head}
 use Rattle.completion.specs.Findings.{bodyHolds, sameHead, differ}
 use Rattle.completion.specs.LevelLists.{isBelow, levelOf, standsAbove}
-use Rattle.completion.specs.Internal.{readAs, frontHolds, markOf, headOfMark, heldAt}
+use Rattle.completion.specs.Internal.{readAs, frontHolds, markOf, headOfMark, heldAt, failingFalse}
 
 -- a body: first its negated parts are looked at, then its plain ones
 module _ (X : Lits) (ws : List ℕ) where
@@ -125,6 +126,14 @@ differs a b p q e f = rw (e, f) (cases p q)
     cases true false = refl
     cases false true = refl
     cases false false = refl
+
+-- the formula of false fails where its mark is set
+module _ (held : Lits) (r : Bool) (is : r ≡ held 2048) where
+  pub false-found : r ≡ true → some 65535 ≡ failingFalse held
+  false-found e = rw (sym is ∙ e)
+
+  pub false-absent : r ≡ false → none ≡ failingFalse held
+  false-absent e = rw (sym is ∙ e)
 
 -- a part's level, which is that of its code, is below another or is not
 module _ (levels : List ℕ) (top part c : ℕ) (is : part ≡ levelOf levels c) where
