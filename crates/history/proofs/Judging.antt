@@ -18,11 +18,19 @@ use Rattle.description.specs.declared.Law.{Law}
 use Rattle.description.specs.declared.Description.{Description}
 use Rattle.translation.specs.Translated as translated
 use Rattle.translation_bounds.proofs.Tables.{engine-judges}
-use Rattle.history.specs.Checks.{Finding, missing, judged, finding, checked, tableAfter}
+use Rattle.history.specs.Checks.{Finding, missing, judged, ofEngine, finding, checked, tableAfter}
 
 -- the words of a translation are the first of the table that it was written into
 pub words-front : (ws table : List ℕ) (w : ℕ) → w ≡ length ws → take w (translated.overwritten ws table) ≡ ws
 words-front ws table w e = take-at ws (drop (length ws) table) w (sym e)
+
+-- missing, or what the engine says
+module _ (vs ws : List ℕ) where
+  pub says-missing : {a : ℕ} → first (eqb 0) 0 vs ≡ some a → answered (missing a) ≡ finding vs ws
+  says-missing e = rw e
+
+  pub says-engine : first (eqb 0) 0 vs ≡ none → ofEngine (engine.answer vs ws) ≡ finding vs ws
+  says-engine e = rw e
 
 module _ (d : Description) (ls : List Law) (lent : ℕ) (vs table : List ℕ) where
   pub says-refused : {k p : ℕ} → translated.outcome d ls lent (length table) ≡ refused k p

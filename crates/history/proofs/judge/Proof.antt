@@ -3,6 +3,7 @@
 use mathlib.Core.Path.{ap, _∙_}
 use Rattle.search.proofs.Loops.{at-place, no-place}
 use Rattle.history.specs.Checks.{ofEngine}
+use Rattle.history.proofs.Judging.{says-missing, says-engine}
 use borrow.Author.Needs.{needs}
 use Rattle.history.proofs.judge.Statement.{statement}
 use Rattle.history.proofs.judge.Tie as tie
@@ -14,7 +15,10 @@ enum-known-atom : tie.Need-enum-known-atom
 enum-known-atom c = search needs
 
 returns : tie.Need-returns
-returns c = rw (at-place (c .before .before .before .first-with .ensures) (c .before .atom .given .1))
+returns c =
+    let c3 = c .before .before .before in
+    let a = c3 .before .before .before .args in
+    says-missing (a .values .now) (a .words .now) (at-place (c3 .first-with .ensures) (c .before .atom .given .1))
 
 enum-told : tie.Need-enum-told
 enum-told c = search needs
@@ -29,7 +33,9 @@ returns-2 : tie.Need-returns-2
 returns-2 c =
     let c2 = c .before .before in
     let c4 = c2 .before .before in
-    rw (no-place (c4 .first-with .ensures) (c2 .enum-told .given .1)) (c .from-engine .ensures ∙ ap ofEngine (c .before .check-set .ensures .0))
+    let a = c4 .before .before .before .args in
+    c .from-engine .ensures ∙ ap ofEngine (c .before .check-set .ensures .0)
+    ∙ says-engine (a .values .now) (a .words .now) (no-place (c4 .first-with .ensures) (c2 .enum-told .given .1))
 
 pub judge-spec : {M : Type 1} → statement M
 judge-spec =
