@@ -10,12 +10,14 @@
  * An answer is one number: its code is the answer modulo 256, and its value is the answer divided by 256.
  *
  *   code    meaning                                    value
- *   1..63   a refusal by that number (today 1 to 12)   its place, modulo 2^56
+ *   1..63   a refusal by that number (today 1 to 13)   its place, modulo 2^56
  *   64      passes                                     0
  *   65      clash                                      the atom
  *   66      broken                                     the rule
  *   67      unfounded                                  the literal code
  *   68      missing                                    the atom
+ *   72      holds                                      0
+ *   73      fails                                      the literal code, 65535 for false
  *   80      path                                       0
  *   81      contradicted                               65536 * time + law
  *   82      uncaused                                   65536 * time + fluent
@@ -42,6 +44,23 @@ size_t huntyghai_report(const uint8_t *input, size_t input_length, uint8_t *out,
 /* The engine: is the set of literals that the values hold an answer set of the table's rules? One value an atom: 0 none,
  * 1 true, 2 false, 3 both. Codes 10, 11, 12, 64 to 67. */
 uint64_t huntyghai_check_set(const uint8_t *values, size_t values_length, const uint16_t *table, size_t table_length);
+
+/* The same question without derivation, by the completion formulas: is each literal in the set exactly if the body of some
+ * rule for it holds, negated parts read as complements, and holds no body of a rule headed by false? The lowest literal
+ * whose formula fails is named, false last. An atom without a value is missing, one with both is a clash, and these come
+ * first. Its cost grows with the words of the table. Codes 10, 11, 12, 65, 68, 72, 73. On the words that huntyghai_translate
+ * wrote and values 1 and 2 the answer is 72 exactly if huntyghai_check_set answers 64; on other tables it may differ: with the
+ * words 0,0,1,0 and the value 1 the formulas hold and the engine says unfounded. */
+uint64_t huntyghai_check_completion(const uint8_t *values, size_t values_length, const uint16_t *table,
+                                    size_t table_length);
+
+/* The same with a level for each literal code, which are to show that no literal rests on itself: levels_length is twice
+ * values_length, and the level of each literal head is above that of each plain part of its rule. Refusal 13 says that
+ * they are not so: place 65535 for the length, which is tested first, else the lowest such rule, counted from 0. Where it
+ * does not come, and for values 1 and 2, the answer is 72 exactly if huntyghai_check_set answers 64. Codes 10 to 13, 65, 68,
+ * 72, 73. */
+uint64_t huntyghai_check_by_levels(const uint8_t *values, size_t values_length, const uint16_t *table,
+                                   size_t table_length, const uint16_t *levels, size_t levels_length);
 
 /* Translates the description at the text's start. What stands behind its end line is not read, but counts for the text's
  * length: a text over 65,535 bytes is refused by 1. Codes 1 to 6, 9, 96. On success the table's first words are the

@@ -2,22 +2,19 @@
 -- Assumes nothing.
 use mathlib.Core.Path.{_≡_, refl, sym, _∙_, ap}
 use mathlib.Core.Bool.{Bool, true, false, cond, not, _&&_, _||_, and-false, false≢true}
-use mathlib.Core.List.{List, [], _∷_}
-use mathlib.Core.Option.{Option, none, some}
-use mathlib.Core.Logic.{_⊎_, inl, inr, ⊎-elim}
-use Prim.Native.Nat.{ℕ, suc, _+_, _*_, _≤_, _<_}
-use native.Mathlib.Numerals.{add-one}
+use mathlib.Core.List.{List}
+use mathlib.Core.Logic.{_⊎_, inl, inr}
+use Prim.Native.Nat.{ℕ, _<_}
 use native.Mathlib.Omega.{arith}
-use borrow.Author.Tests.{not-true, ltb-true, eqb-true, eqb-false}
-use lib.Dec.{eqb, ltb}
+use borrow.Author.Tests.{not-true, eqb-false}
+use lib.Dec.{eqb}
 use lib.ListN.{length, getD, drop, set, length-set}
-use Rattle.search.specs.Search.{first}
-use Rattle.search.proofs.Tests.{and-iff, or-iff}
+use Rattle.search.proofs.Tests.{and-iff}
 use Rattle.logic_programs.specs.Literals.{Lits}
-use Rattle.logic_programs.specs.Rules.{Rule, lit, falsum}
+use Rattle.logic_programs.specs.Rules.{lit, falsum}
 use Rattle.rule_tables.specs.Bodies.{marked, applies, frontApplies, frontDerives}
 use Rattle.answer_sets.specs.Verdicts.{round, headIs}
-use Rattle.logic_programs.specs.Words.{ruleSize, ruleAt, ruleFits, headFits, headOf, rulesOf, badRule}
+use Rattle.logic_programs.specs.Words.{ruleSize, ruleAt, headOf, rulesOf}
 use Rattle.rule_tables.specs.Internal.{Sound}
 use Rattle.search.proofs.Stored.{getD-set}
 use Rattle.rule_tables.proofs.Fronts.{whole-derives}

@@ -2,8 +2,8 @@
 -- Assumes nothing.
 use mathlib.Core.Path.{_≡_, refl, sym, _∙_, ap}
 use mathlib.Core.Logic.{_↔_, _⊎_, inl, inr, ⊎-elim, Iff·trans, Iff·and}
-use mathlib.Core.Bool.{Bool, true, false, cond, not}
-use mathlib.Core.List.{List, [], _∷_, List·Memᴰ, List·Memᴰ·head, List·Memᴰ·tail, List·Memᴰ·not-nil, List·Memᴰ·cases-cons}
+use mathlib.Core.Bool.{Bool, true, false, cond}
+use mathlib.Core.List.{List, [], _∷_, List·Memᴰ·head, List·Memᴰ·tail, List·Memᴰ·not-nil, List·Memᴰ·cases-cons}
 use mathlib.Core.Option.{Option, none, some}
 use Prim.Native.Nat.{ℕ, _*_, _<_}
 use native.Mathlib.Omega.{arith}
@@ -17,7 +17,7 @@ use Rattle.search.proofs.Lists.{none-iff, each-range}
 use Rattle.logic_programs.specs.Literals.{Lits, complement, setOf, OneValue, badValue}
 use Rattle.logic_programs.specs.Rules.{Head, lit, falsum, Rule}
 use Rattle.logic_programs.specs.Words.{rulesOf}
-use Rattle.tight_programs.specs.LiteralCompletion.{BodyHolds, SomeBody, Formula, Completion}
+use Rattle.tight_programs.specs.LiteralCompletion.{BodyHolds, SomeBody, Formula}
 use Rattle.completion.specs.Findings.{Finding, missing, clash, fails, holds, bodyHolds, sameHead, someBody, differ, literalFails, judged, finding}
 use Rattle.completion.specs.Meaning.{NoValue, BothValues, ByFormulas}
 

@@ -1,11 +1,11 @@
 -- The rule at the front of a table: its body, its head's mark, and its levels; and the marks of the heads, rule by rule.
 -- Assumes nothing.
-use mathlib.Core.Path.{_≡_, refl, sym, _∙_, ap}
+use mathlib.Core.Path.{_≡_, refl, sym, _∙_}
 use mathlib.Core.Bool.{Bool, true, false, cond, not, _&&_, _||_, and-false, Bool·beq}
-use mathlib.Core.List.{List, [], _∷_}
+use mathlib.Core.List.{List}
 use mathlib.Core.Logic.{_⊎_, inl, inr}
 use mathlib.Core.Option.{none, some}
-use Prim.Native.Nat.{ℕ, _+_, _-_, _*_, _≤_, _<_}
+use Prim.Native.Nat.{ℕ, _+_, _-_, _≤_, _<_}
 use native.Mathlib.Omega.{arith}
 use borrow.Author.Tests.{lt-leb, le-leb, lt-ltb, le-ltb, not-true, not-false, eqb-true, eqb-false, eq-eqb, ne-eqb}
 use lib.Dec.{eqb}
@@ -13,7 +13,7 @@ use lib.ListN.{length, getD, take, drop, set, length-set}
 use Rattle.search.specs.Search.{all}
 use Rattle.search.proofs.Stored.{getD-set}
 use Rattle.logic_programs.specs.Literals.{Lits}
-use Rattle.logic_programs.specs.Rules.{Head, lit, falsum, Rule}
+use Rattle.logic_programs.specs.Rules.{lit, falsum}
 use Rattle.logic_programs.specs.Words.{headOf, ruleSize, ruleAt, rulesOf}
 use Rattle.rule_tables.specs.Bodies.{marked}
 use Rattle.rule_tables.specs.Internal.{Sound}

@@ -1,7 +1,6 @@
 -- What is found, from what the searches found, in the order in which the code makes them.
 -- Assumes nothing.
 use mathlib.Core.Path.{_≡_, refl, sym, _∙_, ap}
-use mathlib.Core.Logic.{_↔_}
 use mathlib.Core.Bool.{Bool, true, false, cond, not}
 use mathlib.Core.List.{List, [], _∷_}
 use mathlib.Core.Option.{Option, none, some}
@@ -11,7 +10,6 @@ use borrow.Author.Tests.{ne-eqb}
 use lib.Dec.{eqb}
 use lib.ListN.{length}
 use Rattle.search.specs.Search.{Each, first, range}
-use Rattle.search.specs.Replies.{answered}
 use Rattle.search.proofs.Tests.{range-lowest}
 use Rattle.search.proofs.Lists.{each-range}
 use Rattle.logic_programs.specs.Literals.{Lits, setOf}

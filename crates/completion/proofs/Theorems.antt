@@ -12,7 +12,7 @@ use lib.Dec.{eqb}
 use lib.ListN.{length, getD}
 use Rattle.search.specs.Search.{Each, first, Lowest}
 use Rattle.search.specs.Replies.{Reply, refused, answered, orElse, orRefuse}
-use Rattle.search.proofs.Tests.{not-both, first-lowest}
+use Rattle.search.proofs.Tests.{first-lowest}
 use Rattle.logic_programs.specs.Literals.{setOf, OneValue}
 use Rattle.logic_programs.specs.Rules.{Rule}
 use Rattle.logic_programs.specs.Words.{rulesOf}

@@ -1,15 +1,15 @@
 -- Levels that refusal 13 lets pass show that a table is tight; then what holds by the formulas is an answer set.
 -- Assumes nothing.
 use mathlib.Core.Path.{_≡_, refl, sym, _∙_, ap}
-use mathlib.Core.Logic.{_↔_, inl, inr, ⊎-elim, Iff·trans, Iff·symm}
-use mathlib.Core.Bool.{Bool, true, false, cond, not}
+use mathlib.Core.Logic.{_↔_, inl, inr, ⊎-elim, Iff·trans}
+use mathlib.Core.Bool.{true, false, not}
 use mathlib.Core.List.{List}
-use mathlib.Core.Option.{Option, none, some}
+use mathlib.Core.Option.{none}
 use Prim.Native.Nat.{ℕ, _+_, _*_, _/_, _%_, _<_}
 use native.Mathlib.Omega.{arith}
 use borrow.Author.Tests.{ltb-true, lt-ltb}
 use lib.ListN.{length, getD}
-use Rattle.search.specs.Search.{Each, all, first}
+use Rattle.search.specs.Search.{Each, first}
 use Rattle.search.proofs.Tests.{not-both, false-of-not, true-of-not, not-iff, all-each, each-map, each-at}
 use Rattle.search.proofs.Lists.{each-iff, none-iff}
 use Rattle.logic_programs.specs.Literals.{setOf, holdsTrue, holdsFalse, OneValue}

@@ -1,22 +1,22 @@
 -- The completion formulas and the history check name the same atoms without a value and with both.
 -- Assumes nothing.
-use mathlib.Core.Path.{_≡_, refl, sym, ap, _∙_}
-use mathlib.Core.Logic.{_↔_, _⊎_, inl, inr, ⊎-elim, Iff·trans, Iff·symm, Iff·and}
-use mathlib.Core.Bool.{Bool, true, false, _||_}
+use mathlib.Core.Path.{_≡_, refl, sym, _∙_}
+use mathlib.Core.Logic.{_↔_, _⊎_, inl, inr, Iff·trans, Iff·symm, Iff·and}
+use mathlib.Core.Bool.{true}
 use mathlib.Core.List.{List}
 use mathlib.Core.Option.{Option, none, some}
-use Prim.Native.Nat.{ℕ, _+_, _*_, _<_}
+use Prim.Native.Nat.{ℕ, _<_}
 use native.Mathlib.Omega.{arith}
 use borrow.Author.Tests.{eqb-true, eq-eqb}
 use lib.Dec.{eqb}
 use lib.ListN.{length, getD}
-use Rattle.search.specs.Search.{first, Lowest, Nowhere}
+use Rattle.search.specs.Search.{first, Lowest}
 use Rattle.search.specs.Replies.{Reply, refused, answered, orElse}
 use Rattle.search.proofs.Tests.{or-iff, first-lowest, first-nowhere}
 use Rattle.logic_programs.specs.Literals.{setOf, holdsTrue, holdsFalse}
 use Rattle.answer_sets.specs.Verdicts.{Verdict, clash}
 use Rattle.answer_sets.specs.Answers as engine
-use Rattle.answer_sets.specs.Demand2.{Accepted, Clashing, Demand2}
+use Rattle.answer_sets.specs.Demand2.{Clashing, Demand2}
 use Rattle.answer_sets.proofs.Theorems.{demand-2}
 use Rattle.completion.specs.Meaning.{NoValue, BothValues}
 use Rattle.completion.proofs.Tightness.{even-in, odd-in}

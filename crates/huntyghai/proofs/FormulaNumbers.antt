@@ -24,7 +24,7 @@ use Rattle.completion.proofs.Theorems as completed
 use Rattle.completion.proofs.Formulas as formulas
 use Rattle.answer_codes.specs.Codes.{coded, replyCode}
 use Rattle.answer_codes.specs.FormulaCodes.{formulaCode}
-use Rattle.huntyghai.specs.FormulaNumbers.{NumberedByFormulas, CompletionNumbered, NumberedByLevels, LevelsNumbered}
+use Rattle.huntyghai.specs.FormulaNumbers.{NumberedByFormulas, CompletionNumbered, LevelsNumbered}
 use Rattle.huntyghai.proofs.SetCodes.{same-value, other-code, passes-told}
 
 -- a reply's code and value

@@ -3,14 +3,13 @@
 use mathlib.Core.Path.{_≡_, refl, sym, ap, _∙_}
 use mathlib.Core.Logic.{_↔_, Iff·trans}
 use mathlib.Core.List.{List}
-use Prim.Native.Nat.{ℕ, _+_, _*_, _%_, _≤_, _<_}
+use Prim.Native.Nat.{ℕ, _%_, _≤_, _<_}
 use native.Mathlib.Omega.{arith}
 use lib.ListN.{length}
-use Rattle.search.specs.Search.{Lowest}
-use Rattle.search.specs.Replies.{Reply, refused, answered}
+use Rattle.search.specs.Replies.{Reply, answered}
 use Rattle.logic_programs.specs.Literals.{setOf}
 use Rattle.answer_sets.specs.Verdicts.{Verdict, clash, broken, unfounded, passes, verdict}
-use Rattle.logic_programs.specs.Words.{rulesOf, badRule}
+use Rattle.logic_programs.specs.Words.{rulesOf}
 use Rattle.answer_sets.specs.Answers.{answer}
 use Rattle.answer_sets.specs.Demand2.{Accepted, Judged, Demand2}
 use Rattle.answer_sets.proofs.Decoding.{accepted-count}

@@ -1,7 +1,7 @@
 -- The numbers by which the engine, the judging by formulas and, behind a description that was taken, the translation, the history check and the causal
 -- reading refuse. Besides, what is known of a whole input that the readers take.
 -- Assumes nothing.
-use mathlib.Core.Path.{_≡_, refl, sym, ap, subst, _∙_}
+use mathlib.Core.Path.{_≡_, refl, sym, subst, _∙_}
 use mathlib.Core.Bool.{Bool, true, false}
 use mathlib.Core.List.{List, [], _∷_, append-nil}
 use mathlib.Core.Option.{Option, none, some}

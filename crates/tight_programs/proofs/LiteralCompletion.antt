@@ -4,11 +4,11 @@
 use mathlib.Core.Path.{_≡_, refl, sym, _∙_, ap}
 use mathlib.Core.Logic.{_↔_, ⊎-elim, Iff·trans}
 use mathlib.Core.Bool.{Bool, true, false, not, Bool·not-not}
-use mathlib.Core.List.{List, List·Memᴰ}
+use mathlib.Core.List.{List}
 use Prim.Native.Nat.{ℕ, _+_, _*_, _<_}
 use native.Mathlib.Omega.{arith}
 use Rattle.search.specs.Search.{Each, all}
-use Rattle.search.proofs.Tests.{not-both, false-of-not, and-iff, not-iff, each-map, each-map₂, all-each}
+use Rattle.search.proofs.Tests.{not-both, false-of-not, and-iff, each-map₂, all-each}
 use Rattle.search.proofs.Lists.{each-iff-given, each-member, member-each}
 use Rattle.search.proofs.Parity.{by-parity}
 use Rattle.logic_programs.specs.Literals.{Lits, complement}
@@ -17,7 +17,7 @@ use Rattle.logic_programs.specs.AnswerSets.{meets, reduct, HeadIn, Closed, Cons
 use Rattle.logic_programs.proofs.Complements.{complement-even, complement-odd}
 use Rattle.answer_sets.proofs.Sets.{all-within, all-not-meets}
 use Rattle.tight_programs.specs.TightPrograms.{Supported}
-use Rattle.tight_programs.specs.LiteralCompletion.{BodyHolds, SomeBody, Holds, Completion, HeadOver, Over, CompleteSet, Proposition3}
+use Rattle.tight_programs.specs.LiteralCompletion.{BodyHolds, SomeBody, Completion, HeadOver, Over, CompleteSet, Proposition3}
 use Rattle.tight_programs.proofs.Supported.{bodyIn, closed-rules, rules-support, support-cases, proposition-4}
 
 module _ (n : ℕ) (X : Lits) (consistent : Consistent X) (set : CompleteSet n X) where
