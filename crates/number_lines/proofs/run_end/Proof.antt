@@ -25,10 +25,10 @@ add-end-2 : tie.Need-add-end-2
 add-end-2 c = omega (arith, c .shared-slice-known .given (c .before .before .args .at))
 
 returns-2 : tie.Need-returns-2
-returns-2 c = let a = c .before .before .before .args in run-over (a .numbers .now) (a .at) (c .if2 .taken)
+returns-2 c = let a = c .before .before .before .args in run-over (a .numbers .now) (a .at) (omega (arith, c .if2 .taken))
 
 returns-3 : tie.Need-returns-3
-returns-3 c = let a = c .before .before .before .args in run-ends (a .numbers .now) (a .at) (c .if2 .left)
+returns-3 c = let a = c .before .before .before .args in run-ends (a .numbers .now) (a .at) (omega (arith, c .if2 .left))
 
 pub run-end-spec : {M : Type 1} → statement M
 run-end-spec =
