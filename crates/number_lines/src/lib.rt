@@ -13,8 +13,8 @@ ghost use Rattle.number_lines.specs.Runs.{runEnd, valuesOf};
 
 // How many numbers a line has, and the place behind it.
 pub struct Line {
-    count: usize,
-    next: usize,
+    pub count: usize,
+    pub next: usize,
 }
 
 // Stores a number, if there is room for it.
@@ -31,6 +31,13 @@ fn with_digit(value: u16, byte: u8) -> u16
     ensures { λ r. ⌜ r ≡ withDigit value byte ⌝ }
 {
     ((value as usize * 10 + byte as usize % 16) % 65536) as u16
+}
+
+// Room for the numbers of a line.
+pub fn no_numbers() -> [u16; 4096]
+    ensures { λ r. ⌜ r ≡ replicate 4096 0 ⌝ }
+{
+    [0; 4096]
 }
 
 // Reads the numbers of the line that begins at a place; those that have no room are only counted. At the text's end or past it

@@ -1,13 +1,38 @@
 // Recipes, each followed by an empty line.
 use crate::verdicts::write_checked;
-use crate::verdicts::write_named;
+use crate::verdicts::write_formulas;
+use description::Description;
+use description::Law;
+use history::Checked;
 use history_reader::HistoryAnswer;
+use number_lines::output::write_named;
+use number_lines::output::write_word;
+use translation::Translated;
 ghost use Prim.Native.Nat.{_<_, _≤_};
 ghost use lib.ListN.{length};
 
 // Room for the largest table.
 fn no_table() -> [u16; 30912] {
     [0; 30912]
+}
+
+// Writes what the completion formulas say of values and the translation that the history check left in the table.
+fn write_translated(d: Description, laws: [Law; 64], values: &[u8], table: &[u16]) {
+    let measured = translation::measure(d, laws, 64, table.len());
+    if let Translated::Written(_, _, words) = measured {
+        write_formulas(completion::check_completion(values, &table[..words]));
+    }
+}
+
+// Writes the history check's verdict on a description and values, and behind a verdict what the completion formulas say.
+fn write_verdicts(d: Description, laws: [Law; 64], values: &[u8]) {
+    let mut table = no_table();
+    let checked = history::check_history(d, laws, 64, values, &mut table);
+    write_checked(checked);
+    match checked {
+        Checked::Refused(_, _) => {}
+        _ => write_translated(d, laws, values, &table),
+    }
 }
 
 // Reads one recipe and writes the verdict on its history.
@@ -21,10 +46,10 @@ fn judge(recipe: &[u8]) {
             let laws = whole.laws;
             let values = whole.values;
             let atoms = whole.atoms;
-            let mut table = no_table();
-            write_checked(history::check_history(d, laws, 64, &values[..atoms], &mut table));
+            write_verdicts(d, laws, &values[..atoms]);
         }
     }
+    write_word(b"\n");
 }
 
 // Where the recipe that begins at a place ends: behind the byte 10 in front of an empty line, or at the text's end.

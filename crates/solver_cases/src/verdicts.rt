@@ -1,15 +1,8 @@
-// Verdicts as lines: a word, and the number that it names.
+// Verdicts as words, each with the number that it names, and the answer of the completion formulas behind a verdict.
 use answer_sets::Answer;
 use history::Checked;
-use libc::STDOUT_FILENO;
-
-// A word and a number.
-pub(crate) fn write_named(word: &[u8], number: usize) {
-    io::write_all(STDOUT_FILENO, word);
-    io::write_all(STDOUT_FILENO, b" ");
-    io::print_decimal(STDOUT_FILENO, number as u64);
-    io::write_all(STDOUT_FILENO, b"\n");
-}
+use number_lines::output::write_named;
+use number_lines::output::write_word;
 
 pub(crate) fn write_checked(checked: Checked) {
     match checked {
@@ -18,9 +11,7 @@ pub(crate) fn write_checked(checked: Checked) {
         Checked::Clash(atom) => write_named(b"clash", atom),
         Checked::Broken(rule) => write_named(b"broken", rule),
         Checked::Unfounded(code) => write_named(b"unfounded", code),
-        Checked::Passes => {
-            io::write_all(STDOUT_FILENO, b"passes\n");
-        }
+        Checked::Passes => write_word(b"passes"),
     }
 }
 
@@ -30,8 +21,15 @@ pub(crate) fn write_answer(answer: Answer) {
         Answer::Clash(atom) => write_named(b"clash", atom),
         Answer::Broken(rule) => write_named(b"broken", rule),
         Answer::Unfounded(code) => write_named(b"unfounded", code),
-        Answer::Passes => {
-            io::write_all(STDOUT_FILENO, b"passes\n");
-        }
+        Answer::Passes => write_word(b"passes"),
+    }
+}
+
+// What the completion formulas say behind a verdict: nothing, where an atom has no value or both, or the table is refused.
+pub(crate) fn write_formulas(answer: completion::Answer) {
+    match answer {
+        completion::Answer::Fails(word) => write_named(b" fails", word),
+        completion::Answer::Holds => write_word(b" holds"),
+        _ => {}
     }
 }

@@ -1,4 +1,4 @@
--- `judge` is safe: there are no more values than the array holds.
+-- `solver_cases::recipes::judge` is safe: there are no more values than the array holds.
 -- Assumes nothing.
 use native.Mathlib.Omega.{arith}
 use lib.ListN.{length-take}
@@ -21,31 +21,25 @@ write-named-requires c κs = search needs
 enum-told : tie.Need-enum-told
 enum-told c = search needs
 
-no-table-requires : tie.Need-no-table-requires
-no-table-requires c κs = search needs
-
 array-share-prefix-values : tie.Need-array-share-prefix-values
 array-share-prefix-values c = search needs
 
-slice-aggregate-check-history : tie.Need-slice-aggregate-check-history
-slice-aggregate-check-history c =
-    let i = c .before .before .before .before .before .before .before .read-input in
+slice-aggregate-write-verdicts : tie.Need-slice-aggregate-write-verdicts
+slice-aggregate-write-verdicts c =
+    let i = c .before .before .before .before .before .before .read-input in
     omega (arith, length-take (i .result .atoms) (i .result .values), i .ensures .1 .1 .1 .1 .1 .1 .0, i .ensures .1 .1 .1 .1 .1 .1 .1)
 
-slice-aggregate-check-history-2 : tie.Need-slice-aggregate-check-history-2
-slice-aggregate-check-history-2 c = search needs
+write-verdicts-requires : tie.Need-write-verdicts-requires
+write-verdicts-requires c κs = search needs
 
-check-history-requires : tie.Need-check-history-requires
-check-history-requires c κs = search needs
+slice-aggregate-write-word : tie.Need-slice-aggregate-write-word
+slice-aggregate-write-word c = search needs
 
-write-checked-requires : tie.Need-write-checked-requires
-write-checked-requires c κs = search needs
+write-word-requires : tie.Need-write-word-requires
+write-word-requires c κs = search needs
 
 returns : tie.Need-returns
 returns c = search needs
-
-returns-2 : tie.Need-returns-2
-returns-2 c = search needs
 
 pub judge-spec : {M : Type 1} → statement M
 judge-spec =
@@ -56,11 +50,9 @@ judge-spec =
     slice-aggregate-write-named
     write-named-requires
     enum-told
-    no-table-requires
     array-share-prefix-values
-    slice-aggregate-check-history
-    slice-aggregate-check-history-2
-    check-history-requires
-    write-checked-requires
-    returns
-    returns-2)
+    slice-aggregate-write-verdicts
+    write-verdicts-requires
+    slice-aggregate-write-word
+    write-word-requires
+    returns)

@@ -1,4 +1,4 @@
--- `judge_all` is safe and ends: each recipe ends behind its start.
+-- `solver_cases::recipes::judge_all` is safe and ends: each recipe ends behind its start.
 -- Assumes nothing.
 use Prim.Native.Nat.{_-_, _≤_}
 use native.Mathlib.Omega.{arith}

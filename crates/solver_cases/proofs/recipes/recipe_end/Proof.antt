@@ -1,4 +1,4 @@
--- `recipe_end` meets its contract: the place only moves up.
+-- `solver_cases::recipes::recipe_end` meets its contract: the place only moves up.
 -- Assumes nothing.
 use Prim.Native.Nat.{_+_, _-_, _<_, _≤_}
 use native.Mathlib.Omega.{arith}

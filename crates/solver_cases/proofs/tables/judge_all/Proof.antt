@@ -1,9 +1,10 @@
--- `judge_all` is safe and ends: each line ends behind its start.
+-- `solver_cases::tables::judge_all` is safe and ends: each line ends behind its start.
 -- Assumes nothing.
 use Prim.Native.Nat.{_-_, _≤_}
 use native.Mathlib.Omega.{arith}
 use borrow.Author.Needs.{needs}
 use lib.ListN.{length, length-take}
+use Rattle.number_lines.proofs.Reading.{line-within}
 use Rattle.solver_cases.proofs.tables.judge_all.Statement.{statement}
 use Rattle.solver_cases.proofs.tables.judge_all.Tie as tie
 
@@ -28,24 +29,30 @@ read-line-requires c κs = search needs
 array-share-prefix-numbers : tie.Need-array-share-prefix-numbers Inv-loop μ-loop
 array-share-prefix-numbers c = search needs
 
-slice-aggregate-judge : tie.Need-slice-aggregate-judge Inv-loop μ-loop
-slice-aggregate-judge c =
+slice-aggregate-judge-line : tie.Need-slice-aggregate-judge-line Inv-loop μ-loop
+slice-aggregate-judge-line c =
     let r = c .before .before .before .read-line in
     let last = r .last .1 .1 .0 in
     omega
-    (arith, length-take (r .result .count) last, r .kept .1 .1 .0, c .before .before .before .before .before .no-numbers .ensures, c .before .if1 .taken)
+    (arith, length-take (r .result .count) last, r .kept .1 .1 .0, c .before .if1 .taken)
 
-judge-requires : tie.Need-judge-requires Inv-loop μ-loop
-judge-requires c κs = search needs
+judge-line-requires : tie.Need-judge-line-requires Inv-loop μ-loop
+judge-line-requires c κs = search needs
 
 loop-less : tie.Need-loop-less Inv-loop μ-loop
-loop-less c = search needs
+loop-less c =
+    let c4 = c .before .before .before .before in
+    let t = c4 .before .before .before in
+    omega (arith, c4 .read-line .ensures .1 .0, line-within (t .before .before .before .args .text .now) (t .before .loop .from) (t .loop-test .taken) .0)
 
 loop-again : tie.Need-loop-again Inv-loop μ-loop
 loop-again c = search needs
 
 loop-less-2 : tie.Need-loop-less-2 Inv-loop μ-loop
-loop-less-2 c = search needs
+loop-less-2 c =
+    let c2 = c .before .before in
+    let t = c2 .before .before .before in
+    omega (arith, c2 .read-line .ensures .1 .0, line-within (t .before .before .before .args .text .now) (t .before .loop .from) (t .loop-test .taken) .0)
 
 loop-again-2 : tie.Need-loop-again-2 Inv-loop μ-loop
 loop-again-2 c = search needs
@@ -64,8 +71,8 @@ judge-all-spec =
     slice-aggregate-read-line
     read-line-requires
     array-share-prefix-numbers
-    slice-aggregate-judge
-    judge-requires
+    slice-aggregate-judge-line
+    judge-line-requires
     loop-less
     loop-again
     loop-less-2
