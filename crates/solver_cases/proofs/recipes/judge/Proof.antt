@@ -1,4 +1,4 @@
--- `solver_cases::recipes::judge` is safe: there are no more values than the array holds.
+-- `solver_cases::recipes::judge` meets its contract: there are no more values than the array holds.
 -- Assumes nothing.
 use native.Mathlib.Omega.{arith}
 use lib.ListN.{length-take}

@@ -1,7 +1,6 @@
--- `solver_cases::recipes::judge_all` is safe and ends: each recipe ends behind its start.
+-- `solver_cases::recipes::judge_all` meets its contract: each recipe ends behind its start.
 -- Assumes nothing.
-use Prim.Native.Nat.{_-_, _≤_}
-use native.Mathlib.Omega.{arith}
+use Prim.Native.Nat.{_-_}
 use borrow.Author.Needs.{needs}
 use lib.ListN.{length}
 use Rattle.solver_cases.proofs.recipes.judge_all.Statement.{statement}

@@ -1,7 +1,6 @@
 -- `solver_cases::recipes::recipe_end` meets its contract: the place only moves up.
 -- Assumes nothing.
-use Prim.Native.Nat.{_+_, _-_, _<_, _≤_}
-use native.Mathlib.Omega.{arith}
+use Prim.Native.Nat.{_-_, _<_, _≤_}
 use borrow.Author.Needs.{needs}
 use lib.ListN.{length}
 use Rattle.solver_cases.proofs.recipes.recipe_end.Statement.{statement}

@@ -1,4 +1,4 @@
--- `solver_cases::recipes::write_translated` is safe: the words fit in the table that they were measured for.
+-- `solver_cases::recipes::write_translated` meets its contract: the words fit in the table that they were measured for.
 -- Assumes nothing.
 use mathlib.Core.Path.{sym, ap, _∙_}
 use native.Mathlib.Omega.{arith}

@@ -1,4 +1,4 @@
--- `solver_cases::tables::judge` is safe: there are no more values than the array holds.
+-- `solver_cases::tables::judge` meets its contract: there are no more values than the array holds.
 -- Assumes nothing.
 use native.Mathlib.Omega.{arith}
 use borrow.Author.Needs.{needs}

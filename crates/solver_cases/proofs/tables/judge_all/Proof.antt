@@ -1,6 +1,6 @@
--- `solver_cases::tables::judge_all` is safe and ends: each line ends behind its start.
+-- `solver_cases::tables::judge_all` meets its contract: each line ends behind its start.
 -- Assumes nothing.
-use Prim.Native.Nat.{_-_, _≤_}
+use Prim.Native.Nat.{_-_}
 use native.Mathlib.Omega.{arith}
 use borrow.Author.Needs.{needs}
 use lib.ListN.{length, length-take}

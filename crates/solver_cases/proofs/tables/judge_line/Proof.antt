@@ -1,4 +1,4 @@
--- `solver_cases::tables::judge_line` is safe: the run of values ends among the numbers.
+-- `solver_cases::tables::judge_line` meets its contract: the run of values ends among the numbers.
 -- Assumes nothing.
 use native.Mathlib.Omega.{arith}
 use borrow.Author.Needs.{needs}
