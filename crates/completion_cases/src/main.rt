@@ -1,6 +1,6 @@
 // Writes the answer of the completion formulas to each case in the file cases, a line each. A case is a line of decimal numbers
-// with single spaces between them: 0 for the call without levels or 1 for the call with them; how many atoms there are and a value
-// for each; with levels, how many there are and the levels; and the words of the table.
+// with single spaces between them: 0 for the call without levels or 1 for the call with them; how many atoms there are and a
+// value for each; with levels, how many there are and the levels; and the words of the table.
 use completion::Answer;
 use number_lines::output::write_named;
 use number_lines::output::write_number;

@@ -12,8 +12,8 @@ use lib.ListN.{length, getD, set, drop, drop-of-length-le, length-drop}
 use lib.Seq.{sets, drop-cons}
 use Rattle.number_lines.specs.Lines.{withDigit, numbersOf, lineSize}
 
--- the reading that is left from place `next` on, with `count` numbers stored and `value` begun, comes to C numbers, the place N and
--- the stored list R
+-- the reading that is left from place `next` on, with `count` numbers stored and `value` begun, comes to C numbers, the place N
+-- and the stored list R
 abbrev pub Left : List ℕ → ℕ → ℕ → ℕ → List ℕ → ℕ → ℕ → List ℕ → Type 0
 Left text next value count stored C N R =
     (count + length (numbersOf value (drop next text)) ≡ C) × ((next + lineSize (drop next text) ≡ N) × (sets stored count (numbersOf value (drop next text)) ≡ R))

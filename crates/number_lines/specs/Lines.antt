@@ -9,8 +9,8 @@ use lib.Dec.{eqb}
 abbrev pub withDigit : ℕ → ℕ → ℕ
 withDigit value byte = (value * 10 + byte % 16) % 65536
 
--- the numbers of the line that the bytes begin with, where `value` is what the digits of the first number came to so far: byte 10
--- ends the line, byte 32 a number, any other is a digit
+-- the numbers of the line that the bytes begin with, where `value` is what the digits of the first number came to so far: byte
+-- 10 ends the line, byte 32 a number, any other is a digit
 abbrev pub numbersOf : ℕ → List ℕ → List ℕ
 numbersOf value [] = value ∷ []
 numbersOf value (b ∷ bs) = cond (eqb b 10) (value ∷ []) (cond (eqb b 32) (value ∷ numbersOf 0 bs) (numbersOf (withDigit value b) bs))

@@ -89,6 +89,7 @@ pub fn run_end(numbers: &[u16], at: usize) -> Found
     Found::At(end)
 }
 
+// 1,024 values, all 0.
 fn no_values() -> [u8; 1024]
     ensures { λ r. ⌜ r ≡ replicate 1024 0 ⌝ }
 {

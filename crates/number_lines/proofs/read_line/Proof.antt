@@ -1,4 +1,5 @@
--- `number_lines::read_line` meets its contract. The loop's invariant: the reading that is left comes to what the whole line comes to.
+-- `number_lines::read_line` meets its contract. The loop's invariant: the reading that is left comes to what the whole line
+-- comes to.
 -- Assumes nothing.
 use mathlib.Core.Path.{_≡_}
 use Prim.Native.Nat.{_+_, _-_, _≤_}

@@ -1,5 +1,5 @@
--- `number_lines::values_of` meets its contract. The loop's invariant: the numbers that are left make of the values what all make of
--- none.
+-- `number_lines::values_of` meets its contract. The loop's invariant: the numbers that are left make of the values what all of
+-- them make of none.
 -- Assumes nothing.
 use mathlib.Core.Path.{_≡_, refl, _∙_}
 use mathlib.Core.List.{map}
