@@ -99,7 +99,7 @@ module _ (d : Description) (ls : List Law) (lent : ℕ) (vs : List ℕ) (complet
   by-engine = Iff·trans (rw decoded at (demand-2 vs (tableFor d ls) accepted .passes-exactly)) by-answer-set
 
   -- the published rules are tight, by their codes
-  by-completion : completion.answer vs (tableFor d ls) ≡ answered holds ↔ PathOf d ls vs
+  pub by-completion : completion.answer vs (tableFor d ls) ≡ answered holds ↔ PathOf d ls vs
   by-completion =
       Iff·trans
       (rw decoded at (holds-answer-set vs (tableFor d ls) accepted one (λ c. c)

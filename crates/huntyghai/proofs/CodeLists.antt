@@ -40,15 +40,15 @@ listed : (codes : List ℕ) (k x : ℕ) → k < 256 → among k codes ≡ true �
 unfolding CodeAmong
 listed codes k x h e = rw (code-of k x h) e
 
--- numbers among some that are all below 256
-below : (k : ℕ) (xs : List ℕ) → Each (λ x. x < 256) xs → among k xs ≡ true → k < 256
-below k [] w q = absurd (not-both q refl)
-below k (x ∷ xs) w q = ⊎-elim (λ (s : eqb k x ≡ true). rw (eqb-true k x s) (w .0)) (λ (later : among k xs ≡ true). below k xs (w .1) later) (or-iff (eqb k x) (among k xs) .0 q)
+-- numbers among some that are all below a bound
+pub below : (bound k : ℕ) (xs : List ℕ) → Each (λ x. x < bound) xs → among k xs ≡ true → k < bound
+below bound k [] w q = absurd (not-both q refl)
+below bound k (x ∷ xs) w q = ⊎-elim (λ (s : eqb k x ≡ true). rw (eqb-true k x s) (w .0)) (λ (later : among k xs ≡ true). below bound k xs (w .1) later) (or-iff (eqb k x) (among k xs) .0 q)
 
 -- a refusal by some of the numbers, or an answer whose code is listed
 reply-among : {A : Type 0} (numbers codes : List ℕ) (code : A → ℕ) (r : Reply A) → Each (λ x. x < 256) numbers → all (λ c. among c codes) numbers ≡ true
     → RefusedBy numbers r → ((a : A) → r ≡ answered a → CodeAmong codes (code a)) → CodeAmong codes (replyCode code r)
-reply-among numbers codes code (refused number place) small within by of = listed codes number place (below number numbers small by) (among-more numbers codes number within by)
+reply-among numbers codes code (refused number place) small within by of = listed codes number place (below 256 number numbers small by) (among-more numbers codes number within by)
 reply-among numbers codes code (answered a) small within by of = of a refl
 
 abbrev pub engineCodes : List ℕ
@@ -142,7 +142,7 @@ history-codes description text room = go (readHistory description text room) (wh
     go : (r : Reply (List ℕ)) → RefusedBy (1 ∷ 2 ∷ 3 ∷ 4 ∷ 5 ∷ 6 ∷ 7 ∷ 10 ∷ []) r → CodeAmong historyCodes (replyCode readCode (historyReplied r))
     go (refused number place) h =
         listed historyCodes number place
-        (below number (1 ∷ 2 ∷ 3 ∷ 4 ∷ 5 ∷ 6 ∷ 7 ∷ 10 ∷ []) (omega arith, (omega arith, (omega arith, (omega arith, (omega arith, (omega arith, (omega arith, (omega arith, tt)))))))) h)
+        (below 256 number (1 ∷ 2 ∷ 3 ∷ 4 ∷ 5 ∷ 6 ∷ 7 ∷ 10 ∷ []) (omega arith, (omega arith, (omega arith, (omega arith, (omega arith, (omega arith, (omega arith, (omega arith, tt)))))))) h)
         (among-more (1 ∷ 2 ∷ 3 ∷ 4 ∷ 5 ∷ 6 ∷ 7 ∷ 10 ∷ []) historyCodes number refl h)
     go (answered vs) h = listed historyCodes 112 0 (omega arith) refl
 

@@ -2,3 +2,4 @@ pub mod Texts
 pub mod SetCodes
 pub mod FormulaNumbers
 pub mod CodeLists
+pub mod TextReadings

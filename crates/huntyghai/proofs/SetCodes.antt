@@ -37,7 +37,7 @@ Small (broken r) = r < 72057594037927936
 Small (unfounded c) = c < 72057594037927936
 
 module _ (v : Verdict) where
-  tells-passes : verdictCode v ≡ coded 64 0 → v ≡ passes
+  pub tells-passes : verdictCode v ≡ coded 64 0 → v ≡ passes
   tells-passes = go v
     where
       go : (w : Verdict) → verdictCode w ≡ coded 64 0 → w ≡ passes

@@ -1,6 +1,7 @@
 -- The library for C: what the functions on texts answer and leave, demand 2 on the engine's numbers, what
--- the numbers by the completion formulas say, and which codes can come.
+-- the numbers by the completion formulas say, demand 3 on numbers, and which codes can come.
 pub mod Texts
 pub mod SetCodes
 pub mod FormulaNumbers
+pub mod TextReadings
 pub mod CodeLists

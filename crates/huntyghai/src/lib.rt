@@ -17,6 +17,7 @@ ghost use Rattle.answer_codes.specs.FormulaCodes.{formulaCode};
 ghost use Rattle.huntyghai.specs.Texts.{translatedText, tableOfText, checkedText, tableOfCheck, readingOfInput};
 ghost use Rattle.huntyghai.specs.SetCodes.{SetNumbered};
 ghost use Rattle.huntyghai.specs.FormulaNumbers.{CompletionNumbered, LevelsNumbered};
+ghost use Rattle.huntyghai.specs.TextReadings.{TextTranslates, TextChecks};
 ghost use Rattle.huntyghai.specs.CodeLists.{CodeAmong};
 
 // What the program check prints for an input, as far as the buffer goes; the result is the whole output's length, at most 400.
@@ -65,6 +66,7 @@ pub extern "C" fn huntyghai_translate(text: &[u8], table: &mut [u16]) -> u64
     ensures { λ r. ⌜ r ≡ translatedText (now (text .entry)) (length (now (table .entry))) ⌝ }
     ensures { λ _. ⌜ now (table .exit) ≡ tableOfText (now (text .entry)) (now (table .entry)) ⌝ }
     ensures { λ r. ⌜ CodeAmong (1 ∷ 2 ∷ 3 ∷ 4 ∷ 5 ∷ 6 ∷ 9 ∷ 96 ∷ []) r ⌝ }
+    ensures { λ _. ⌜ TextTranslates (now (text .entry)) (now (table .entry)) (now (table .exit)) ⌝ }
 {
     let run = held_laws::read_run(text, law_runs::no_laws());
     let read = run.read;
@@ -95,6 +97,7 @@ pub extern "C" fn huntyghai_check_history(text: &[u8], values: &[u8], table: &mu
     ensures { λ r. ⌜ r ≡ checkedText (now (text .entry)) (now (values .entry)) (length (now (table .entry))) ⌝ }
     ensures { λ _. ⌜ now (table .exit) ≡ tableOfCheck (now (text .entry)) (now (values .entry)) (now (table .entry)) ⌝ }
     ensures { λ r. ⌜ CodeAmong (1 ∷ 2 ∷ 3 ∷ 4 ∷ 5 ∷ 6 ∷ 9 ∷ 10 ∷ 11 ∷ 64 ∷ 65 ∷ 66 ∷ 67 ∷ 68 ∷ []) r ⌝ }
+    ensures { λ r. ⌜ TextChecks (now (text .entry)) (now (values .entry)) (length (now (table .entry))) r ⌝ }
 {
     let run = held_laws::read_run(text, law_runs::no_laws());
     let read = run.read;

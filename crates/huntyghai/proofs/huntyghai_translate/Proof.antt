@@ -6,6 +6,7 @@ use Rattle.description_reader.specs.Answers.{replyOf}
 use Rattle.answer_codes.specs.Codes.{replyCode, writtenCode}
 use Rattle.huntyghai.proofs.Texts.{translate-refused, table-refused, translate-read, table-read}
 use Rattle.huntyghai.proofs.CodeLists.{as-listed, translateCodes, translate-codes}
+use Rattle.huntyghai.proofs.TextReadings.{text-translates}
 use borrow.Author.Needs.{needs}
 use Rattle.huntyghai.proofs.huntyghai_translate.Statement.{statement}
 use Rattle.huntyghai.proofs.huntyghai_translate.Tie as tie
@@ -39,7 +40,8 @@ returns c =
     let text = a .text .now in
     let e = sym (rd .read-run .ensures .0) ∙ ap replyOf (told .answer .given .1) in
     let is = c .number .ensures ∙ translate-refused text e (length (a .table .now)) in
-    (is, (table-refused text e (a .table .now), as-listed translateCodes is (translate-codes text (length (a .table .now)))))
+    let left = table-refused text e (a .table .now) in
+    (is, (left, (as-listed translateCodes is (translate-codes text (length (a .table .now))), text-translates text (a .table .now) _ left)))
 
 same-length : tie.Need-same-length
 same-length c = search needs
@@ -56,7 +58,8 @@ returns-2 c =
     let dis = rd .read-run .ensures .1 .0 in
     let lis = rd .read-run .ensures .1 .1 .0 in
     let is = c .of-translated .ensures ∙ ap (replyCode writtenCode) (t .translate .ensures .0) ∙ translate-read text old e dis lis (length (a .table .now)) in
-    (is, (t .translate .ensures .1 ∙ table-read text old e dis lis (a .table .now), as-listed translateCodes is (translate-codes text (length (a .table .now)))))
+    let left = t .translate .ensures .1 ∙ table-read text old e dis lis (a .table .now) in
+    (is, (left, (as-listed translateCodes is (translate-codes text (length (a .table .now))), text-translates text (a .table .now) _ left)))
 
 pub huntyghai-translate-spec : {M : Type 1} → statement M
 huntyghai-translate-spec =
