@@ -18,8 +18,8 @@ use Rattle.logic_programs.specs.Words.{headOf, ruleSize, ruleAt, rulesOf}
 use Rattle.rule_tables.specs.Bodies.{marked}
 use Rattle.rule_tables.specs.Internal.{Sound}
 use Rattle.rule_tables.proofs.Walking.{rules-front, sound-size, sound-head}
-use Rattle.completion.specs.Findings.{bodyHolds, sameHead, differ}
-use Rattle.completion.specs.LevelLists.{isBelow, levelOf, standsAbove}
+use Rattle.literal_completion.specs.Findings.{bodyHolds, sameHead, differ}
+use Rattle.literal_completion.specs.LevelLists.{isBelow, levelOf, standsAbove}
 use Rattle.completion.specs.Internal.{readAs, frontHolds, markOf, headOfMark, heldAt, failingFalse}
 
 -- a body: first its negated parts are looked at, then its plain ones

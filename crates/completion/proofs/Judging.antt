@@ -15,8 +15,8 @@ use Rattle.search.proofs.Lists.{each-range}
 use Rattle.logic_programs.specs.Literals.{Lits, setOf}
 use Rattle.logic_programs.specs.Rules.{lit, falsum, Rule}
 use Rattle.logic_programs.specs.Words.{headOf, rulesOf}
-use Rattle.completion.specs.Findings.{missing, clash, fails, holds, someBody, differ, literalFails, judged, finding}
-use Rattle.completion.specs.LevelLists.{wrongCount, standsAbove, badLevels}
+use Rattle.literal_completion.specs.Findings.{missing, clash, fails, holds, someBody, differ, literalFails, judged, finding}
+use Rattle.literal_completion.specs.LevelLists.{wrongCount, standsAbove, badLevels}
 use Rattle.completion.specs.Internal.{heldAt, failingFalse}
 
 -- a search by another test that says the same of each element

@@ -1,8 +1,4 @@
--- The laws that the functions' proofs cite, what the replies say, and the worked examples.
+-- The laws that the functions' proofs cite.
 pub mod Fronts
 pub mod Testing
 pub mod Judging
-pub mod Formulas
-pub mod Tightness
-pub mod Theorems
-pub mod Examples

@@ -15,9 +15,10 @@ use Rattle.rule_tables.proofs.Walking.{accepted-sound}
 use Rattle.answer_sets.specs.Answers.{tooManyValues}
 use Rattle.answer_sets.specs.Demand2.{Accepted}
 use Rattle.answer_sets.proofs.Theorems.{few-values}
-use Rattle.completion.specs.Findings.{Finding, finding}
-use Rattle.completion.specs.LevelLists.{badLevels}
-use Rattle.completion.specs.Answers.{afterTests, answer, answerByLevels}
+use Rattle.literal_completion.specs.Findings.{Finding, finding}
+use Rattle.literal_completion.specs.LevelLists.{badLevels}
+use Rattle.literal_completion.specs.Answers.{afterTests, answer, answerByLevels}
+use Rattle.literal_completion.proofs.Theorems.{comes-next}
 use Rattle.completion.specs.Internal.{tested}
 
 module _ (vs ws : List ℕ) where
@@ -65,9 +66,6 @@ module _ (vs ws : List ℕ) where
   unfolding tested
   accepts e = lets-pass (tooManyValues vs) (badValue vs) (badRule (length vs) ws) e
 
-  pub comes-next : {A : Type 0} (next : Reply A) → Accepted vs ws → next ≡ afterTests vs ws next
-  comes-next next h = rw (h .0, h .1, h .2)
-
   -- the answers from there on
   pub says-refused : {number place : ℕ} → refused number place ≡ tested vs ws → refused number place ≡ answer vs ws
   unfolding answer
@@ -75,7 +73,7 @@ module _ (vs ws : List ℕ) where
 
   pub says-found : Accepted vs ws → answered (finding vs ws) ≡ answer vs ws
   unfolding answer
-  says-found accepted = comes-next (answered (finding vs ws)) accepted
+  says-found accepted = comes-next vs ws (answered (finding vs ws)) accepted
 
   module _ (levels : List ℕ) where
     abbrev levelled : Reply Finding
@@ -87,11 +85,11 @@ module _ (vs ws : List ℕ) where
 
     pub says-13 : Accepted vs ws → {k : ℕ} → badLevels (length vs) ws levels ≡ some k → refused 13 k ≡ answerByLevels vs ws levels
     unfolding answerByLevels
-    says-13 accepted e = rw (← comes-next levelled accepted, e)
+    says-13 accepted e = rw (← comes-next vs ws levelled accepted, e)
 
     pub says-levelled : Accepted vs ws → badLevels (length vs) ws levels ≡ none → answered (finding vs ws) ≡ answerByLevels vs ws levels
     unfolding answerByLevels
-    says-levelled accepted e = rw (← comes-next levelled accepted, e)
+    says-levelled accepted e = rw (← comes-next vs ws levelled accepted, e)
 
   -- what the functions behind the tests need
   pub judge-ready : answered tt ≡ tested vs ws → (length vs ≤ 1024) × (badRule (length vs) ws ≡ none)

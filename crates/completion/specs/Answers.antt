@@ -1,14 +1,8 @@
--- What is answered to values and a table, and to levels besides: the first refusal that holds, or what is found.
+-- What the code's answers stand for.
 -- Assumes nothing.
-use mathlib.Core.List.{List}
-use Prim.Native.Nat.{ℕ}
-use lib.ListN.{length}
-use Rattle.search.specs.Replies.{Reply, refused, answered, orRefuse}
-use Rattle.logic_programs.specs.Literals.{badValue}
-use Rattle.logic_programs.specs.Words.{headOf, badRule}
-use Rattle.answer_sets.specs.Answers.{tooManyValues}
-use Rattle.completion.specs.Findings.{Finding, missing, clash, fails, holds, finding}
-use Rattle.completion.specs.LevelLists.{badLevels}
+use Rattle.search.specs.Replies.{Reply, refused, answered}
+use Rattle.logic_programs.specs.Words.{headOf}
+use Rattle.literal_completion.specs.Findings.{Finding, missing, clash, fails, holds}
 use Rattle.completion.specs.declared.Answer.{Answer}
 use Rattle.completion.specs.declared.Answer.the-variants.{Refused, Missing, Clash, Fails, Holds}
 
@@ -19,18 +13,3 @@ replyOf (Missing atom) = answered (missing atom)
 replyOf (Clash atom) = answered (clash atom)
 replyOf (Fails word) = answered (fails (headOf word))
 replyOf Holds = answered holds
-
--- refusals 10, 11 and 12, which are the engine's, before what comes next
-abbrev pub afterTests : {A : Type 0} → List ℕ → List ℕ → Reply A → Reply A
-afterTests vs ws next =
-    orRefuse (tooManyValues vs) 10
-    (orRefuse (badValue vs) 11
-    (orRefuse (badRule (length vs) ws) 12
-    next))
-
-unfoldable pub answer : List ℕ → List ℕ → Reply Finding
-answer vs ws = afterTests vs ws (answered (finding vs ws))
-
--- with levels: refusal 13 after 12
-unfoldable pub answerByLevels : List ℕ → List ℕ → List ℕ → Reply Finding
-answerByLevels vs ws levels = afterTests vs ws (orRefuse (badLevels (length vs) ws levels) 13 (answered (finding vs ws)))

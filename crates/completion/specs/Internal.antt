@@ -10,8 +10,8 @@ use Rattle.search.specs.Replies.{Reply, refused, answered}
 use Rattle.logic_programs.specs.Literals.{Lits, complement}
 use Rattle.logic_programs.specs.Rules.{Head, lit, falsum, Rule}
 use Rattle.logic_programs.specs.Words.{ruleSize, ruleAt}
-use Rattle.completion.specs.Findings.{bodyHolds, someBody}
-use Rattle.completion.specs.Answers.{afterTests}
+use Rattle.literal_completion.specs.Findings.{bodyHolds, someBody}
+use Rattle.literal_completion.specs.Answers.{afterTests}
 use Rattle.completion.specs.declared.Tested.{Tested}
 use Rattle.completion.specs.declared.Tested.the-variants.{Refused, Accepted}
 

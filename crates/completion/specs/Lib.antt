@@ -1,7 +1,3 @@
--- What the promises of judging by the completion formulas mean. Read in this order.
-pub mod Findings
-pub mod LevelLists
+-- What the answers by the completion formulas stand for.
 pub mod Answers
-pub mod Meaning
-pub mod Examples
 pub mod Internal

@@ -12,7 +12,7 @@ ghost use Rattle.logic_programs.specs.Literals.{setOf};
 ghost use Rattle.logic_programs.specs.Words.{rulesOf};
 ghost use Rattle.rule_tables.specs.Bodies.{marked};
 ghost use Rattle.rule_tables.specs.Internal.{Sound};
-ghost use Rattle.completion.specs.Findings.{differ};
+ghost use Rattle.literal_completion.specs.Findings.{differ};
 ghost use Rattle.completion.specs.Internal.{readAs, frontHolds, markOf, heldAt, failingFalse};
 
 // The literal that a part of a body asks for: a plain part itself, a negated part's complement.

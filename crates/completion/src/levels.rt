@@ -8,7 +8,7 @@ ghost use lib.ListN.{length};
 ghost use Rattle.search.specs.Search.{all, first, placeOf};
 ghost use Rattle.logic_programs.specs.Words.{ruleAt, ruleSize, rulesOf};
 ghost use Rattle.rule_tables.specs.Internal.{Sound};
-ghost use Rattle.completion.specs.LevelLists.{isBelow, standsAbove, wrongCount, badLevels};
+ghost use Rattle.literal_completion.specs.LevelLists.{isBelow, standsAbove, wrongCount, badLevels};
 
 // Whether the level of each part is below another level.
 fn parts_below(parts: &[u16], levels: &[u16], top: usize) -> bool

@@ -11,10 +11,11 @@ ghost use Prim.Native.Nat.{_≤_};
 ghost use lib.ListN.{length};
 ghost use Rattle.search.specs.Replies.{answered};
 ghost use Rattle.logic_programs.specs.Words.{badRule};
-ghost use Rattle.completion.specs.Findings.{finding};
-ghost use Rattle.completion.specs.Answers.{replyOf, answer, answerByLevels};
+ghost use Rattle.literal_completion.specs.Findings.{finding};
+ghost use Rattle.literal_completion.specs.Answers.{answer, answerByLevels};
+ghost use Rattle.completion.specs.Answers.{replyOf};
 ghost use Rattle.completion.specs.Internal.{testedOf, tested};
-ghost use Rattle.completion.specs.Meaning.{SaysFormulas, SaysLevels};
+ghost use Rattle.literal_completion.specs.Meaning.{SaysFormulas, SaysLevels};
 
 // A refusal's number and place; or the first that holds: the lowest atom without a value, the lowest with both, the head word of
 // the first formula that fails, which is a literal's code, or 65535 for false, which comes last.

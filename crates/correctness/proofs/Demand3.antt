@@ -40,9 +40,9 @@ use Rattle.history.specs.Checks as history
 use Rattle.causal.specs.declared.Reading.{Reading}
 use Rattle.causal.specs.Verdicts.{path, causalVerdict}
 use Rattle.causal.specs.Readings as causal
-use Rattle.completion.specs.Findings.{holds}
-use Rattle.completion.specs.Answers as completion
-use Rattle.completion.proofs.Theorems.{holds-answer-set}
+use Rattle.literal_completion.specs.Findings.{holds}
+use Rattle.literal_completion.specs.Answers as completion
+use Rattle.literal_completion.proofs.Theorems.{holds-answer-set}
 use Rattle.correctness.specs.Demand3.{Complete, PathOf, FiveReadings, Demand3}
 use Rattle.correctness.specs.Promises.{TranslatesExactly, PassesExactly, PathExactly}
 use Rattle.correctness.proofs.Reading.{causal-iff}

@@ -18,9 +18,9 @@ use Rattle.answer_sets.specs.Verdicts.{Verdict, clash}
 use Rattle.answer_sets.specs.Answers as engine
 use Rattle.answer_sets.specs.Demand2.{Clashing, Demand2}
 use Rattle.answer_sets.proofs.Theorems.{demand-2}
-use Rattle.completion.specs.Meaning.{NoValue, BothValues}
-use Rattle.completion.proofs.Tightness.{even-in, odd-in}
-use Rattle.completion.proofs.Theorems.{says}
+use Rattle.literal_completion.specs.Meaning.{NoValue, BothValues}
+use Rattle.literal_completion.proofs.Tightness.{even-in, odd-in}
+use Rattle.literal_completion.proofs.Theorems.{says}
 use Rattle.history.specs.Checks as history
 use Rattle.correctness.specs.MissingAndClash.{MissingAndClash}
 

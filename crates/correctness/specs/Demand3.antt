@@ -14,8 +14,8 @@ use Rattle.logic_programs.specs.Literals.{OneValue, setOf}
 use Rattle.logic_programs.specs.AnswerSets.{AnswerSet}
 use Rattle.answer_sets.specs.Verdicts.{passes}
 use Rattle.answer_sets.specs.Answers as engine
-use Rattle.completion.specs.Findings.{holds}
-use Rattle.completion.specs.Answers as completion
+use Rattle.literal_completion.specs.Findings.{holds}
+use Rattle.literal_completion.specs.Answers as completion
 use Rattle.description.specs.declared.Law.{Law}
 use Rattle.description.specs.declared.Description.{Description}
 use Rattle.description.specs.Laws.{lawsOf}

@@ -8,8 +8,8 @@ use Prim.Native.Nat.{ℕ}
 use Rattle.search.specs.Replies.{answered}
 use Rattle.answer_sets.specs.Verdicts.{clash}
 use Rattle.answer_sets.specs.Demand2.{Accepted}
-use Rattle.completion.specs.Findings as formulas
-use Rattle.completion.specs.Answers as completion
+use Rattle.literal_completion.specs.Findings as formulas
+use Rattle.literal_completion.specs.Answers as completion
 use Rattle.history.specs.Checks as history
 
 pub record SameFirst (vs ws : List ℕ) : Type 0 where

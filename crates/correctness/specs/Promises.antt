@@ -9,8 +9,8 @@ use lib.ListN.{length, take}
 use Rattle.search.specs.Replies.{answered}
 use Rattle.answer_sets.specs.Verdicts.{passes}
 use Rattle.answer_sets.specs.Answers as engine
-use Rattle.completion.specs.Findings.{holds}
-use Rattle.completion.specs.Answers as completion
+use Rattle.literal_completion.specs.Findings.{holds}
+use Rattle.literal_completion.specs.Answers as completion
 use Rattle.description.specs.declared.Law.{Law}
 use Rattle.description.specs.declared.Description.{Description}
 use Rattle.translation.specs.Translated.{tableFor}

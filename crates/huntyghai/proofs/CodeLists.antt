@@ -13,8 +13,8 @@ use Rattle.search.specs.Replies.{Reply, refused, answered}
 use Rattle.search.proofs.Tests.{not-both, or-iff, all-each}
 use Rattle.answer_sets.specs.Verdicts.{Verdict, clash, broken, unfounded, passes}
 use Rattle.answer_sets.specs.Answers.{answer}
-use Rattle.completion.specs.Findings as formulas
-use Rattle.completion.specs.Answers as completed
+use Rattle.literal_completion.specs.Findings as formulas
+use Rattle.literal_completion.specs.Answers as completed
 use Rattle.translation.specs.Translated.{Written, written, outcome}
 use Rattle.history.specs.Checks.{Finding, missing, judged, checked}
 use Rattle.causal.specs.Verdicts.{Causal, contradicted, uncaused, path}

@@ -1,7 +1,7 @@
 -- Demand 3 on the numbers for C, by what the readers take: it is accepted.
 -- Assumes nothing.
-use mathlib.Core.Path.{_≡_, refl, sym, ap, _∙_}
-use mathlib.Core.Logic.{_↔_, Iff·trans, Iff·symm, ⊎-elim}
+use mathlib.Core.Path.{_≡_, refl, ap}
+use mathlib.Core.Logic.{_↔_, Iff·trans, Iff·symm}
 use mathlib.Core.Bool.{true}
 use mathlib.Core.List.{List, [], _∷_}
 use Prim.Native.Nat.{ℕ, _≤_, _<_}
@@ -10,16 +10,15 @@ use lib.ListN.{length}
 use Rattle.search.specs.Search.{Each}
 use Rattle.search.specs.Replies.{Reply, refused, answered}
 use Rattle.logic_programs.specs.Literals.{OneValue}
-use Rattle.answer_sets.specs.Verdicts.{Verdict, clash, broken, unfounded, passes}
+use Rattle.answer_sets.specs.Verdicts.{Verdict, clash, passes}
 use Rattle.answer_sets.specs.Answers as engine
-use Rattle.completion.specs.Findings as formulas
-use Rattle.completion.specs.Answers as completion
-use Rattle.translation.specs.Translated.{tableAfter}
+use Rattle.literal_completion.specs.Findings as formulas
+use Rattle.literal_completion.specs.Answers as completion
 use Rattle.history.specs.Checks as history
 use Rattle.description_reader.specs.LineSteps.{Draft}
 use Rattle.description_reader.specs.Descriptions.{read, described, descriptionOf}
 use Rattle.history_reader.specs.Histories.{atoms}
-use Rattle.correctness.specs.Demand3.{Complete, PathOf}
+use Rattle.correctness.specs.Demand3.{Complete}
 use Rattle.correctness.specs.Promises.{TranslatesExactly}
 use Rattle.correctness.proofs.Demand3.{demand-3, by-completion, translates-exactly}
 use Rattle.refusals.specs.Refusals.{among, RefusedBy}

@@ -14,8 +14,8 @@ use Rattle.answer_sets.specs.Answers as engine
 use Rattle.answer_sets.specs.Demand2.{Accepted}
 use Rattle.tight_programs.specs.TightPrograms.{Tight}
 use Rattle.tight_programs.specs.LiteralCompletion.{Formula, Completion}
-use Rattle.completion.specs.LevelLists.{levelOf}
-use Rattle.completion.specs.Meaning.{NoValue, BothValues, NotAbove}
+use Rattle.literal_completion.specs.LevelLists.{levelOf}
+use Rattle.literal_completion.specs.Meaning.{NoValue, BothValues, NotAbove}
 use Rattle.answer_codes.specs.Codes.{coded, replyCode, verdictCode}
 
 -- the number for values and a program

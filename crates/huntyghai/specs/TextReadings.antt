@@ -10,7 +10,7 @@ use Rattle.search.specs.Search.{Each}
 use Rattle.search.specs.Replies.{answered}
 use Rattle.logic_programs.specs.Literals.{OneValue}
 use Rattle.answer_sets.specs.Answers as engine
-use Rattle.completion.specs.Answers as completion
+use Rattle.literal_completion.specs.Answers as completion
 use Rattle.translation.specs.Translated.{tableFor}
 use Rattle.description_reader.specs.LineSteps.{Draft}
 use Rattle.description_reader.specs.Descriptions.{read, described, descriptionOf}

@@ -8,7 +8,7 @@ ghost use Prim.Native.Nat.{_≤_};
 ghost use lib.ListN.{length};
 ghost use lib.Seq.{sets};
 ghost use Rattle.answer_sets.specs.Answers.{answer};
-ghost use Rattle.completion.specs.Answers as completed;
+ghost use Rattle.literal_completion.specs.Answers as completed;
 ghost use Rattle.history_reader.specs.Histories.{readHistory, historyReplied, valuesLeft};
 ghost use Rattle.report.specs.Output.{output};
 ghost use Rattle.report.specs.Program.{Program};

@@ -17,10 +17,10 @@ use Rattle.logic_programs.specs.Literals.{setOf, badValue}
 use Rattle.answer_sets.specs.Verdicts.{Verdict, verdict}
 use Rattle.logic_programs.specs.Words.{rulesOf, badRule}
 use Rattle.answer_sets.specs.Answers.{tooManyValues, answer}
-use Rattle.completion.specs.Findings as findings
-use Rattle.completion.specs.LevelLists.{badLevels}
-use Rattle.completion.specs.Answers as completed
-use Rattle.completion.specs.Answers.{afterTests}
+use Rattle.literal_completion.specs.Findings as findings
+use Rattle.literal_completion.specs.LevelLists.{badLevels}
+use Rattle.literal_completion.specs.Answers as completed
+use Rattle.literal_completion.specs.Answers.{afterTests}
 use Rattle.description.specs.declared.Law.{Law}
 use Rattle.description.specs.declared.Description.{Description}
 use Rattle.description.specs.Laws.{lawsOf}

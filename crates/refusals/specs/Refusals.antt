@@ -7,7 +7,7 @@ use Prim.Native.Nat.{ℕ, _≤_}
 use lib.Dec.{eqb}
 use Rattle.search.specs.Replies.{Reply, refused, answered}
 use Rattle.answer_sets.specs.Answers.{answer}
-use Rattle.completion.specs.Answers as completed
+use Rattle.literal_completion.specs.Answers as completed
 use Rattle.translation.specs.Translated.{outcome}
 use Rattle.history.specs.Checks.{checked}
 use Rattle.causal.specs.Readings.{reading}

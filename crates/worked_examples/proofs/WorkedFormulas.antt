@@ -5,11 +5,11 @@ use Rattle.search.specs.Search.{Each}
 use Rattle.search.proofs.Lists.{each-mapped}
 use Rattle.logic_programs.specs.Literals.{complement, setOf, holdsTrue, holdsFalse}
 use Rattle.logic_programs.specs.Words.{rulesOf, badRule}
-use Rattle.completion.specs.Findings.{judged, finding}
-use Rattle.completion.specs.LevelLists.{badLevels}
-use Rattle.completion.specs.Answers.{answer, answerByLevels}
-use Rattle.completion.specs.Examples as of-crate
-use Rattle.completion.proofs.Examples as of-crate-holds
+use Rattle.literal_completion.specs.Findings.{judged, finding}
+use Rattle.literal_completion.specs.LevelLists.{badLevels}
+use Rattle.literal_completion.specs.Answers.{answer, answerByLevels}
+use Rattle.literal_completion.specs.Examples as of-crate
+use Rattle.literal_completion.proofs.Examples as of-crate-holds
 use Rattle.worked_examples.specs.Examples.{Holds}
 use Rattle.worked_examples.specs.Formulas.{fromFormulas, fromLevels, crateFormulas, crateLevels, formulaExamples}
 

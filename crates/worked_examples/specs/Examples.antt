@@ -9,8 +9,8 @@ use Rattle.search.specs.Search.{chosen, tuples}
 use Rattle.search.specs.Replies.{Reply, refused, answered}
 use Rattle.answer_sets.specs.Verdicts.{Verdict}
 use Rattle.answer_sets.specs.Answers as engine
-use Rattle.completion.specs.Findings as formulas
-use Rattle.completion.specs.Answers as completion
+use Rattle.literal_completion.specs.Findings as formulas
+use Rattle.literal_completion.specs.Answers as completion
 use Rattle.description.specs.declared.Law.{Law}
 use Rattle.description.specs.declared.Description.{Description}
 use Rattle.translation.specs.Translated as translated

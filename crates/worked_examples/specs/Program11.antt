@@ -7,7 +7,7 @@ use Rattle.search.specs.Search.{chosen, tuples}
 use Rattle.search.specs.Replies.{Reply, refused, answered}
 use Rattle.answer_sets.specs.Verdicts.{Verdict, clash, broken, unfounded, passes}
 use Rattle.answer_sets.specs.Answers.{answer}
-use Rattle.completion.specs.Examples.{eleven}
+use Rattle.literal_completion.specs.Examples.{eleven}
 
 -- p ← not ¬p; ¬p ← not p; q ← not ¬q; ¬q ← not q; r ← q, where p, q, r are atoms 0, 1, 2
 abbrev pub program11 : List ℕ

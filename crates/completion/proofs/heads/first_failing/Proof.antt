@@ -9,7 +9,7 @@ use Rattle.search.specs.Search.{first, range}
 use Rattle.search.proofs.Loops.{range-stop, range-go, range-done}
 use Rattle.logic_programs.specs.Literals.{setOf}
 use Rattle.rule_tables.specs.Bodies.{marked}
-use Rattle.completion.specs.Findings.{differ}
+use Rattle.literal_completion.specs.Findings.{differ}
 use Rattle.completion.proofs.heads.first_failing.Statement.{statement}
 use Rattle.completion.proofs.heads.first_failing.Tie as tie
 

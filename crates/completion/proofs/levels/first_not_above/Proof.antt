@@ -8,7 +8,7 @@ use lib.ListN.{length}
 use Rattle.search.specs.Search.{first}
 use Rattle.logic_programs.specs.Words.{rulesOf}
 use Rattle.rule_tables.specs.Internal.{Sound}
-use Rattle.completion.specs.LevelLists.{standsAbove}
+use Rattle.literal_completion.specs.LevelLists.{standsAbove}
 use Rattle.rule_tables.proofs.Fronts.{left-behind, shorter}
 use Rattle.rule_tables.proofs.Walking.{rule-stop, rule-go, rule-end, sound-size, sound-rest}
 use Rattle.completion.proofs.levels.first_not_above.Statement.{statement}

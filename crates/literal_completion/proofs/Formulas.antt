@@ -18,8 +18,8 @@ use Rattle.logic_programs.specs.Literals.{Lits, complement, setOf, OneValue, ba
 use Rattle.logic_programs.specs.Rules.{Head, lit, falsum, Rule}
 use Rattle.logic_programs.specs.Words.{rulesOf}
 use Rattle.tight_programs.specs.LiteralCompletion.{BodyHolds, SomeBody, Formula}
-use Rattle.completion.specs.Findings.{Finding, missing, clash, fails, holds, bodyHolds, sameHead, someBody, differ, literalFails, judged, finding}
-use Rattle.completion.specs.Meaning.{NoValue, BothValues, ByFormulas}
+use Rattle.literal_completion.specs.Findings.{Finding, missing, clash, fails, holds, bodyHolds, sameHead, someBody, differ, literalFails, judged, finding}
+use Rattle.literal_completion.specs.Meaning.{NoValue, BothValues, ByFormulas}
 
 -- The formulas' tests
 

@@ -15,8 +15,8 @@ use Rattle.answer_sets.specs.Answers as engine
 use Rattle.answer_sets.specs.Demand2.{Accepted, noRule}
 use Rattle.tight_programs.specs.TightPrograms.{LowerParts, Tight}
 use Rattle.tight_programs.specs.LiteralCompletion.{Formula, Completion}
-use Rattle.completion.specs.Findings.{Finding, missing, clash, fails, holds}
-use Rattle.completion.specs.LevelLists.{levelOf}
+use Rattle.literal_completion.specs.Findings.{Finding, missing, clash, fails, holds}
+use Rattle.literal_completion.specs.LevelLists.{levelOf}
 
 -- atom a has no value, or both
 abbrev pub NoValue : List ℕ → ℕ → Type 0

@@ -5,8 +5,8 @@ use mathlib.Core.List.{List, [], _∷_}
 use Prim.Native.Nat.{ℕ}
 use Rattle.search.specs.Replies.{Reply, refused, answered}
 use Rattle.logic_programs.specs.Rules.{lit, falsum}
-use Rattle.completion.specs.Findings.{Finding, missing, clash, fails, holds}
-use Rattle.completion.specs.Answers.{answer, answerByLevels}
+use Rattle.literal_completion.specs.Findings.{Finding, missing, clash, fails, holds}
+use Rattle.literal_completion.specs.Answers.{answer, answerByLevels}
 
 -- values and a table, and what is answered
 pub record Example : Type 0 where

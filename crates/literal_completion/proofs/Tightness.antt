@@ -22,7 +22,7 @@ use Rattle.answer_sets.proofs.Theorems.{setOf-below}
 use Rattle.tight_programs.specs.TightPrograms.{LowerParts, Tight}
 use Rattle.tight_programs.specs.LiteralCompletion.{Completion, HeadOver, Over, CompleteSet}
 use Rattle.tight_programs.proofs.LiteralCompletion.{proposition-3}
-use Rattle.completion.specs.LevelLists.{levelOf, isBelow, headAbove, standsAbove}
+use Rattle.literal_completion.specs.LevelLists.{levelOf, isBelow, headAbove, standsAbove}
 
 -- Levels
 

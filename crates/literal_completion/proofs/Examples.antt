@@ -4,10 +4,10 @@ use mathlib.Core.Path.{refl}
 use Rattle.search.specs.Search.{Each}
 use Rattle.logic_programs.specs.Literals.{complement, setOf, holdsTrue, holdsFalse}
 use Rattle.logic_programs.specs.Words.{rulesOf, badRule}
-use Rattle.completion.specs.Findings.{judged, finding}
-use Rattle.completion.specs.LevelLists.{badLevels}
-use Rattle.completion.specs.Answers.{answer, answerByLevels}
-use Rattle.completion.specs.Examples.{Holds, examples, HoldsByLevels, levelExamples}
+use Rattle.literal_completion.specs.Findings.{judged, finding}
+use Rattle.literal_completion.specs.LevelLists.{badLevels}
+use Rattle.literal_completion.specs.Answers.{answer, answerByLevels}
+use Rattle.literal_completion.specs.Examples.{Holds, examples, HoldsByLevels, levelExamples}
 
 infixr 20 _&_
 _&_ : {A B : Type 0} → A → B → A × B

@@ -23,13 +23,16 @@ use Rattle.answer_sets.specs.Demand2.{Accepted, noRule, Demand2}
 use Rattle.answer_sets.proofs.Decoding.{accepted-count}
 use Rattle.answer_sets.proofs.Theorems.{demand-2}
 use Rattle.tight_programs.specs.TightPrograms.{Tight}
-use Rattle.completion.specs.Findings.{Finding, holds, finding}
-use Rattle.completion.specs.LevelLists.{levelOf, standsAbove, badLevels}
-use Rattle.completion.specs.Answers.{answer, answerByLevels}
-use Rattle.completion.specs.Meaning.{ByFormulas, SaysFormulas, NotAbove, ByLevels, SaysLevels}
-use Rattle.completion.proofs.Testing.{comes-next}
-use Rattle.completion.proofs.Formulas.{by-formulas}
-use Rattle.completion.proofs.Tightness.{not-above-iff, tight-iff, completion-answer-set}
+use Rattle.literal_completion.specs.Findings.{Finding, holds, finding}
+use Rattle.literal_completion.specs.LevelLists.{levelOf, standsAbove, badLevels}
+use Rattle.literal_completion.specs.Answers.{afterTests, answer, answerByLevels}
+use Rattle.literal_completion.specs.Meaning.{ByFormulas, SaysFormulas, NotAbove, ByLevels, SaysLevels}
+use Rattle.literal_completion.proofs.Formulas.{by-formulas}
+use Rattle.literal_completion.proofs.Tightness.{not-above-iff, tight-iff, completion-answer-set}
+
+-- where 10, 11 and 12 let pass, what comes next is said
+pub comes-next : {A : Type 0} (vs ws : List ℕ) (next : Reply A) → Accepted vs ws → next ≡ afterTests vs ws next
+comes-next vs ws next h = rw (h .0, h .1, h .2)
 
 module _ (vs ws : List ℕ) (accepted : Accepted vs ws) where
   pub answered-finding : answer vs ws ≡ answered (finding vs ws)

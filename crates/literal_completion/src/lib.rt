@@ -1,0 +1,1 @@
+// What judging by the completion formulas finds, and theorems on it; no code.
