@@ -58,7 +58,15 @@ uint64_t huntyghai_check_completion(const uint8_t *values, size_t values_length,
  * values_length, and the level of each literal head is above that of each plain part of its rule. Refusal 13 says that
  * they are not so: place 65535 for the length, which is tested first, else the lowest such rule, counted from 0. Where it
  * does not come, and for values 1 and 2, the answer is 72 exactly if huntyghai_check_set answers 64. Codes 10 to 13, 65, 68,
- * 72, 73. */
+ * 72, 73.
+ *
+ *     const uint8_t values[] = {1, 1};
+ *     const uint16_t rules[] = {0, 1, 0, 1, 1, 1, 0, 0, 2, 0, 1, 0};
+ *     const uint16_t levels[] = {0, 0, 1, 0};
+ *     huntyghai_check_by_levels(values, 2, rules, 12, levels, 4);
+ *
+ * answers 72: atom 0 may be so or not, and atom 1 is so if atom 0 is. With the level of literal 2 at 0 it is refused by 13 with
+ * place 2, and with values {1, 2} it answers 73 with literal 2. */
 uint64_t huntyghai_check_by_levels(const uint8_t *values, size_t values_length, const uint16_t *table,
                                    size_t table_length, const uint16_t *levels, size_t levels_length);
 
