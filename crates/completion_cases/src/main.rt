@@ -2,10 +2,25 @@
 // with single spaces between them: 0 for the call without levels or 1 for the call with them; how many atoms there are and a
 // value for each; with levels, how many there are and the levels; and the words of the table.
 use completion::Answer;
-use number_lines::output::write_named;
-use number_lines::output::write_number;
-use number_lines::output::write_word;
+use libc::STDOUT_FILENO;
 use search::Found;
+
+// Bytes as they are.
+fn write_word(word: &[u8]) {
+    io::write_all(STDOUT_FILENO, word);
+}
+
+// A space and a number.
+fn write_number(number: usize) {
+    write_word(b" ");
+    io::print_decimal(STDOUT_FILENO, number as u64);
+}
+
+// A word and the number that it names.
+fn write_named(word: &[u8], number: usize) {
+    write_word(word);
+    write_number(number);
+}
 
 fn write_answer(answer: Answer) {
     match answer {

@@ -1,7 +1,5 @@
 // Numbers in decimal, a line of them at a time: a line is read out of a text, runs are found among its numbers, and numbers are
 // taken as value bytes. Texts of any bytes are read; what has no room is dropped.
-pub mod output;
-
 use search::Found;
 ghost use mathlib.Core.Path.{_≡_};
 ghost use Prim.Native.Nat.{_+_};

@@ -1,12 +1,12 @@
 // Recipes, each followed by an empty line.
 use crate::verdicts::write_checked;
 use crate::verdicts::write_formulas;
+use crate::verdicts::write_named;
+use crate::verdicts::write_word;
 use description::Description;
 use description::Law;
 use history::Checked;
 use history_reader::HistoryAnswer;
-use number_lines::output::write_named;
-use number_lines::output::write_word;
 use translation::Translated;
 ghost use Prim.Native.Nat.{_<_, _≤_};
 ghost use lib.ListN.{length};

@@ -2,7 +2,7 @@
 // between them.
 use crate::verdicts::write_answer;
 use crate::verdicts::write_formulas;
-use number_lines::output::write_word;
+use crate::verdicts::write_word;
 use search::Found;
 
 // Writes the engine's verdict on values and words, and what the completion formulas say of them.

@@ -1,8 +1,19 @@
 // Verdicts as words, each with the number that it names, and the answer of the completion formulas behind a verdict.
 use answer_sets::Answer;
 use history::Checked;
-use number_lines::output::write_named;
-use number_lines::output::write_word;
+use libc::STDOUT_FILENO;
+
+// Bytes as they are.
+pub(crate) fn write_word(word: &[u8]) {
+    io::write_all(STDOUT_FILENO, word);
+}
+
+// A word and the number that it names.
+pub(crate) fn write_named(word: &[u8], number: usize) {
+    write_word(word);
+    write_word(b" ");
+    io::print_decimal(STDOUT_FILENO, number as u64);
+}
 
 pub(crate) fn write_checked(checked: Checked) {
     match checked {
