@@ -47,10 +47,11 @@ uint64_t huntyghai_check_set(const uint8_t *values, size_t values_length, const 
 
 /* The same question without derivation, by the completion formulas: is each literal in the set exactly if the body of some
  * rule for it holds, negated parts read as complements, and holds no body of a rule headed by false? The lowest literal
- * whose formula fails is named, false last. An atom without a value is missing, one with both is a clash, and these come
- * first. Its cost grows with the words of the table. Codes 10, 11, 12, 65, 68, 72, 73. On the words that huntyghai_translate
- * wrote and values 1 and 2 the answer is 72 exactly if huntyghai_check_set answers 64; on other tables it may differ: with the
- * words 0,0,1,0 and the value 1 the formulas hold and the engine says unfounded. */
+ * whose formula fails is named, false last. Before that the lowest atom that has no value or both decides: it is missing if
+ * it has none and a clash if it has both, as by huntyghai_check_history. The cost grows with the words of the table. Codes 10,
+ * 11, 12, 65, 68, 72, 73. On the words that huntyghai_translate wrote and values 1 and 2 the answer is 72 exactly if
+ * huntyghai_check_set answers 64; on other tables it may differ: with the words 0,0,1,0 and the value 1 the formulas hold
+ * and the engine says unfounded. */
 uint64_t huntyghai_check_completion(const uint8_t *values, size_t values_length, const uint16_t *table,
                                     size_t table_length);
 
@@ -82,8 +83,9 @@ uint64_t huntyghai_read_history(const uint8_t *description, size_t description_l
                                 size_t history_length, uint8_t *values, size_t values_length);
 
 /* The history check on the description at the text's start, which is read as by huntyghai_translate. The values are taken
- * as they are: where an atom, an action's too, has value 0, the answer is missing. Codes 1 to 6, 9 to 11, 64 to 68. After
- * every verdict the table's first words are the description's rules. */
+ * as they are: where atoms, actions' too, have value 0 or 3, the lowest such atom decides, and the answer is missing if its
+ * value is 0 and clash if it is 3. Codes 1 to 6, 9 to 11, 64 to 68. After every verdict the table's first words are the
+ * description's rules. */
 uint64_t huntyghai_check_history(const uint8_t *text, size_t text_length, const uint8_t *values, size_t values_length,
                                  uint16_t *table, size_t table_length);
 

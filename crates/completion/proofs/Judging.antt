@@ -7,12 +7,11 @@ use mathlib.Core.Option.{Option, none, some}
 use Prim.Native.Nat.{ℕ, suc, _*_, _≤_, _<_}
 use native.Mathlib.Omega.{arith}
 use borrow.Author.Tests.{ne-eqb}
-use lib.Dec.{eqb}
-use lib.ListN.{length}
+use lib.ListN.{length, getD}
 use Rattle.search.specs.Search.{Each, first, range}
 use Rattle.search.proofs.Tests.{range-lowest}
 use Rattle.search.proofs.Lists.{each-range}
-use Rattle.logic_programs.specs.Literals.{Lits, setOf}
+use Rattle.logic_programs.specs.Literals.{Lits, setOf, noneOrBoth}
 use Rattle.logic_programs.specs.Rules.{lit, falsum, Rule}
 use Rattle.logic_programs.specs.Words.{headOf, rulesOf}
 use Rattle.literal_completion.specs.Findings.{missing, clash, fails, holds, someBody, differ, literalFails, judged, finding}
@@ -32,55 +31,54 @@ literal-word : (c : ℕ) → c < 2048 → headOf c ≡ lit c
 literal-word c b = rw (ne-eqb c 65535 (omega arith))
 
 module _ (vs ws : List ℕ) where
-  pub says-missing : {a : ℕ} → first (eqb 0) 0 vs ≡ some a → missing a ≡ finding vs ws
+  pub says-missing : {a : ℕ} → first noneOrBoth 0 vs ≡ some a → getD vs a 0 ≡ 0 → missing a ≡ finding vs ws
   unfolding finding
-  says-missing e = rw e
+  says-missing e zero = rw (e, zero)
 
-  module _ (none₁ : first (eqb 0) 0 vs ≡ none) where
-    pub says-clash : {a : ℕ} → first (eqb 3) 0 vs ≡ some a → clash a ≡ finding vs ws
+  pub says-clash : {a : ℕ} → first noneOrBoth 0 vs ≡ some a → (getD vs a 0 ≡ 0 → ⊥) → clash a ≡ finding vs ws
+  unfolding finding
+  says-clash {a} e other = rw (e, ne-eqb (getD vs a 0) 0 other)
+
+  -- each atom has one value; L is the set of the heads that have a body that holds, as marks
+  module _ (e₀ : first noneOrBoth 0 vs ≡ none) (few : length vs ≤ 1024) (L : Lits) (is : L ≡ heldAt (rulesOf ws) (setOf vs)) where
+    abbrev fail : ℕ → Bool
+    fail c = differ (setOf vs c) (L c)
+
+    found : finding vs ws ≡ judged (length vs) (rulesOf ws) (setOf vs)
     unfolding finding
-    says-clash e = rw (none₁, e)
+    found = rw e₀
 
-    -- L is the set of the heads that have a body that holds, as marks
-    module _ (none₂ : first (eqb 3) 0 vs ≡ none) (few : length vs ≤ 1024) (L : Lits) (is : L ≡ heldAt (rulesOf ws) (setOf vs)) where
-      abbrev fail : ℕ → Bool
-      fail c = differ (setOf vs c) (L c)
+    same : first fail 0 (range 0 (2 * length vs)) ≡ first (literalFails (rulesOf ws) (setOf vs)) 0 (range 0 (2 * length vs))
+    same =
+        first-same fail (literalFails (rulesOf ws) (setOf vs)) 0 (range 0 (2 * length vs))
+        (each-range (λ c. fail c ≡ literalFails (rulesOf ws) (setOf vs) c) 0 (2 * length vs) (λ i. i) (λ i. omega arith) .1
+        (λ c b. ap (differ (setOf vs c)) (rw is (literal-mark (rulesOf ws) (setOf vs) c (omega arith)))))
 
-      found : finding vs ws ≡ judged (length vs) (rulesOf ws) (setOf vs)
-      unfolding finding
-      found = rw (none₁, none₂)
+    pub says-fails : {c : ℕ} → first fail 0 (range 0 (2 * length vs)) ≡ some c → fails (headOf c) ≡ finding vs ws
+    unfolding judged
+    says-fails {c} e =
+        let low = range-lowest fail (2 * length vs) (λ i. fail i ≡ true) (λ i b. (λ t. t, λ t. t)) c .0 e .0 in
+        rw (found, ← same, e) (ap fails (literal-word c (omega arith)))
 
-      same : first fail 0 (range 0 (2 * length vs)) ≡ first (literalFails (rulesOf ws) (setOf vs)) 0 (range 0 (2 * length vs))
-      same =
-          first-same fail (literalFails (rulesOf ws) (setOf vs)) 0 (range 0 (2 * length vs))
-          (each-range (λ c. fail c ≡ literalFails (rulesOf ws) (setOf vs) c) 0 (2 * length vs) (λ i. i) (λ i. omega arith) .1
-          (λ c b. ap (differ (setOf vs c)) (rw is (literal-mark (rulesOf ws) (setOf vs) c (omega arith)))))
+    module _ (none-found : first fail 0 (range 0 (2 * length vs)) ≡ none) where
+      none-fails : first (literalFails (rulesOf ws) (setOf vs)) 0 (range 0 (2 * length vs)) ≡ none
+      none-fails = sym same ∙ none-found
 
-      pub says-fails : {c : ℕ} → first fail 0 (range 0 (2 * length vs)) ≡ some c → fails (headOf c) ≡ finding vs ws
+      pub says-false : {w : ℕ} → failingFalse L ≡ some w → fails (headOf w) ≡ finding vs ws
       unfolding judged
-      says-fails {c} e =
-          let low = range-lowest fail (2 * length vs) (λ i. fail i ≡ true) (λ i b. (λ t. t, λ t. t)) c .0 e .0 in
-          rw (found, ← same, e) (ap fails (literal-word c (omega arith)))
+      says-false {w} e = rw (found, none-fails) (go (someBody (rulesOf ws) (setOf vs) falsum) (rw is at e))
+        where
+          go : (b : Bool) → cond b (some 65535) none ≡ some w → fails (headOf w) ≡ cond b (fails falsum) holds
+          go true q = let same : w ≡ 65535 = cc in rw same refl
+          go false q = absurd (let z : _≡_ {A = ℕ} 0 1 = cc in omega arith)
 
-      module _ (none₃ : first fail 0 (range 0 (2 * length vs)) ≡ none) where
-        none-fails : first (literalFails (rulesOf ws) (setOf vs)) 0 (range 0 (2 * length vs)) ≡ none
-        none-fails = sym same ∙ none₃
-
-        pub says-false : {w : ℕ} → failingFalse L ≡ some w → fails (headOf w) ≡ finding vs ws
-        unfolding judged
-        says-false {w} e = rw (found, none-fails) (go (someBody (rulesOf ws) (setOf vs) falsum) (rw is at e))
-          where
-            go : (b : Bool) → cond b (some 65535) none ≡ some w → fails (headOf w) ≡ cond b (fails falsum) holds
-            go true q = let same : w ≡ 65535 = cc in rw same refl
-            go false q = absurd (let z : _≡_ {A = ℕ} 0 1 = cc in omega arith)
-
-        pub says-holds : failingFalse L ≡ none → holds ≡ finding vs ws
-        unfolding judged
-        says-holds e = rw (found, none-fails) (go (someBody (rulesOf ws) (setOf vs) falsum) (rw is at e))
-          where
-            go : (b : Bool) → cond {A = Option ℕ} b (some 65535) none ≡ none → holds ≡ cond b (fails falsum) holds
-            go true q = absurd (let z : _≡_ {A = ℕ} 0 1 = cc in omega arith)
-            go false q = refl
+      pub says-holds : failingFalse L ≡ none → holds ≡ finding vs ws
+      unfolding judged
+      says-holds e = rw (found, none-fails) (go (someBody (rulesOf ws) (setOf vs) falsum) (rw is at e))
+        where
+          go : (b : Bool) → cond {A = Option ℕ} b (some 65535) none ≡ none → holds ≡ cond b (fails falsum) holds
+          go true q = absurd (let z : _≡_ {A = ℕ} 0 1 = cc in omega arith)
+          go false q = refl
 
 -- refusal 13: the count, then the rules
 module _ (n : ℕ) (ws levels : List ℕ) where

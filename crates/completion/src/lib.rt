@@ -17,8 +17,8 @@ ghost use Rattle.completion.specs.Answers.{replyOf};
 ghost use Rattle.completion.specs.Internal.{testedOf, tested};
 ghost use Rattle.literal_completion.specs.Meaning.{SaysFormulas, SaysLevels};
 
-// A refusal's number and place; or the first that holds: the lowest atom without a value, the lowest with both, the head word of
-// the first formula that fails, which is a literal's code, or 65535 for false, which comes last.
+// A refusal's number and place; or missing or clash with the lowest atom that has no value or both; or the head word of the first
+// formula that fails, which is a literal's code, or 65535 for false, which comes last.
 pub enum Answer {
     Refused(u8, usize),
     Missing(usize),
@@ -56,10 +56,10 @@ fn judge(values: &[u8], table: &[u16]) -> Answer
     requires { ⌜ badRule (length (now values)) (now table) ≡ none ⌝ }
     ensures { λ r. ⌜ replyOf r ≡ answered (finding (now (values .entry)) (now (table .entry))) ⌝ }
 {
-    if let Found::At(atom) = rule_tables::values::first_with(values, 0) {
-        return Answer::Missing(atom);
-    }
-    if let Found::At(atom) = rule_tables::values::first_with(values, 3) {
+    if let Found::At(atom) = rule_tables::values::first_none_or_both(values) {
+        if values[atom] == 0 {
+            return Answer::Missing(atom);
+        }
         return Answer::Clash(atom);
     }
     let held = heads::held_heads(table, values);

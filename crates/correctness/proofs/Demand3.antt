@@ -9,8 +9,8 @@ use mathlib.Core.List.{List}
 use mathlib.Core.Option.{none, some}
 use Prim.Native.Nat.{ℕ, _*_, _≤_}
 use native.Mathlib.Omega.{arith}
-use borrow.Author.Tests.{eq-eqb, ne-eqb, le-ltb}
-use lib.Dec.{eqb, ltb}
+use borrow.Author.Tests.{eq-eqb, le-ltb}
+use lib.Dec.{ltb}
 use lib.ListN.{length, take, drop}
 use lib.Seq.{take-append-seam}
 use Rattle.search.specs.Search.{Each, first}
@@ -18,6 +18,7 @@ use Rattle.search.specs.Replies.{Reply, refused, answered}
 use Rattle.search.proofs.Tests.{each-map}
 use Rattle.search.proofs.Lists.{none-iff}
 use Rattle.logic_programs.specs.Literals.{OneValue, setOf}
+use Rattle.logic_programs.proofs.Values.{all-one-value}
 use Rattle.logic_programs.specs.AnswerSets.{AnswerSet}
 use Rattle.answer_sets.specs.Verdicts.{Verdict, passes}
 use Rattle.logic_programs.specs.Words.{rulesOf}
@@ -48,12 +49,9 @@ use Rattle.correctness.specs.Promises.{TranslatesExactly, PassesExactly,
 use Rattle.correctness.proofs.Reading.{causal-iff}
 use Rattle.correctness.proofs.Translated.{translation-tight, answer-set-iff-path}
 
--- a value that is 1 or 2 is no byte over 3, is not 0, and is one value
+-- a value that is 1 or 2 is no byte over 3, and is one value
 fits-byte : (v : ℕ) → OneValue v → ltb 3 v ≡ false
 fits-byte v o = le-ltb 3 v (⊎-elim (λ (e : v ≡ 1). omega arith) (λ (e : v ≡ 2). omega arith) o)
-
-not-zero : (v : ℕ) → OneValue v → eqb 0 v ≡ false
-not-zero v o = ne-eqb 0 v (λ (z : 0 ≡ v). ⊎-elim (λ (e : v ≡ 1). omega arith) (λ (e : v ≡ 2). omega arith) o)
 
 one-value : (v : ℕ) → OneValue v → causal.notOneValue v ≡ false
 one-value v o = ⊎-elim (λ (e : v ≡ 1). rw e refl) (λ (e : v ≡ 2). rw e refl) o
@@ -124,7 +122,7 @@ module _ (d : Description) (ls : List Law) (lent : ℕ) (vs : List ℕ) (complet
   checked-engine : (room : ℕ) → length (tableFor d ls) ≤ room → history.checked d ls lent vs room ≡ history.ofEngine (engine.answer vs (tableFor d ls))
   unfolding history.checked
   checked-engine room enough =
-      rw (accepted-written d ls lent room taken horizon enough, eq-eqb (length vs) _ size, bytes, none-iff (eqb 0) 0 vs .1 (each-map not-zero vs one))
+      rw (accepted-written d ls lent room taken horizon enough, eq-eqb (length vs) _ size, bytes, all-one-value vs one)
 
   by-history : (room : ℕ) → length (tableFor d ls) ≤ room → history.checked d ls lent vs room ≡ answered (history.judged passes) ↔ PathOf d ls vs
   by-history room enough = Iff·trans (rw (checked-engine room enough) (same (engine.answer vs (tableFor d ls)))) by-engine

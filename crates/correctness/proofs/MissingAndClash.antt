@@ -1,24 +1,25 @@
 -- The completion formulas and the history check name the same atoms without a value and with both.
 -- Assumes nothing.
 use mathlib.Core.Path.{_≡_, refl, sym, _∙_}
-use mathlib.Core.Logic.{_↔_, _⊎_, inl, inr, Iff·trans, Iff·symm, Iff·and}
-use mathlib.Core.Bool.{true}
+use mathlib.Core.Logic.{_↔_, _⊎_, inl, inr, ⊎-elim, Iff·trans, Iff·symm}
+use mathlib.Core.Bool.{Bool, true, false, cond}
 use mathlib.Core.List.{List}
 use mathlib.Core.Option.{Option, none, some}
-use Prim.Native.Nat.{ℕ, _<_}
+use Prim.Native.Nat.{ℕ}
 use native.Mathlib.Omega.{arith}
-use borrow.Author.Tests.{eqb-true, eq-eqb}
+use borrow.Author.Tests.{eqb-true, eqb-false}
 use lib.Dec.{eqb}
 use lib.ListN.{length, getD}
 use Rattle.search.specs.Search.{first, Lowest}
 use Rattle.search.specs.Replies.{Reply, refused, answered, orElse}
-use Rattle.search.proofs.Tests.{or-iff, first-lowest, first-nowhere}
-use Rattle.logic_programs.specs.Literals.{setOf, holdsTrue, holdsFalse}
+use Rattle.search.proofs.Tests.{or-iff}
+use Rattle.logic_programs.specs.Literals.{setOf, holdsTrue, holdsFalse, noneOrBoth}
+use Rattle.logic_programs.proofs.Values.{lowest-none-or-both, nowhere-none-or-both}
 use Rattle.answer_sets.specs.Verdicts.{Verdict, clash}
 use Rattle.answer_sets.specs.Answers as engine
-use Rattle.answer_sets.specs.Demand2.{Clashing, Demand2}
+use Rattle.answer_sets.specs.Demand2.{Accepted, Clashing, Demand2}
 use Rattle.answer_sets.proofs.Theorems.{demand-2}
-use Rattle.literal_completion.specs.Meaning.{NoValue, BothValues}
+use Rattle.literal_completion.specs.Meaning.{NoValue, BothValues, NoneOrBoth}
 use Rattle.literal_completion.proofs.Tightness.{even-in, odd-in}
 use Rattle.literal_completion.proofs.Theorems.{says}
 use Rattle.history.specs.Checks as history
@@ -44,28 +45,64 @@ lowest-iff P Q iff n k = (
   λ h. (h .0, iff k .1 (h .1), λ j b p. h .2 j b (iff j .0 p)),
 )
 
--- the history check's reply, from its search and the engine's answer
-missing-said : (o : Option ℕ) (r : Reply Verdict) (a : ℕ)
-    → orElse o (λ atom. answered (history.missing atom)) (history.ofEngine r) ≡ answered (history.missing a) ↔ o ≡ some a
-missing-said (some i) r a = (λ e. cc, λ e. cc)
-missing-said none (refused k p) a = (λ e. cc, λ e. cc)
-missing-said none (answered v) a = (λ e. cc, λ e. cc)
+-- the engine says clash of the lowest atom of value 3
+pub engine-clash : (vs ws : List ℕ) → Accepted vs ws → (a : ℕ) → engine.answer vs ws ≡ answered (clash a) ↔ Lowest (BothValues vs) (length vs) a
+unfolding Demand2
+engine-clash vs ws accepted a =
+    Iff·trans (demand-2 vs ws accepted .clash-exactly a) (lowest-iff (Clashing (setOf vs)) (BothValues vs) (clashing-iff vs) (length vs) a)
 
-clash-said : (o : Option ℕ) (r : Reply Verdict) (a : ℕ)
-    → orElse o (λ atom. answered (history.missing atom)) (history.ofEngine r) ≡ answered (history.judged (clash a)) ↔ ((o ≡ none) × (r ≡ answered (clash a)))
-clash-said (some i) r a = (λ e. (cc, cc), λ h. cc)
-clash-said none (refused k p) a = (λ e. (cc, cc), λ h. cc)
-clash-said none (answered v) a = (λ e. (cc, cc), λ h. cc)
+-- what the history check says, from its search and the engine's answer
+module _ (vs ws : List ℕ) (accepted : Accepted vs ws) where
+  abbrev said : Option ℕ → Reply history.Finding
+  said o = orElse o (λ atom. answered (history.faultAt vs atom)) (history.ofEngine (engine.answer vs ws))
+
+  missing-said : (a : ℕ) → history.finding vs ws ≡ answered (history.missing a) ↔ (Lowest (NoneOrBoth vs) (length vs) a × NoValue vs a)
+  missing-said a = (
+    λ e. go (first noneOrBoth 0 vs) refl e,
+    λ h. rw (lowest-none-or-both vs a .1 (h .0), h .1) refl,
+  )
+    where
+      engine-not : (r : Reply Verdict) → history.ofEngine r ≡ answered (history.missing a) → ⊥
+      engine-not (refused k p) e = let z : _≡_ {A = ℕ} 0 1 = cc in omega arith
+      engine-not (answered v) e = let z : _≡_ {A = ℕ} 0 1 = cc in omega arith
+
+      go : (o : Option ℕ) → first noneOrBoth 0 vs ≡ o → said o ≡ answered (history.missing a) → Lowest (NoneOrBoth vs) (length vs) a × NoValue vs a
+      go none q e = absurd (engine-not (engine.answer vs ws) e)
+      go (some i) q e = by-value (eqb (getD vs i 0) 0) refl e
+        where
+          by-value : (b : Bool) → eqb (getD vs i 0) 0 ≡ b → answered (cond b (history.missing i) (history.judged (clash i))) ≡ answered (history.missing a)
+              → Lowest (NoneOrBoth vs) (length vs) a × NoValue vs a
+          by-value true t e = let same : i ≡ a = cc in rw (← same) (lowest-none-or-both vs i .0 q, eqb-true (getD vs i 0) 0 t)
+          by-value false f e = let z : _≡_ {A = ℕ} 0 1 = cc in absurd (omega arith)
+
+  clash-said : (a : ℕ) → history.finding vs ws ≡ answered (history.judged (clash a)) ↔ (Lowest (NoneOrBoth vs) (length vs) a × BothValues vs a)
+  clash-said a = (
+    λ e. go (first noneOrBoth 0 vs) refl e,
+    λ h. rw (lowest-none-or-both vs a .1 (h .0), h .1) refl,
+  )
+    where
+      by-engine : (r : Reply Verdict) → history.ofEngine r ≡ answered (history.judged (clash a)) → r ≡ answered (clash a)
+      by-engine (refused k p) e = cc
+      by-engine (answered v) e = cc
+
+      go : (o : Option ℕ) → first noneOrBoth 0 vs ≡ o → said o ≡ answered (history.judged (clash a)) → Lowest (NoneOrBoth vs) (length vs) a × BothValues vs a
+      go none q e =
+          let low = engine-clash vs ws accepted a .0 (by-engine (engine.answer vs ws) e) in
+          absurd (nowhere-none-or-both vs .0 q a (low .0) (inr (low .1)))
+      go (some i) q e = by-value (eqb (getD vs i 0) 0) refl e
+        where
+          by-value : (b : Bool) → eqb (getD vs i 0) 0 ≡ b → answered (cond b (history.missing i) (history.judged (clash i))) ≡ answered (history.judged (clash a))
+              → Lowest (NoneOrBoth vs) (length vs) a × BothValues vs a
+          by-value true t e = let z : _≡_ {A = ℕ} 0 1 = cc in absurd (omega arith)
+          by-value false f e =
+              let same : i ≡ a = cc in
+              let low = lowest-none-or-both vs i .0 q in
+              rw (← same) (low, ⊎-elim (λ z. absurd (eqb-false (getD vs i 0) 0 f z)) (λ t. t) (low .1))
 
 pub missing-and-clash : MissingAndClash
-unfolding Demand2
 missing-and-clash vs ws accepted = record {
-  missing-same = λ a. Iff·trans (says vs ws accepted .missing-exactly a)
-      (Iff·symm (Iff·trans (missing-said (first (eqb 0) 0 vs) (engine.answer vs ws) a) (first-lowest (eqb 0) 0 vs (length vs) refl (NoValue vs) none-there a)));
-  clash-same = λ a. Iff·trans (says vs ws accepted .clash-exactly a)
-      (Iff·symm (Iff·trans (clash-said (first (eqb 0) 0 vs) (engine.answer vs ws) a) (Iff·and (first-nowhere (eqb 0) 0 vs (length vs) refl (NoValue vs) none-there)
-      (Iff·trans (demand-2 vs ws accepted .clash-exactly a) (lowest-iff (Clashing (setOf vs)) (BothValues vs) (clashing-iff vs) (length vs) a)))));
+  missing-exactly = missing-said vs ws accepted;
+  clash-exactly = clash-said vs ws accepted;
+  missing-same = λ a. Iff·trans (says vs ws accepted .missing-exactly a) (Iff·symm (missing-said vs ws accepted a));
+  clash-same = λ a. Iff·trans (says vs ws accepted .clash-exactly a) (Iff·symm (clash-said vs ws accepted a));
 }
-  where
-    none-there : (i : ℕ) → i < length vs → eqb 0 (getD vs i 0) ≡ true ↔ NoValue vs i
-    none-there i b = (λ e. sym (eqb-true 0 (getD vs i 0) e), λ e. eq-eqb 0 (getD vs i 0) (sym e))

@@ -1,18 +1,25 @@
--- Values 0 and 3 are answered by the completion formulas as by the history check (02, §4): on the same words each says missing, or
--- clash, with the same atom.
+-- Values 0 and 3 are answered alike by the history check and by the completion formulas (02, §4 and §5): on the same words each says
+-- missing, or clash, of the lowest atom that has no value or both.
 -- Assumes nothing.
 use mathlib.Core.Path.{_≡_}
 use mathlib.Core.Logic.{_↔_}
 use mathlib.Core.List.{List}
 use Prim.Native.Nat.{ℕ}
+use lib.ListN.{length}
+use Rattle.search.specs.Search.{Lowest}
 use Rattle.search.specs.Replies.{answered}
 use Rattle.answer_sets.specs.Verdicts.{clash}
 use Rattle.answer_sets.specs.Demand2.{Accepted}
 use Rattle.literal_completion.specs.Findings as formulas
 use Rattle.literal_completion.specs.Answers as completion
+use Rattle.literal_completion.specs.Meaning.{NoValue, BothValues, NoneOrBoth}
 use Rattle.history.specs.Checks as history
 
 pub record SameFirst (vs ws : List ℕ) : Type 0 where
+  -- what the history check says
+  pub missing-exactly : (a : ℕ) → history.finding vs ws ≡ answered (history.missing a) ↔ (Lowest (NoneOrBoth vs) (length vs) a × NoValue vs a)
+  pub clash-exactly : (a : ℕ) → history.finding vs ws ≡ answered (history.judged (clash a)) ↔ (Lowest (NoneOrBoth vs) (length vs) a × BothValues vs a)
+  -- the completion formulas say the same
   pub missing-same : (a : ℕ) → completion.answer vs ws ≡ answered (formulas.missing a) ↔ history.finding vs ws ≡ answered (history.missing a)
   pub clash-same : (a : ℕ) → completion.answer vs ws ≡ answered (formulas.clash a) ↔ history.finding vs ws ≡ answered (history.judged (clash a))
 

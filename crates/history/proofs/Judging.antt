@@ -5,32 +5,44 @@ use mathlib.Core.List.{List}
 use mathlib.Core.Option.{Option, none, some}
 use Prim.Native.Nat.{ℕ}
 use borrow.Author.Tests.{eq-eqb, ne-eqb}
-use lib.Dec.{eqb}
-use lib.ListN.{length, take, drop}
+use lib.ListN.{length, getD, take, drop}
 use lib.Seq.{take-at}
 use Rattle.search.specs.Search.{first}
-use Rattle.search.specs.Replies.{Reply, refused, answered, orElse, leftAfter}
-use Rattle.logic_programs.specs.Literals.{setOf, badValue}
-use Rattle.answer_sets.specs.Verdicts.{verdict}
+use Rattle.search.specs.Replies.{Reply, refused, answered, orElse}
+use Rattle.logic_programs.specs.Literals.{setOf, noneOrBoth, badValue}
+use Rattle.answer_sets.specs.Verdicts.{verdict, clash}
 use Rattle.logic_programs.specs.Words.{rulesOf}
 use Rattle.answer_sets.specs.Answers as engine
 use Rattle.description.specs.declared.Law.{Law}
 use Rattle.description.specs.declared.Description.{Description}
 use Rattle.translation.specs.Translated as translated
 use Rattle.translation_bounds.proofs.Tables.{engine-judges}
-use Rattle.history.specs.Checks.{Finding, missing, judged, ofEngine, finding, checked, tableAfter}
+use Rattle.history.specs.Checks.{Finding, missing, judged, faultAt, ofEngine, finding, checked, tableAfter}
 
 -- the words of a translation are the first of the table that it was written into
 pub words-front : (ws table : List ℕ) (w : ℕ) → w ≡ length ws → take w (translated.overwritten ws table) ≡ ws
 words-front ws table w e = take-at ws (drop (length ws) table) w (sym e)
 
--- missing, or what the engine says
+-- missing or clash, or what the engine says
 module _ (vs ws : List ℕ) where
-  pub says-missing : {a : ℕ} → first (eqb 0) 0 vs ≡ some a → answered (missing a) ≡ finding vs ws
-  says-missing e = rw e
+  pub says-missing : {a : ℕ} → first noneOrBoth 0 vs ≡ some a → getD vs a 0 ≡ 0 → answered (missing a) ≡ finding vs ws
+  says-missing e zero = rw (e, zero)
 
-  pub says-engine : first (eqb 0) 0 vs ≡ none → ofEngine (engine.answer vs ws) ≡ finding vs ws
+  pub says-clash : {a : ℕ} → first noneOrBoth 0 vs ≡ some a → (getD vs a 0 ≡ 0 → ⊥) → answered (judged (clash a)) ≡ finding vs ws
+  says-clash {a} e other = rw (e, ne-eqb (getD vs a 0) 0 other)
+
+  pub says-engine : first noneOrBoth 0 vs ≡ none → ofEngine (engine.answer vs ws) ≡ finding vs ws
   says-engine e = rw e
+
+-- of values that are not refused an answer is found: the engine refuses no translated table
+pub finding-answered : (d : Description) (ls : List Law) (lent room : ℕ) {a r w : ℕ} → translated.outcome d ls lent room ≡ answered (translated.written a r w)
+    → (vs : List ℕ) → length vs ≡ a → badValue vs ≡ none → finding vs (translated.tableFor d ls)
+    ≡ answered (orElse (first noneOrBoth 0 vs) (faultAt vs) (judged (verdict (length vs) (rulesOf (translated.tableFor d ls)) (setOf vs))))
+finding-answered d ls lent room e vs size small = rw (engine-judges d ls lent room e vs size small) (either (first noneOrBoth 0 vs) _)
+  where
+    either : (o : Option ℕ) (f : Finding) → orElse o (λ atom. answered (faultAt vs atom)) (answered f) ≡ answered (orElse o (faultAt vs) f)
+    either none f = refl
+    either (some k) f = refl
 
 module _ (d : Description) (ls : List Law) (lent : ℕ) (vs table : List ℕ) where
   pub says-refused : {k p : ℕ} → translated.outcome d ls lent (length table) ≡ refused k p
@@ -57,12 +69,4 @@ module _ (d : Description) (ls : List Law) (lent : ℕ) (vs table : List ℕ) wh
 
         pub leaves-table : translated.overwritten (translated.tableFor d ls) table ≡ tableAfter d ls lent vs table
         unfolding checked tableAfter
-        leaves-table =
-            rw (e, eq-eqb (length vs) a size, small, engine-judges d ls lent (length table) e vs size small) (either (first (eqb 0) 0 vs))
-          where
-            either : (o : Option ℕ) → translated.overwritten (translated.tableFor d ls) table
-                ≡ leftAfter
-                (orElse o (λ atom. answered (missing atom)) (answered (judged (verdict (length vs) (rulesOf (translated.tableFor d ls)) (setOf vs)))))
-                (λ found. translated.overwritten (translated.tableFor d ls) table) table
-            either none = refl
-            either (some k) = refl
+        leaves-table = rw (e, eq-eqb (length vs) a size, small, finding-answered d ls lent (length table) e vs size small) refl

@@ -32,12 +32,15 @@ fn from_engine(answer: Answer) -> Checked
     }
 }
 
-// Missing, or what the engine says of these words.
+// Missing or clash at the lowest atom that has no value or both, or what the engine says of these words.
 fn judge(values: &[u8], words: &[u16]) -> Checked
     ensures { λ r. ⌜ replyOf r ≡ finding (now (values .entry)) (now (words .entry)) ⌝ }
 {
-    if let Found::At(atom) = rule_tables::values::first_with(values, 0) {
-        return Checked::Missing(atom);
+    if let Found::At(atom) = rule_tables::values::first_none_or_both(values) {
+        if values[atom] == 0 {
+            return Checked::Missing(atom);
+        }
+        return Checked::Clash(atom);
     }
     from_engine(answer_sets::check_set(values, words))
 }

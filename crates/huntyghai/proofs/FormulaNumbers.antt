@@ -107,8 +107,8 @@ module _ (r : Reply Finding) (number : ℕ) (is : number ≡ replyCode formulaCo
 
 -- what is found is within bounds
 found-within : (vs ws : List ℕ) → length vs ≤ 1024 → (f : Finding) → ByFormulas vs (rulesOf ws) (answered f) → Within (answered f)
-found-within vs ws few (missing a) by = omega (arith, few, by .missing-exactly a .0 refl .0)
-found-within vs ws few (clash a) by = omega (arith, few, by .clash-exactly a .0 refl .1 .0)
+found-within vs ws few (missing a) by = omega (arith, few, by .missing-exactly a .0 refl .0 .0)
+found-within vs ws few (clash a) by = omega (arith, few, by .clash-exactly a .0 refl .0 .0)
 found-within vs ws few (fails (lit c)) by = omega (arith, few, by .fails-exactly c .0 refl .1 .0)
 found-within vs ws few (fails falsum) by = tt
 found-within vs ws few holds by = tt

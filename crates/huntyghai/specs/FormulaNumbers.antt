@@ -6,7 +6,7 @@ use mathlib.Core.Logic.{_↔_}
 use mathlib.Core.List.{List}
 use Prim.Native.Nat.{ℕ, _*_, _<_}
 use lib.ListN.{length}
-use Rattle.search.specs.Search.{Each, Lowest, Nowhere}
+use Rattle.search.specs.Search.{Each, Lowest}
 use Rattle.logic_programs.specs.Literals.{setOf, OneValue}
 use Rattle.logic_programs.specs.Rules.{lit, falsum, Rule}
 use Rattle.logic_programs.specs.Words.{rulesOf}
@@ -15,14 +15,15 @@ use Rattle.answer_sets.specs.Demand2.{Accepted}
 use Rattle.tight_programs.specs.TightPrograms.{Tight}
 use Rattle.tight_programs.specs.LiteralCompletion.{Formula, Completion}
 use Rattle.literal_completion.specs.LevelLists.{levelOf}
-use Rattle.literal_completion.specs.Meaning.{NoValue, BothValues, NotAbove}
+use Rattle.literal_completion.specs.Meaning.{NoValue, BothValues, NoneOrBoth, NotAbove}
 use Rattle.answer_codes.specs.Codes.{coded, replyCode, verdictCode}
 
 -- the number for values and a program
 pub record NumberedByFormulas (vs : List ℕ) (Π : List Rule) (number : ℕ) : Type 0 where
-  pub missing-exactly : (a : ℕ) → a < length vs → number ≡ coded 68 a ↔ Lowest (NoValue vs) (length vs) a
+  pub missing-exactly : (a : ℕ) → a < length vs → number ≡ coded 68 a
+      ↔ (Lowest (NoneOrBoth vs) (length vs) a × NoValue vs a)
   pub clash-exactly : (a : ℕ) → a < length vs → number ≡ coded 65 a
-      ↔ (Nowhere (NoValue vs) (length vs) × Lowest (BothValues vs) (length vs) a)
+      ↔ (Lowest (NoneOrBoth vs) (length vs) a × BothValues vs a)
   pub fails-exactly : (c : ℕ) → c < 2 * length vs → number ≡ coded 73 c
       ↔ (Each OneValue vs × Lowest (λ d. Formula Π (setOf vs) (lit d) → ⊥) (2 * length vs) c)
   pub false-exactly : number ≡ coded 73 65535

@@ -16,8 +16,8 @@ a & b = (a, b)
 pub worked : Each Holds examples
 unfolding answer finding judged rulesOf badRule setOf holdsTrue holdsFalse complement
 worked =
-    refl & refl & refl & refl & refl & refl & refl & refl & refl & refl & refl & refl & refl & refl & refl & refl & refl & refl & refl & refl & tt
+    refl & refl & refl & refl & refl & refl & refl & refl & refl & refl & refl & refl & refl & refl & refl & refl & refl & refl & refl & refl & refl & refl & refl & refl & tt
 
 pub worked-levels : Each HoldsByLevels levelExamples
 unfolding answerByLevels badLevels finding judged rulesOf badRule setOf holdsTrue holdsFalse complement
-worked-levels = refl & refl & refl & refl & refl & refl & refl & refl & refl & refl & refl & tt
+worked-levels = refl & refl & refl & refl & refl & refl & refl & refl & refl & refl & refl & refl & refl & tt

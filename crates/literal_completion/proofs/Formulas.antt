@@ -1,25 +1,26 @@
 -- What is found, read by the formulas of literal completion: each formula's test, and the first that fails.
 -- Assumes nothing.
-use mathlib.Core.Path.{_≡_, refl, sym, _∙_, ap}
+use mathlib.Core.Path.{_≡_, refl, sym, ap}
 use mathlib.Core.Logic.{_↔_, _⊎_, inl, inr, ⊎-elim, Iff·trans, Iff·and}
 use mathlib.Core.Bool.{Bool, true, false, cond}
 use mathlib.Core.List.{List, [], _∷_, List·Memᴰ·head, List·Memᴰ·tail, List·Memᴰ·not-nil, List·Memᴰ·cases-cons}
 use mathlib.Core.Option.{Option, none, some}
 use Prim.Native.Nat.{ℕ, _*_, _<_}
 use native.Mathlib.Omega.{arith}
-use borrow.Author.Tests.{eqb-true, eqb-false, eq-eqb, ne-eqb, ltb-false}
-use lib.Dec.{eqb, ltb}
+use borrow.Author.Tests.{eqb-true, eqb-false, eq-eqb}
+use lib.Dec.{eqb}
 use lib.ListN.{length, getD}
-use Rattle.search.specs.Search.{Each, all, first, range, Lowest, Nowhere}
+use Rattle.search.specs.Search.{Each, all, first, range, Lowest}
 use Rattle.search.specs.Replies.{Reply, answered, orElse}
-use Rattle.search.proofs.Tests.{true-or-false, not-both, false-of-not, true-of-not, and-iff, iff-and₃, and-or-iff, all-each, each-map, each-map₂, first-lowest, first-nowhere, range-lowest}
+use Rattle.search.proofs.Tests.{not-both, false-of-not, true-of-not, and-iff, iff-and₃, and-or-iff, all-each, range-lowest}
 use Rattle.search.proofs.Lists.{none-iff, each-range}
-use Rattle.logic_programs.specs.Literals.{Lits, complement, setOf, OneValue, badValue}
+use Rattle.logic_programs.specs.Literals.{Lits, complement, setOf, OneValue, noneOrBoth, badValue}
 use Rattle.logic_programs.specs.Rules.{Head, lit, falsum, Rule}
 use Rattle.logic_programs.specs.Words.{rulesOf}
+use Rattle.logic_programs.proofs.Values.{lowest-none-or-both, one-value-iff}
 use Rattle.tight_programs.specs.LiteralCompletion.{BodyHolds, SomeBody, Formula}
 use Rattle.literal_completion.specs.Findings.{Finding, missing, clash, fails, holds, bodyHolds, sameHead, someBody, differ, literalFails, judged, finding}
-use Rattle.literal_completion.specs.Meaning.{NoValue, BothValues, ByFormulas}
+use Rattle.literal_completion.specs.Meaning.{NoValue, BothValues, NoneOrBoth, ByFormulas}
 
 -- The formulas' tests
 
@@ -84,78 +85,57 @@ module _ (Π : List Rule) (X : Lits) where
       (Iff·trans (each-range (λ c. literalFails Π X c ≡ false) 0 n (λ i. i) (λ i. omega arith))
       (λ h c b. literal-iff c .0 (h c b), λ h c b. literal-iff c .1 (h c b)))
 
--- Values
+-- What is found, from the three searches
 
-module _ (vs : List ℕ) where
-  value-iff : (v w : ℕ) → eqb w v ≡ true ↔ v ≡ w
-  value-iff v w = (λ e. sym (eqb-true w v e), λ e. eq-eqb w v (sym e))
+abbrev of : Option ℕ → (ℕ → Bool) → Option ℕ → Bool → Finding
+of a lacks c d = orElse a (λ i. cond (lacks i) (missing i) (clash i)) (orElse c (λ k. fails (lit k)) (cond d (fails falsum) holds))
 
-  missing-iff : (a : ℕ) → first (eqb 0) 0 vs ≡ some a ↔ Lowest (NoValue vs) (length vs) a
-  missing-iff = first-lowest (eqb 0) 0 vs (length vs) refl (NoValue vs) (λ i b. value-iff (getD vs i 0) 0)
+of-missing : (a : Option ℕ) (lacks : ℕ → Bool) (c : Option ℕ) (d : Bool) (k : ℕ) → of a lacks c d ≡ missing k ↔ ((a ≡ some k) × (lacks k ≡ true))
+of-missing (some i) lacks c d k = go (lacks i) refl
+  where
+    go : (b : Bool) → lacks i ≡ b → cond b (missing i) (clash i) ≡ missing k ↔ ((some i ≡ some k) × (lacks k ≡ true))
+    go true t = (λ e. let same : i ≡ k = cc in (ap some same, rw same at t), λ h. cc)
+    go false f = (λ e. (cc, cc), λ h. let same : i ≡ k = cc in absurd (not-both (h .1) (rw same at f)))
+of-missing none lacks (some i) d k = (λ e. (cc, cc), λ h. cc)
+of-missing none lacks none true k = (λ e. (cc, cc), λ h. cc)
+of-missing none lacks none false k = (λ e. (cc, cc), λ h. cc)
 
-  not-missing-iff : first (eqb 0) 0 vs ≡ none ↔ Nowhere (NoValue vs) (length vs)
-  not-missing-iff = first-nowhere (eqb 0) 0 vs (length vs) refl (NoValue vs) (λ i b. value-iff (getD vs i 0) 0)
+of-clash : (a : Option ℕ) (lacks : ℕ → Bool) (c : Option ℕ) (d : Bool) (k : ℕ) → of a lacks c d ≡ clash k ↔ ((a ≡ some k) × (lacks k ≡ false))
+of-clash (some i) lacks c d k = go (lacks i) refl
+  where
+    go : (b : Bool) → lacks i ≡ b → cond b (missing i) (clash i) ≡ clash k ↔ ((some i ≡ some k) × (lacks k ≡ false))
+    go true t = (λ e. (cc, cc), λ h. let same : i ≡ k = cc in absurd (not-both (rw same at t) (h .1)))
+    go false f = (λ e. let same : i ≡ k = cc in (ap some same, rw same at f), λ h. cc)
+of-clash none lacks (some i) d k = (λ e. (cc, cc), λ h. cc)
+of-clash none lacks none true k = (λ e. (cc, cc), λ h. cc)
+of-clash none lacks none false k = (λ e. (cc, cc), λ h. cc)
 
-  clash-iff : (a : ℕ) → first (eqb 3) 0 vs ≡ some a ↔ Lowest (BothValues vs) (length vs) a
-  clash-iff = first-lowest (eqb 3) 0 vs (length vs) refl (BothValues vs) (λ i b. value-iff (getD vs i 0) 3)
+-- the other answers are neither
+not-fails : (b : Bool) (i : ℕ) (h : Head) → cond b (missing i) (clash i) ≡ fails h → ⊥
+not-fails true i h e = let z : _≡_ {A = ℕ} 0 1 = cc in omega arith
+not-fails false i h e = let z : _≡_ {A = ℕ} 0 1 = cc in omega arith
 
-  one : (v : ℕ) → ltb 3 v ≡ false → (eqb 0 v ≡ false) × (eqb 3 v ≡ false) → OneValue v
-  one v few h =
-      ⊎-elim (λ t. inl (eqb-true v 1 t))
-      (λ f. inr (omega (arith, ltb-false 3 v few, eqb-false 0 v (h .0), eqb-false 3 v (h .1), eqb-false v 1 f))) (true-or-false (eqb v 1))
+not-holds : (b : Bool) (i : ℕ) → cond b (missing i) (clash i) ≡ holds → ⊥
+not-holds true i e = let z : _≡_ {A = ℕ} 0 1 = cc in omega arith
+not-holds false i e = let z : _≡_ {A = ℕ} 0 1 = cc in omega arith
 
-  other : (v w : ℕ) → (w ≡ 1 → ⊥) → (w ≡ 2 → ⊥) → OneValue v → eqb w v ≡ false
-  other v w h g o = ne-eqb w v (λ (e : w ≡ v). ⊎-elim (λ (q : v ≡ 1). h (e ∙ q)) (λ (q : v ≡ 2). g (e ∙ q)) o)
+of-fails : (a : Option ℕ) (lacks : ℕ → Bool) (c : Option ℕ) (d : Bool) (k : ℕ) → of a lacks c d ≡ fails (lit k) ↔ ((a ≡ none) × (c ≡ some k))
+of-fails (some i) lacks c d k = (λ e. absurd (not-fails (lacks i) i (lit k) e), λ h. cc)
+of-fails none lacks (some i) d k = (λ e. (cc, cc), λ h. cc)
+of-fails none lacks none true k = (λ e. (cc, cc), λ h. cc)
+of-fails none lacks none false k = (λ e. (cc, cc), λ h. cc)
 
-  pub one-value-iff : badValue vs ≡ none → ((first (eqb 0) 0 vs ≡ none) × (first (eqb 3) 0 vs ≡ none)) ↔ Each OneValue vs
-  one-value-iff few = (
-    λ h. each-map₂ (λ v b g. one v b g) vs (none-iff (ltb 3) 0 vs .0 few)
-        (each-map₂ (λ v a b. (a, b)) vs (none-iff (eqb 0) 0 vs .0 (h .0)) (none-iff (eqb 3) 0 vs .0 (h .1))),
-    λ o. (
-      none-iff (eqb 0) 0 vs .1 (each-map (λ v. other v 0 (λ e. omega arith) (λ e. omega arith)) vs o),
-      none-iff (eqb 3) 0 vs .1 (each-map (λ v. other v 3 (λ e. omega arith) (λ e. omega arith)) vs o),
-    ),
-  )
+of-false : (a : Option ℕ) (lacks : ℕ → Bool) (c : Option ℕ) (d : Bool) → of a lacks c d ≡ fails falsum ↔ ((a ≡ none) × (c ≡ none) × (d ≡ true))
+of-false (some i) lacks c d = (λ e. absurd (not-fails (lacks i) i falsum e), λ h. cc)
+of-false none lacks (some i) d = (λ e. (cc, cc, cc), λ h. cc)
+of-false none lacks none true = (λ e. (cc, cc, cc), λ h. cc)
+of-false none lacks none false = (λ e. (cc, cc, cc), λ h. cc)
 
--- What is found, from the four searches
-
-abbrev of : Option ℕ → Option ℕ → Option ℕ → Bool → Finding
-of a b c d = orElse a missing (orElse b clash (orElse c (λ k. fails (lit k)) (cond d (fails falsum) holds)))
-
-of-missing : (a b c : Option ℕ) (d : Bool) (k : ℕ) → of a b c d ≡ missing k ↔ a ≡ some k
-of-missing (some i) b c d k = (λ e. cc, λ e. cc)
-of-missing none (some i) c d k = (λ e. cc, λ e. cc)
-of-missing none none (some i) d k = (λ e. cc, λ e. cc)
-of-missing none none none true k = (λ e. cc, λ e. cc)
-of-missing none none none false k = (λ e. cc, λ e. cc)
-
-of-clash : (a b c : Option ℕ) (d : Bool) (k : ℕ) → of a b c d ≡ clash k ↔ ((a ≡ none) × (b ≡ some k))
-of-clash (some i) b c d k = (λ e. (cc, cc), λ h. cc)
-of-clash none (some i) c d k = (λ e. (cc, cc), λ h. cc)
-of-clash none none (some i) d k = (λ e. (cc, cc), λ h. cc)
-of-clash none none none true k = (λ e. (cc, cc), λ h. cc)
-of-clash none none none false k = (λ e. (cc, cc), λ h. cc)
-
-of-fails : (a b c : Option ℕ) (d : Bool) (k : ℕ) → of a b c d ≡ fails (lit k) ↔ (((a ≡ none) × (b ≡ none)) × (c ≡ some k))
-of-fails (some i) b c d k = (λ e. ((cc, cc), cc), λ h. cc)
-of-fails none (some i) c d k = (λ e. ((cc, cc), cc), λ h. cc)
-of-fails none none (some i) d k = (λ e. ((cc, cc), cc), λ h. cc)
-of-fails none none none true k = (λ e. ((cc, cc), cc), λ h. cc)
-of-fails none none none false k = (λ e. ((cc, cc), cc), λ h. cc)
-
-of-false : (a b c : Option ℕ) (d : Bool) → of a b c d ≡ fails falsum ↔ (((a ≡ none) × (b ≡ none)) × (c ≡ none) × (d ≡ true))
-of-false (some i) b c d = (λ e. ((cc, cc), cc, cc), λ h. cc)
-of-false none (some i) c d = (λ e. ((cc, cc), cc, cc), λ h. cc)
-of-false none none (some i) d = (λ e. ((cc, cc), cc, cc), λ h. cc)
-of-false none none none true = (λ e. ((cc, cc), cc, cc), λ h. cc)
-of-false none none none false = (λ e. ((cc, cc), cc, cc), λ h. cc)
-
-of-holds : (a b c : Option ℕ) (d : Bool) → of a b c d ≡ holds ↔ (((a ≡ none) × (b ≡ none)) × (c ≡ none) × (d ≡ false))
-of-holds (some i) b c d = (λ e. ((cc, cc), cc, cc), λ h. cc)
-of-holds none (some i) c d = (λ e. ((cc, cc), cc, cc), λ h. cc)
-of-holds none none (some i) d = (λ e. ((cc, cc), cc, cc), λ h. cc)
-of-holds none none none true = (λ e. ((cc, cc), cc, cc), λ h. cc)
-of-holds none none none false = (λ e. ((cc, cc), cc, cc), λ h. cc)
+of-holds : (a : Option ℕ) (lacks : ℕ → Bool) (c : Option ℕ) (d : Bool) → of a lacks c d ≡ holds ↔ ((a ≡ none) × (c ≡ none) × (d ≡ false))
+of-holds (some i) lacks c d = (λ e. absurd (not-holds (lacks i) i e), λ h. cc)
+of-holds none lacks (some i) d = (λ e. (cc, cc, cc), λ h. cc)
+of-holds none lacks none true = (λ e. (cc, cc, cc), λ h. cc)
+of-holds none lacks none false = (λ e. (cc, cc, cc), λ h. cc)
 
 module _ (vs ws : List ℕ) (few : badValue vs ≡ none) (reply : Reply Finding) (is : reply ≡ answered (finding vs ws)) where
   abbrev Π : List Rule
@@ -165,10 +145,11 @@ module _ (vs ws : List ℕ) (few : badValue vs ≡ none) (reply : Reply Finding)
   X = setOf vs
 
   abbrev a : Option ℕ
-  a = first (eqb 0) 0 vs
+  a = first noneOrBoth 0 vs
 
-  abbrev b : Option ℕ
-  b = first (eqb 3) 0 vs
+  -- atom i has no value
+  abbrev lacks : ℕ → Bool
+  lacks i = eqb (getD vs i 0) 0
 
   abbrev c : Option ℕ
   c = first (literalFails Π X) 0 (range 0 (2 * length vs))
@@ -176,22 +157,31 @@ module _ (vs ws : List ℕ) (few : badValue vs ≡ none) (reply : Reply Finding)
   abbrev d : Bool
   d = someBody Π X falsum
 
-  found : (f : Finding) → reply ≡ answered f ↔ of a b c d ≡ f
+  found : (f : Finding) → reply ≡ answered f ↔ of a lacks c d ≡ f
   unfolding finding judged
-  found f = let same : reply ≡ answered (of a b c d) = is in (λ e. cc, λ e. cc)
+  found f = let same : reply ≡ answered (of a lacks c d) = is in (λ e. cc, λ e. cc)
 
-  one-value : ((a ≡ none) × (b ≡ none)) ↔ Each OneValue vs
+  one-value : a ≡ none ↔ Each OneValue vs
   one-value = one-value-iff vs few
+
+  missing-iff : (k : ℕ) → ((a ≡ some k) × (lacks k ≡ true)) ↔ (Lowest (NoneOrBoth vs) (length vs) k × NoValue vs k)
+  missing-iff k = Iff·and (lowest-none-or-both vs k) (eqb-true (getD vs k 0) 0, eq-eqb (getD vs k 0) 0)
+
+  clash-iff : (k : ℕ) → ((a ≡ some k) × (lacks k ≡ false)) ↔ (Lowest (NoneOrBoth vs) (length vs) k × BothValues vs k)
+  clash-iff k = (
+    λ h. let low = lowest-none-or-both vs k .0 (h .0) in (low, ⊎-elim (λ z. absurd (eqb-false (getD vs k 0) 0 (h .1) z)) (λ t. t) (low .1)),
+    λ h. (lowest-none-or-both vs k .1 (h .0), rw (h .1) refl),
+  )
 
   pub by-formulas : ByFormulas vs Π reply
   by-formulas = record {
-    missing-exactly = λ k. Iff·trans (found (missing k)) (Iff·trans (of-missing a b c d k) (missing-iff vs k));
-    clash-exactly = λ k. Iff·trans (found (clash k)) (Iff·trans (of-clash a b c d k) (Iff·and (not-missing-iff vs) (clash-iff vs k)));
-    fails-exactly = λ k. Iff·trans (found (fails (lit k))) (Iff·trans (of-fails a b c d k)
+    missing-exactly = λ k. Iff·trans (found (missing k)) (Iff·trans (of-missing a lacks c d k) (missing-iff k));
+    clash-exactly = λ k. Iff·trans (found (clash k)) (Iff·trans (of-clash a lacks c d k) (clash-iff k));
+    fails-exactly = λ k. Iff·trans (found (fails (lit k))) (Iff·trans (of-fails a lacks c d k)
         (Iff·and one-value (range-lowest (literalFails Π X) (2 * length vs) (λ i. Formula Π X (lit i) → ⊥) (λ i low. fails-iff Π X i) k)));
-    false-exactly = Iff·trans (found (fails falsum)) (Iff·trans (of-false a b c d)
+    false-exactly = Iff·trans (found (fails falsum)) (Iff·trans (of-false a lacks c d)
         (iff-and₃ one-value (none-fails-iff Π X (2 * length vs)) (false-fails-iff Π X)));
-    holds-exactly = Iff·trans (found holds) (Iff·trans (of-holds a b c d)
+    holds-exactly = Iff·trans (found holds) (Iff·trans (of-holds a lacks c d)
         (Iff·trans (iff-and₃ one-value (none-fails-iff Π X (2 * length vs)) (false-iff Π X))
         (λ h. (h .0, record { of-literals = h .1; of-falsum = h .2 }), λ h. (h .0, h .1 .of-literals, h .1 .of-falsum))));
   }

@@ -50,9 +50,13 @@ examples =
     -- no atoms
     ∷ record { values = []; table = []; reply = answered holds }
     ∷ record { values = []; table = 65535 ∷ 0 ∷ 0 ∷ []; reply = answered (fails falsum) }
-    -- missing before clash, each with the lowest atom
-    ∷ record { values = 3 ∷ 1 ∷ 0 ∷ 0 ∷ []; table = []; reply = answered (missing 2) }
+    -- the lowest atom without one value decides: both below none, none below both, each alone, and neighbours in either order
+    ∷ record { values = 3 ∷ 1 ∷ 0 ∷ 0 ∷ []; table = []; reply = answered (clash 0) }
+    ∷ record { values = 1 ∷ 0 ∷ 1 ∷ 3 ∷ []; table = []; reply = answered (missing 1) }
     ∷ record { values = 1 ∷ 3 ∷ 3 ∷ []; table = []; reply = answered (clash 1) }
+    ∷ record { values = 1 ∷ 0 ∷ 0 ∷ []; table = []; reply = answered (missing 1) }
+    ∷ record { values = 1 ∷ 3 ∷ 0 ∷ []; table = []; reply = answered (clash 1) }
+    ∷ record { values = 1 ∷ 0 ∷ 3 ∷ []; table = []; reply = answered (missing 1) }
     -- refusals
     ∷ record { values = 0 ∷ 4 ∷ []; table = 9 ∷ []; reply = refused 11 1 }
     ∷ record { values = 0 ∷ []; table = 0 ∷ 0 ∷ 0 ∷ 1 ∷ 0 ∷ 1 ∷ 2 ∷ []; reply = refused 12 3 }
@@ -86,4 +90,7 @@ levelExamples =
     ∷ record { values = 0 ∷ []; table = []; levels = 0 ∷ 0 ∷ 0 ∷ []; reply = refused 13 65535 }
     ∷ record { values = 0 ∷ []; table = 2 ∷ 0 ∷ 0 ∷ []; levels = []; reply = refused 12 0 }
     ∷ record { values = 0 ∷ []; table = []; levels = 0 ∷ 0 ∷ []; reply = answered (missing 0) }
+    -- with levels too the lowest atom without one value decides
+    ∷ record { values = 3 ∷ 0 ∷ []; table = []; levels = 0 ∷ 0 ∷ 0 ∷ 0 ∷ []; reply = answered (clash 0) }
+    ∷ record { values = 0 ∷ 3 ∷ []; table = []; levels = 0 ∷ 0 ∷ 0 ∷ 0 ∷ []; reply = answered (missing 0) }
     ∷ []

@@ -5,10 +5,10 @@ use mathlib.Core.Bool.{Bool, true, false, cond, not, _&&_, _||_}
 use mathlib.Core.List.{List, [], _∷_}
 use Prim.Native.Nat.{ℕ, _*_}
 use lib.Dec.{eqb}
-use lib.ListN.{length}
+use lib.ListN.{length, getD}
 use Rattle.search.specs.Search.{all, first, range}
 use Rattle.search.specs.Replies.{orElse}
-use Rattle.logic_programs.specs.Literals.{Lits, complement, setOf}
+use Rattle.logic_programs.specs.Literals.{Lits, complement, setOf, noneOrBoth}
 use Rattle.logic_programs.specs.Rules.{Head, lit, falsum, Rule}
 use Rattle.logic_programs.specs.Words.{rulesOf}
 
@@ -46,9 +46,10 @@ unfoldable pub judged : ℕ → List Rule → Lits → Finding
 judged n Π X =
     orElse (first (literalFails Π X) 0 (range 0 (2 * n))) (λ c. fails (lit c)) (cond (someBody Π X falsum) (fails falsum) holds)
 
--- values 0 and 3 are answered first, missing before clash
+-- an atom that has no value is missing, one that has both is a clash
+abbrev pub faultAt : List ℕ → ℕ → Finding
+faultAt vs atom = cond (eqb (getD vs atom 0) 0) (missing atom) (clash atom)
+
+-- the lowest atom of value 0 or 3 decides; else the formulas
 unfoldable pub finding : List ℕ → List ℕ → Finding
-finding vs ws =
-    orElse (first (eqb 0) 0 vs) missing
-    (orElse (first (eqb 3) 0 vs) clash
-    (judged (length vs) (rulesOf ws) (setOf vs)))
+finding vs ws = orElse (first noneOrBoth 0 vs) (faultAt vs) (judged (length vs) (rulesOf ws) (setOf vs))

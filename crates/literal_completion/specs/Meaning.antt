@@ -1,11 +1,11 @@
 -- What the replies say, by the formulas of literal completion, by tight programs and by the engine.
 -- Assumes nothing.
 use mathlib.Core.Path.{_≡_}
-use mathlib.Core.Logic.{_↔_}
+use mathlib.Core.Logic.{_↔_, _⊎_}
 use mathlib.Core.List.{List}
 use Prim.Native.Nat.{ℕ, _*_, _<_}
 use lib.ListN.{length, getD}
-use Rattle.search.specs.Search.{Each, Lowest, Nowhere}
+use Rattle.search.specs.Search.{Each, Lowest}
 use Rattle.search.specs.Replies.{Reply, refused, answered}
 use Rattle.logic_programs.specs.Literals.{setOf, OneValue}
 use Rattle.logic_programs.specs.Rules.{lit, falsum, Rule}
@@ -25,11 +25,14 @@ NoValue vs a = getD vs a 0 ≡ 0
 abbrev pub BothValues : List ℕ → ℕ → Type 0
 BothValues vs a = getD vs a 0 ≡ 3
 
--- the reply to values and a program: missing, then clash, each with the lowest atom; then, each atom having one value, the
--- lowest literal whose formula fails; false where only its formula does; and holds exactly if all formulas do
+abbrev pub NoneOrBoth : List ℕ → ℕ → Type 0
+NoneOrBoth vs a = NoValue vs a ⊎ BothValues vs a
+
+-- the reply to values and a program: missing or clash at the lowest atom that has no value or both; then, each atom having one
+-- value, the lowest literal whose formula fails; false where only its formula does; and holds exactly if all formulas do
 pub record ByFormulas (vs : List ℕ) (Π : List Rule) (reply : Reply Finding) : Type 0 where
-  pub missing-exactly : (a : ℕ) → reply ≡ answered (missing a) ↔ Lowest (NoValue vs) (length vs) a
-  pub clash-exactly : (a : ℕ) → reply ≡ answered (clash a) ↔ (Nowhere (NoValue vs) (length vs) × Lowest (BothValues vs) (length vs) a)
+  pub missing-exactly : (a : ℕ) → reply ≡ answered (missing a) ↔ (Lowest (NoneOrBoth vs) (length vs) a × NoValue vs a)
+  pub clash-exactly : (a : ℕ) → reply ≡ answered (clash a) ↔ (Lowest (NoneOrBoth vs) (length vs) a × BothValues vs a)
   pub fails-exactly : (c : ℕ) → reply ≡ answered (fails (lit c))
       ↔ (Each OneValue vs × Lowest (λ d. Formula Π (setOf vs) (lit d) → ⊥) (2 * length vs) c)
   pub false-exactly : reply ≡ answered (fails falsum)

@@ -123,5 +123,6 @@ definitions-hold = record {
   held = held;
   one-value = (inl refl, (inr refl, tt));
   not-one-value = (not-one 0 (λ e. omega arith) (λ e. omega arith), (not-one 3 (λ e. omega arith) (λ e. omega arith), tt));
+  none-or-both = refl;
   complements = complements;
 }

@@ -1,3 +1,4 @@
--- Complementary literals, and the worked examples of the definitions.
+-- Complementary literals, atoms without one value, and the worked examples of the definitions.
 pub mod Complements
+pub mod Values
 pub mod BasicExamples

@@ -2,12 +2,12 @@
 -- reduct, a least closed set, and the words of rules.
 -- Assumes nothing.
 use mathlib.Core.Path.{_≡_}
-use mathlib.Core.Bool.{false, _||_}
+use mathlib.Core.Bool.{true, false, _||_}
 use mathlib.Core.List.{List, [], _∷_, map}
 use Prim.Native.Nat.{ℕ}
 use lib.Dec.{eqb}
 use Rattle.search.specs.Search.{Each, chosen, range}
-use Rattle.logic_programs.specs.Literals.{Lits, complement, setOf, OneValue}
+use Rattle.logic_programs.specs.Literals.{Lits, complement, setOf, OneValue, noneOrBoth}
 use Rattle.logic_programs.specs.Rules.{Head, lit, falsum, Rule}
 use Rattle.logic_programs.specs.AnswerSets.{PositiveRule, reduct, Closed, ProperSubset, Consistent, AnswerSet, literalHeaded, IsLeastClosed}
 use Rattle.logic_programs.specs.Words.{words, rulesOf}
@@ -144,4 +144,5 @@ pub record DefinitionsHold : Type 0 where
   pub held : chosen (setOf (0 ∷ 1 ∷ 2 ∷ 3 ∷ [])) (range 0 8) ≡ 2 ∷ 5 ∷ 6 ∷ 7 ∷ []
   pub one-value : Each OneValue (1 ∷ 2 ∷ [])
   pub not-one-value : Each (λ v. OneValue v → ⊥) (0 ∷ 3 ∷ [])
+  pub none-or-both : map noneOrBoth (0 ∷ 1 ∷ 2 ∷ 3 ∷ []) ≡ true ∷ false ∷ false ∷ true ∷ []
   pub complements : map complement (p ∷ ¬p ∷ r ∷ 5 ∷ []) ≡ ¬p ∷ p ∷ 5 ∷ r ∷ []

@@ -33,6 +33,10 @@ setOf vs c = cond (eqb (c % 2) 0) (holdsTrue (getD vs (c / 2) 0)) (holdsFalse (g
 abbrev pub OneValue : ℕ → Type 0
 OneValue v = (v ≡ 1) ⊎ (v ≡ 2)
 
+-- no value, or both
+abbrev pub noneOrBoth : ℕ → Bool
+noneOrBoth v = eqb v 0 || eqb v 3
+
 -- refusal 11: a byte over 3
 abbrev pub badValue : List ℕ → Option ℕ
 badValue vs = first (ltb 3) 0 vs

@@ -11,10 +11,10 @@ use borrow.Author.Tests.{eq-eqb, eqb-true}
 use lib.Dec.{eqb}
 use lib.ListN.{length}
 use Rattle.search.specs.Search.{Each, all, first}
-use Rattle.search.specs.Replies.{Reply, refused, answered, orElse, orRefuse}
+use Rattle.search.specs.Replies.{Reply, refused, answered, orRefuse}
 use Rattle.search.proofs.Tests.{all-each}
 use Rattle.logic_programs.specs.Literals.{setOf, badValue}
-use Rattle.answer_sets.specs.Verdicts.{Verdict, verdict}
+use Rattle.answer_sets.specs.Verdicts.{verdict}
 use Rattle.logic_programs.specs.Words.{rulesOf, badRule}
 use Rattle.answer_sets.specs.Answers.{tooManyValues, answer}
 use Rattle.literal_completion.specs.Findings as findings
@@ -29,8 +29,8 @@ use Rattle.description.proofs.Laws.{accepted-counts, accepted-few, accepted-hor
 use Rattle.translation.specs.Translated.{Written, written, rulesFor, tableFor, tooShort, outcome}
 use Rattle.translation.proofs.Outcomes.{accepted-written}
 use Rattle.translation_bounds.proofs.Bounds.{at-most-30912}
-use Rattle.translation_bounds.proofs.Tables.{engine-judges}
-use Rattle.history.specs.Checks.{Finding, missing, judged, finding, afterTranslation, checked}
+use Rattle.history.specs.Checks.{finding, afterTranslation, checked}
+use Rattle.history.proofs.Judging.{finding-answered}
 use Rattle.causal.specs.Verdicts.{causalVerdict}
 use Rattle.causal.specs.Readings.{notOneValue, reading}
 use Rattle.description_reader.specs.LineSteps.{Draft}
@@ -107,21 +107,17 @@ module _ (text : List ℕ) (d : Draft) (rest : List ℕ) (lines : ℕ) (is : des
   -- the engine's refusals never come
   finding-by : (vs : List ℕ) (room : ℕ) {a r w : ℕ} → outcome D (d .laws) 64 room ≡ answered (written a r w) → length vs ≡ a → badValue vs ≡ none
       → RefusedBy (9 ∷ 10 ∷ 11 ∷ []) (finding vs (tableFor D (d .laws)))
-  finding-by vs room e size small = rw (engine-judges D (d .laws) 64 room e vs size small) (go (first (eqb 0) 0 vs) _)
-    where
-      go : (o : Option ℕ) (v : Verdict) → RefusedBy {A = Finding} (9 ∷ 10 ∷ 11 ∷ []) (orElse o (λ atom. answered (missing atom)) (answered (judged v)))
-      go (some atom) v = tt
-      go none v = tt
+  finding-by vs room e size small = rw (finding-answered D (d .laws) 64 room e vs size small) tt
 
   check-by : (vs : List ℕ) (room : ℕ) → RefusedBy (9 ∷ 10 ∷ 11 ∷ []) (checked D (d .laws) 64 vs room)
   unfolding checked
   check-by vs room = by-outcome (outcome D (d .laws) 64 room) refl (translation-by room)
     where
-      by-outcome : (o : Reply Written) → outcome D (d .laws) 64 room ≡ o → RefusedBy (9 ∷ []) o → RefusedBy (9 ∷ 10 ∷ 11 ∷ []) (afterTranslation o vs (tableFor D (d .laws)))
+      by-outcome : (o : Reply Written) → outcome D (d .laws) 64 room ≡ o → RefusedBy (9 ∷ []) o → RefusedBy (9 ∷ 10 ∷ 11 ∷ []) (afterTranslation o vs (finding vs (tableFor D (d .laws))))
       by-outcome (refused number place) e h = refused-more {A = Written} (9 ∷ []) (9 ∷ 10 ∷ 11 ∷ []) refl (refused number place) h
       by-outcome (answered (written a r w)) e h = by-length (eqb (length vs) a) refl
         where
-          by-length : (b : Bool) → eqb (length vs) a ≡ b → RefusedBy (9 ∷ 10 ∷ 11 ∷ []) (afterTranslation (answered (written a r w)) vs (tableFor D (d .laws)))
+          by-length : (b : Bool) → eqb (length vs) a ≡ b → RefusedBy (9 ∷ 10 ∷ 11 ∷ []) (afterTranslation (answered (written a r w)) vs (finding vs (tableFor D (d .laws))))
           by-length false q = rw q refl
           by-length true q =
               rw q (or-refused (9 ∷ 10 ∷ 11 ∷ []) (badValue vs) 11 (finding vs (tableFor D (d .laws))) refl (λ small. finding-by vs room e (eqb-true (length vs) a q) small))

@@ -2,27 +2,27 @@
 -- Assumes nothing.
 use mathlib.Core.Path.{_≡_, refl, sym, ap, _∙_}
 use mathlib.Core.Logic.{_↔_, _⊎_, inl, inr, ⊎-elim}
-use mathlib.Core.Bool.{true}
+use mathlib.Core.Bool.{Bool, true, false, cond}
 use mathlib.Core.List.{List, [], _∷_}
 use mathlib.Core.Option.{Option, none, some}
-use Prim.Native.Nat.{ℕ, _*_, _+_, _/_, _%_, _≤_, _<_}
+use Prim.Native.Nat.{ℕ, _≤_, _<_}
 use native.Mathlib.Omega.{arith}
 use borrow.Author.Tests.{eq-eqb, eqb-true, le-ltb}
 use lib.Dec.{eqb, ltb}
 use lib.ListN.{length, getD}
-use Rattle.search.specs.Search.{Each, first, range}
+use Rattle.search.specs.Search.{Each, first, Lowest}
 use Rattle.search.specs.Replies.{Reply, refused, answered, orElse}
-use Rattle.search.proofs.Tests.{not-both, or-iff, each-map, first-none, length-range, getD-range}
+use Rattle.search.proofs.Tests.{not-both, or-iff, each-map}
 use Rattle.search.proofs.Lists.{none-iff}
-use Rattle.logic_programs.specs.Literals.{OneValue, holdsTrue, holdsFalse, setOf, badValue}
-use Rattle.answer_sets.specs.Verdicts.{Verdict, clash, broken, unfounded, passes, bothValues, verdict}
+use Rattle.logic_programs.specs.Literals.{OneValue, setOf, noneOrBoth, badValue}
+use Rattle.logic_programs.proofs.Values.{lowest-none-or-both, nowhere-none-or-both}
+use Rattle.answer_sets.specs.Verdicts.{Verdict, clash, broken, unfounded, passes, verdict}
 use Rattle.logic_programs.specs.Words.{rulesOf}
-use Rattle.answer_sets.specs.Answers as engine
 use Rattle.description.specs.declared.Law.{Law}
 use Rattle.description.specs.declared.Description.{Description}
 use Rattle.translation.specs.Translated.{written, rulesFor, tableFor, outcome}
-use Rattle.translation_bounds.proofs.Tables.{engine-judges}
-use Rattle.history.specs.Checks.{Finding, missing, judged, checked}
+use Rattle.history.specs.Checks.{Finding, missing, judged, faultAt, checked}
+use Rattle.history.proofs.Judging.{finding-answered}
 use Rattle.causal.specs.Verdicts.{Causal, path}
 use Rattle.causal.specs.Readings.{reading}
 use Rattle.correctness.specs.Demand3.{Complete, PathOf}
@@ -79,42 +79,17 @@ path-shown (judged (broken r)) reply e = of-shown reply e
 path-shown (judged (unfounded c)) reply e = of-shown reply e
 path-shown (judged passes) reply e = of-shown reply e
 
--- an atom of value 0 is missing, one of value 3 is a clash unless some atom is missing
-both-of-three : (vs : List ℕ) (a : ℕ) → getD vs a 0 ≡ 3 → bothValues (setOf vs) a ≡ true
-unfolding setOf holdsTrue holdsFalse
-both-of-three vs a e =
-    let even : (2 * a) % 2 ≡ 0 = omega arith in
-    let odd : (2 * a + 1) % 2 ≡ 1 = omega arith in
-    let low : (2 * a) / 2 ≡ a = omega arith in
-    let high : (2 * a + 1) / 2 ≡ a = omega arith in
-    rw (even, odd, low, high, e) refl
-
-verdict-clashes : (n : ℕ) (vs : List ℕ) (a : ℕ) → a < n → getD vs a 0 ≡ 3 → (o : Option ℕ) → first (bothValues (setOf vs)) 0 (range 0 n) ≡ o
-    → (next : Verdict) → missingOrClash (judged (orElse o clash next)) ≡ true
-verdict-clashes n vs a below e (some k) q next = refl
-verdict-clashes n vs a below e none q next =
-    let at = first-none (bothValues (setOf vs)) 0 0 (range 0 n) q a (omega (arith, length-range 0 n)) in
-    let same : getD (range 0 n) a 0 ≡ a = getD-range 0 n a 0 below ∙ omega arith in
-    absurd (not-both (both-of-three vs a e) (rw same at at))
+-- an atom that has no value or both is missing or a clash
+fault-said : (vs : List ℕ) (a : ℕ) → missingOrClash (faultAt vs a) ≡ true
+fault-said vs a = go (eqb (getD vs a 0) 0)
+  where
+    go : (b : Bool) → missingOrClash (cond b (missing a) (judged (clash a))) ≡ true
+    go true = refl
+    go false = refl
 
 -- what is found where the engine judges
 abbrev foundOf : List ℕ → Verdict → Finding
-foundOf vs v = orElse (first (eqb 0) 0 vs) missing (judged v)
-
-module _ (vs : List ℕ) (v : Verdict) (a : ℕ) (below : a < length vs) where
-  missing-found : getD vs a 0 ≡ 0 → missingOrClash (foundOf vs v) ≡ true
-  missing-found e = go (first (eqb 0) 0 vs) refl
-    where
-      go : (o : Option ℕ) → first (eqb 0) 0 vs ≡ o → missingOrClash (orElse o missing (judged v)) ≡ true
-      go (some k) q = refl
-      go none q = absurd (not-both (rw e refl) (first-none (eqb 0) 0 0 vs q a below))
-
-  found-clash : missingOrClash (judged v) ≡ true → missingOrClash (foundOf vs v) ≡ true
-  found-clash h = go (first (eqb 0) 0 vs)
-    where
-      go : (o : Option ℕ) → missingOrClash (orElse o missing (judged v)) ≡ true
-      go (some k) = refl
-      go none = h
+foundOf vs v = orElse (first noneOrBoth 0 vs) (faultAt vs) (judged v)
 
 -- an input that the readers take
 module _ (input : List ℕ) (d : Draft) (rest : List ℕ) (lines : ℕ) (vs : List ℕ) (is : described 64 input ≡ answered (read d rest lines)) (e : recordedIn input ≡ answered vs) where
@@ -141,11 +116,7 @@ module _ (input : List ℕ) (d : Draft) (rest : List ℕ) (lines : ℕ) (vs : Li
 
   is-checked : checked D ls 64 vs room ≡ answered found
   unfolding checked
-  is-checked = rw (out-written, eq-eqb (length vs) (atoms d) size, bytes, engine-judges D ls 64 room out-written vs size bytes) (go (first (eqb 0) 0 vs))
-    where
-      go : (o : Option ℕ) → orElse o (λ atom. answered (missing atom)) (answered (judged said)) ≡ answered (orElse o missing (judged said))
-      go (some k) = refl
-      go none = refl
+  is-checked = rw (out-written, eq-eqb (length vs) (atoms d) size, bytes) (finding-answered D ls 64 room out-written vs size bytes)
 
   abbrev reply : Reply Causal
   reply = reading D ls 64 vs
@@ -171,10 +142,15 @@ module _ (input : List ℕ) (d : Draft) (rest : List ℕ) (lines : ℕ) (vs : Li
       )
 
   lacking : (a : ℕ) → a < length vs → (getD vs a 0 ≡ 0) ⊎ (getD vs a 0 ≡ 3) → missingOrClash found ≡ true
-  unfolding verdict
-  lacking a below h =
-      ⊎-elim (λ (z : getD vs a 0 ≡ 0). missing-found vs said a below z)
-      (λ (b : getD vs a 0 ≡ 3). found-clash vs said a below (verdict-clashes (length vs) vs a below b (first (bothValues (setOf vs)) 0 (range 0 (length vs))) refl _)) h
+  lacking a below h = go (first noneOrBoth 0 vs) refl
+    where
+      go : (o : Option ℕ) → first noneOrBoth 0 vs ≡ o → missingOrClash (orElse o (faultAt vs) (judged said)) ≡ true
+      go (some k) q = fault-said vs k
+      go none q = absurd (nowhere-none-or-both vs .0 q a below h)
+
+  decides : (a : ℕ) → Lowest (λ i. (getD vs i 0 ≡ 0) ⊎ (getD vs i 0 ≡ 3)) (length vs) a
+      → (getD vs a 0 ≡ 0 → found ≡ missing a) × (getD vs a 0 ≡ 3 → found ≡ judged (clash a))
+  decides a low = (λ zero. rw (lowest-none-or-both vs a .1 low, zero) refl, λ both. rw (lowest-none-or-both vs a .1 low, both) refl)
 
   is-printed : output input ≡ afterOutcome input D ls vs (outcome D ls 64 room)
   unfolding output
@@ -194,6 +170,7 @@ module _ (input : List ℕ) (d : Draft) (rest : List ℕ) (lines : ℕ) (vs : Li
     found = found;
     causal = shownAfter found reply;
     printed = is-printed ∙ rw (out-written, is-checked, after-shown input found reply) refl;
+    lowest-decides = decides;
     incomplete = λ a below h. let f = lacking a below h in (f, none-shown found reply f);
     passes-exactly = passing;
     path-exactly = causal-path;

@@ -8,7 +8,7 @@ use mathlib.Core.Option.{Option, none, some}
 use Prim.Native.Nat.{ℕ, _-_, _≤_, _<_}
 use lib.ListN.{length, getD}
 use Rattle.logic_programs.specs.Literals.{OneValue}
-use Rattle.search.specs.Search.{Each}
+use Rattle.search.specs.Search.{Each, Lowest}
 use Rattle.search.specs.Replies.{answered}
 use Rattle.answer_sets.specs.Verdicts.{clash, broken, unfounded, passes}
 use Rattle.translation.specs.Translated.{rulesFor, tableFor}
@@ -66,7 +66,9 @@ pub record Judged (input out : List ℕ) : Type 0 where
   pub found : Finding
   pub causal : Option Causal
   pub printed : out ≡ nineLines input draft found causal
-  -- where an atom has no value or both
+  -- where an atom has no value or both: the lowest such atom decides
+  pub lowest-decides : (a : ℕ) → Lowest (λ i. (getD values i 0 ≡ 0) ⊎ (getD values i 0 ≡ 3)) (length values) a
+      → (getD values a 0 ≡ 0 → found ≡ missing a) × (getD values a 0 ≡ 3 → found ≡ judged (clash a))
   pub incomplete : (a : ℕ) → a < length values → (getD values a 0 ≡ 0) ⊎ (getD values a 0 ≡ 3) → (missingOrClash found ≡ true) × (causal ≡ none)
   -- where every atom has one value
   pub passes-exactly : Each OneValue values → found ≡ judged passes ↔ PathOf (descriptionOf draft) (draft .laws) values

@@ -1,10 +1,9 @@
 // Value bytes, one an atom: 0 none, 1 true, 2 false, 3 both.
 use search::Found;
 ghost use mathlib.Core.Path.{_≡_};
-ghost use lib.Dec.{eqb};
 ghost use Rattle.search.specs.Search.{first, placeOf};
 ghost use Rattle.search.specs.Replies.{refusalOf, refusal};
-ghost use Rattle.logic_programs.specs.Literals.{setOf, holdsTrue, holdsFalse, badValue};
+ghost use Rattle.logic_programs.specs.Literals.{setOf, holdsTrue, holdsFalse, noneOrBoth, badValue};
 
 // Refusal 11: the lowest index of a byte over 3.
 pub fn bad_value(values: &[u8]) -> Found
@@ -20,14 +19,20 @@ pub fn bad_value(values: &[u8]) -> Found
     Found::Nothing
 }
 
-// The lowest atom with a value.
-pub fn first_with(values: &[u8], value: u8) -> Found
-    ensures { λ r. ⌜ placeOf r ≡ first (eqb value) 0 (now (values .entry)) ⌝ }
+// Whether a value is none or both.
+fn is_none_or_both(value: u8) -> bool
+    ensures { λ r. ⌜ r ≡ noneOrBoth value ⌝ }
+{
+    value == 0 || value == 3
+}
+
+// The lowest atom that has no value or both.
+pub fn first_none_or_both(values: &[u8]) -> Found
+    ensures { λ r. ⌜ placeOf r ≡ first noneOrBoth 0 (now (values .entry)) ⌝ }
 {
     let mut i = 0;
     while i < values.len() {
-        let found = values[i];
-        if found == value {
+        if is_none_or_both(values[i]) {
             return Found::At(i);
         }
         i += 1;

@@ -14,6 +14,7 @@ use Rattle.logic_programs.specs.Literals.{setOf, badValue}
 use Rattle.answer_sets.specs.Verdicts.{verdict}
 use Rattle.logic_programs.specs.Words.{rulesOf, badRule}
 use Rattle.answer_sets.specs.Answers as engine
+use Rattle.answer_sets.specs.Demand2 as engine-meaning
 use Rattle.answer_sets.proofs.Decoding.{words-accepted}
 use Rattle.answer_sets.proofs.Theorems.{accepted-judged}
 use Rattle.description.specs.declared.Law.{Law}
@@ -44,7 +45,13 @@ module _ (d : Description) (ls : List Law) (lent room : ℕ) {a r w : ℕ} (e : 
       (codes-below (d .fluents) (d .actions) (d .horizon) (lawsOf d ls) fit)
       (at-most-4096 (d .fluents) (d .actions) (d .horizon) (lawsOf d ls) (l .0) (l .1) (l .3) (accepted-few d ls lent (accepted .taken))))
 
+  pub engine-accepts : (vs : List ℕ) → length vs ≡ a → badValue vs ≡ none → engine-meaning.Accepted vs (tableFor d ls)
+  engine-accepts vs size small = (
+    ap (λ (b : Bool). cond b (some (length vs)) none) (le-ltb 1024 (length vs) (omega (arith, few-atoms))),
+    small,
+    rw size table-accepted,
+  )
+
   pub engine-judges : (vs : List ℕ) → length vs ≡ a → badValue vs ≡ none
       → engine.answer vs (tableFor d ls) ≡ answered (verdict (length vs) (rulesOf (tableFor d ls)) (setOf vs))
-  engine-judges vs size small =
-      accepted-judged vs (tableFor d ls) (ap (λ (b : Bool). cond b (some (length vs)) none) (le-ltb 1024 (length vs) (omega (arith, few-atoms))), small, rw size table-accepted)
+  engine-judges vs size small = accepted-judged vs (tableFor d ls) (engine-accepts vs size small)

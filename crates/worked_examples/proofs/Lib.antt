@@ -13,4 +13,5 @@ pub mod WorkedFormat
 pub mod WorkedLong
 pub mod WorkedOutputs
 pub mod WorkedFormulas
+pub mod WorkedFaults
 pub mod Worked

@@ -17,6 +17,7 @@ use Rattle.translation.specs.Translated as translated
 use Rattle.translation.specs.Translated.{Written}
 use Rattle.history.specs.Checks as history
 use Rattle.history.specs.Checks.{Finding}
+use Rattle.former_answers.specs.Former.{formerChecked, formerAnswer, formerAnswerByLevels}
 use Rattle.causal.specs.Verdicts.{Causal, contradicted, uncaused, path, causalVerdict}
 use Rattle.causal.specs.Readings as causal
 use Rattle.description_reader.specs.Descriptions.{Taken, described}
@@ -61,6 +62,9 @@ pub data Example : Type 0 where
   -- values and a table by the completion formulas, without levels and with them
   formulasSay : List ℕ → List ℕ → Reply formulas.Finding → Example
   levelsSay : List ℕ → List ℕ → List ℕ → Reply formulas.Finding → Example
+  -- what they said before 02, §5
+  formulasSaid : List ℕ → List ℕ → Reply formulas.Finding → Example
+  levelsSaid : List ℕ → List ℕ → List ℕ → Reply formulas.Finding → Example
   -- of all sets with one value for each of so many atoms, those that satisfy the completion formulas of a table
   holdingAre : ℕ → List ℕ → List (List ℕ) → Example
   -- a description, its laws, and the room in the table
@@ -71,6 +75,8 @@ pub data Example : Type 0 where
   tableLeft : Description → List Law → List ℕ → List ℕ → Example
   -- the same for the history check and a set's values
   historySays : Description → List Law → List ℕ → Reply Finding → Example
+  -- what it said before 02, §5
+  historySaid : Description → List Law → List ℕ → Reply Finding → Example
   historyLeaves : Description → List Law → List ℕ → List ℕ → List ℕ → Example
   causalSays : Description → List Law → List ℕ → Reply Causal → Example
   -- of some lists of values, those that are paths
@@ -102,11 +108,14 @@ Holds (engineSays vs ws reply) = engine.answer vs ws ≡ reply
 Holds (passingAre atoms ws vss) = passing ws (allValues atoms) ≡ vss
 Holds (formulasSay vs ws reply) = completion.answer vs ws ≡ reply
 Holds (levelsSay vs ws levels reply) = completion.answerByLevels vs ws levels ≡ reply
+Holds (formulasSaid vs ws reply) = formerAnswer vs ws ≡ reply
+Holds (levelsSaid vs ws levels reply) = formerAnswerByLevels vs ws levels ≡ reply
 Holds (holdingAre atoms ws vss) = holding atoms ws ≡ vss
 Holds (translates d ls words reply) = translated.outcome d ls (length ls) words ≡ reply
 Holds (tableIs d ls ws) = translated.tableFor d ls ≡ ws
 Holds (tableLeft d ls before after) = translated.tableAfter d ls (length ls) before ≡ after
 Holds (historySays d ls vs reply) = history.checked d ls (length ls) vs room ≡ reply
+Holds (historySaid d ls vs reply) = formerChecked d ls (length ls) vs room ≡ reply
 Holds (historyLeaves d ls vs before after) = history.tableAfter d ls (length ls) vs before ≡ after
 Holds (causalSays d ls vs reply) = causal.reading d ls (length ls) vs ≡ reply
 Holds (pathsAre n m T ls vss expected) = paths n m T ls vss ≡ expected

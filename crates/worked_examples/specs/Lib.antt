@@ -11,4 +11,5 @@ pub mod Log
 pub mod Capitals
 pub mod Transitions
 pub mod Formulas
+pub mod Faults
 pub mod Worked

@@ -1,6 +1,7 @@
 -- Worked examples of all layers, gathered as one list: the full recipe and M1 to M10 with all that 01 prints of them, the
 -- horizons and tables at the limits, the transitions of 000's two examples, and the rules of the text format, of the short
--- laws, of the command log and of letter case one by one; and the same recipes and programs by the completion formulas.
+-- laws, of the command log and of letter case one by one; the same recipes and programs by the completion formulas; and
+-- histories with atoms of both faults.
 -- Assumes nothing.
 use mathlib.Core.List.{List, [], _∷_, _++_, map}
 use Prim.Native.Nat.{ℕ}
@@ -33,6 +34,7 @@ use Rattle.worked_examples.specs.Log.{logExamples, callerExamples, logOu
 use Rattle.worked_examples.specs.Capitals.{styleExamples, styleOutputs, capitalExamples}
 use Rattle.worked_examples.specs.Transitions.{doorTransitions, waterTransitions}
 use Rattle.worked_examples.specs.Formulas.{crateFormulas, crateLevels, formulaExamples}
+use Rattle.worked_examples.specs.Faults.{faultExamples, faultOutputs}
 use Rattle.worked_examples.specs.Format.{readerExamples, lineExamples, historyExamples, longExamples}
 
 -- an engine example of the crate below
@@ -197,4 +199,6 @@ worked =
     ∷ crateFormulas
     ∷ crateLevels
     ∷ formulaExamples
+    ∷ faultExamples
+    ∷ faultOutputs
     ∷ [])

@@ -1,0 +1,3 @@
+-- The two orders compared on values alone, then of each check.
+pub mod Orders
+pub mod Theorems

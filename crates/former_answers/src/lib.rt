@@ -1,0 +1,1 @@
+// Which answers changed when the lowest atom without one value came to decide; no code.
