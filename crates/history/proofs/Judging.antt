@@ -1,6 +1,6 @@
 -- The history check's answer, and what it leaves in the table, from what the translation and the engine said.
 -- Assumes nothing.
-use mathlib.Core.Path.{_≡_, refl, sym}
+use mathlib.Core.Path.{_≡_, refl, sym, ap}
 use mathlib.Core.List.{List}
 use mathlib.Core.Option.{Option, none, some}
 use Prim.Native.Nat.{ℕ}
@@ -25,14 +25,20 @@ words-front ws table w e = take-at ws (drop (length ws) table) w (sym e)
 
 -- missing or clash, or what the engine says
 module _ (vs ws : List ℕ) where
+  abbrev said : Option ℕ → Reply Finding
+  said o = orElse o (λ atom. answered (faultAt vs atom)) (ofEngine (engine.answer vs ws))
+
+  by-search : {o : Option ℕ} → first noneOrBoth 0 vs ≡ o → said o ≡ finding vs ws
+  by-search e = ap said (sym e)
+
   pub says-missing : {a : ℕ} → first noneOrBoth 0 vs ≡ some a → getD vs a 0 ≡ 0 → answered (missing a) ≡ finding vs ws
-  says-missing e zero = rw (e, zero)
+  says-missing e zero = rw zero at (by-search e)
 
   pub says-clash : {a : ℕ} → first noneOrBoth 0 vs ≡ some a → (getD vs a 0 ≡ 0 → ⊥) → answered (judged (clash a)) ≡ finding vs ws
-  says-clash {a} e other = rw (e, ne-eqb (getD vs a 0) 0 other)
+  says-clash {a} e other = rw (ne-eqb (getD vs a 0) 0 other) at (by-search e)
 
   pub says-engine : first noneOrBoth 0 vs ≡ none → ofEngine (engine.answer vs ws) ≡ finding vs ws
-  says-engine e = rw e
+  says-engine e = by-search e
 
 -- of values that are not refused an answer is found: the engine refuses no translated table
 pub finding-answered : (d : Description) (ls : List Law) (lent room : ℕ) {a r w : ℕ} → translated.outcome d ls lent room ≡ answered (translated.written a r w)
