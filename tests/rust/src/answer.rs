@@ -3,6 +3,7 @@
 use crate::reading::causal::Causal;
 use crate::reading::completion::Completion;
 use crate::reading::engine::Verdict;
+use crate::reading::faults::Fault;
 use crate::reading::Refusal;
 
 /// Codes up to this one are refusals by that number; every other answer has a code above it.
@@ -75,6 +76,13 @@ impl From<Verdict> for Answer {
             Verdict::Unfounded(code) => Answer::new(UNFOUNDED, code),
             Verdict::Missing(atom) => Answer::new(MISSING, atom),
         }
+    }
+}
+
+/// A bad atom has one code, whether the history check says it or the completion formulas do.
+impl From<Fault> for Answer {
+    fn from(fault: Fault) -> Self {
+        Answer::from(Verdict::from(fault))
     }
 }
 

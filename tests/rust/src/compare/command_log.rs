@@ -265,13 +265,13 @@ fn count(text: &[u8], seen: &mut [usize; LOGS.len()]) {
 fn texts_of_each_kind_list_none_some_and_all() {
     let mut random = Random::new(12);
     let mut seen = [[0; LOGS.len()]; KINDS.len()];
-    for _ in 0..3_000 {
+    for _ in 0..8_000 {
         let (kind, text) = text(&mut random);
         count(&text, &mut seen[kind]);
     }
     for ((kind, name, _), mut seen) in KINDS.into_iter().zip(seen) {
         match kind {
-            Kind::Long => (0..500).for_each(|_| count(&long_text(&mut random), &mut seen)),
+            Kind::Long => (0..3_000).for_each(|_| count(&long_text(&mut random), &mut seen)),
             Kind::Largest => (0..60).for_each(|_| count(&largest_text(&mut random), &mut seen)),
             _ => (),
         }

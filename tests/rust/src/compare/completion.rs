@@ -3,10 +3,12 @@
 
 use super::brute::{is_answer_set, MOST_ATOMS};
 use super::formulas::{agreement, example, levels_example, Contradiction};
+use super::orders::{call_example, changed};
 use super::tally::{Call, Tally};
 use super::Difference;
-use crate::answer::{Answer, FAILS, HOLDS};
+use crate::answer::{Answer, FAILS, HOLDS, LAST_REFUSAL};
 use crate::calls::{Calls, Reading};
+use crate::generate::faults::put_faults;
 use crate::generate::levels::{case, complete, lent_levels};
 use crate::generate::tables;
 use crate::random::Random;
@@ -36,7 +38,8 @@ pub fn compare(library: &impl Calls, random: &mut Random, tally: &mut Tally) -> 
     compare_lent(library, &lent, tally)
 }
 
-/// Compares a table made for the engine, more often than not with one value for each atom.
+/// Compares a table made for the engine, more often than not with one value for each atom; in some cases a few atoms are
+/// then made bad again.
 pub fn compare_table(
     library: &impl Calls,
     made: &tables::Case,
@@ -46,6 +49,9 @@ pub fn compare_table(
     let mut values = made.values.clone();
     if random.chance(2, 3) {
         complete(random, &mut values);
+        if !values.is_empty() && random.chance(1, 6) {
+            put_faults(random, &mut values, |_| true);
+        }
     }
     let levels = lent_levels(random, values.len(), &made.table);
     let lent = Lent {
@@ -65,7 +71,7 @@ fn compare_lent(library: &impl Calls, lent: &Lent, tally: &mut Tally) -> Result<
     Ok(())
 }
 
-/// The library's answers, which must be those of the reading.
+/// The library's answers, which must be those of the reading, and differ from the former order's as change request 5 says.
 pub fn compare_calls(library: &impl Calls, lent: &Lent, tally: &mut Tally) -> Result<Answers, Difference> {
     let Lent { values, table, levels } = *lent;
     let completion = Reading.check_completion(values, table);
@@ -85,7 +91,19 @@ pub fn compare_calls(library: &impl Calls, lent: &Lent, tally: &mut Tally) -> Re
     if given != by_levels {
         return Err(difference("check_by_levels", lent, &[by_levels, given]));
     }
+    count_order(Call::CheckCompletion, lent, completion, tally)?;
+    count_order(Call::CheckByLevels, lent, by_levels, tally)?;
     Ok(Answers { completion, by_levels })
+}
+
+/// Holds a verdict against the former order of missing and clash.
+fn count_order(call: Call, lent: &Lent, answer: Answer, tally: &mut Tally) -> Result<(), Difference> {
+    if answer.code > LAST_REFUSAL {
+        let is_changed = changed(lent.values, answer).map_err(|found| difference(&found, lent, &[answer]))?;
+        let seen = call_example(call, lent.values, is_changed);
+        seen.into_iter().for_each(|order| tally.order(order));
+    }
+    Ok(())
 }
 
 /// Where levels are taken, the formulas hold of just what the library's engine passes; without them, of that at least.

@@ -5,6 +5,7 @@ pub mod completion;
 pub mod formulas;
 pub mod letters;
 pub mod logs;
+pub mod orders;
 pub mod tables;
 pub mod tally;
 pub mod texts;

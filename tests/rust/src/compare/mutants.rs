@@ -31,13 +31,14 @@ enum Slip {
     TableShort,
     /// A value is written before a refusal.
     ValuesRefused,
-    /// Missing is told after clash.
+    /// Missing is told before clash, whatever atom is lower, as it was before change request 5; or after it.
+    MissingFirst,
     MissingLate,
     /// The time of an uncaused fluent is one too low.
     CausalTime,
 }
 
-const SLIPS: [Slip; 11] = [
+const SLIPS: [Slip; 12] = [
     Slip::ReportShort,
     Slip::ReportLong,
     Slip::NoDerivation,
@@ -47,6 +48,7 @@ const SLIPS: [Slip; 11] = [
     Slip::TableRefused,
     Slip::TableShort,
     Slip::ValuesRefused,
+    Slip::MissingFirst,
     Slip::MissingLate,
     Slip::CausalTime,
 ];
@@ -99,8 +101,13 @@ impl Calls for Mutant {
 
     fn check_history(&self, text: &[u8], values: &[u8], table: &mut [u16]) -> Answer {
         let answer = Reading.check_history(text, values, table);
-        match values.iter().position(|value| *value == 3) {
-            Some(atom) if self.0 == Slip::MissingLate && answer.code == MISSING => Answer::new(CLASH, atom),
+        let told = |code: u8, wanted: u8| {
+            let lowest = values.iter().position(|value| *value == wanted);
+            lowest.map_or(answer, |atom| Answer::new(code, atom))
+        };
+        match (self.0, answer.code) {
+            (Slip::MissingFirst, CLASH) => told(MISSING, 0),
+            (Slip::MissingLate, MISSING) => told(CLASH, 3),
             _ => answer,
         }
     }

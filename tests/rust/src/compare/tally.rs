@@ -3,6 +3,7 @@
 use super::formulas::{Formula, FORMULAS};
 use super::letters::{Capital, CAPITALS};
 use super::logs::{Log, LOGS};
+use super::orders::{Order, ORDERS};
 use crate::answer::{
     meaning, BROKEN, CLASH, CONTRADICTED, FAILS, HOLDS, MISSING, PASSES, PATH, READ, UNCAUSED, UNFOUNDED, WRITTEN,
 };
@@ -89,6 +90,8 @@ pub struct Tally {
     capitals: [u64; CAPITALS.len()],
     /// Answers by the completion formulas.
     formulas: [u64; FORMULAS.len()],
+    /// Sets with atoms of no value and atoms of both.
+    orders: [u64; ORDERS.len()],
 }
 
 impl Default for Tally {
@@ -111,6 +114,7 @@ impl Tally {
             logs: [0; LOGS.len()],
             capitals: [0; CAPITALS.len()],
             formulas: [0; FORMULAS.len()],
+            orders: [0; ORDERS.len()],
         }
     }
 
@@ -128,6 +132,10 @@ impl Tally {
 
     pub fn formula(&mut self, formula: Formula) {
         self.formulas[formula as usize] += 1;
+    }
+
+    pub fn order(&mut self, order: Order) {
+        self.orders[order as usize] += 1;
     }
 
     pub fn call(&mut self, call: Call) {
@@ -191,6 +199,9 @@ impl Tally {
         for ((_, name), count) in FORMULAS.iter().zip(self.formulas) {
             writeln!(out, "formulas, {name}: {count}")?;
         }
+        for ((_, name), count) in ORDERS.iter().zip(self.orders) {
+            writeln!(out, "missing and clash, {name}: {count}")?;
+        }
         let [no, yes] = self.defined;
         writeln!(
             out,
@@ -227,12 +238,18 @@ impl Tally {
         rare("formulas", &FORMULAS, &self.formulas, least)
     }
 
-    /// The codes of each call, the forms of laws, the kinds of command logs, of capitals and of answers by the
-    /// completion formulas that were seen fewer times than asked for.
+    /// The kinds of sets with both faults that were seen fewer times than asked for.
+    pub fn rare_orders(&self, least: u64) -> Vec<String> {
+        rare("missing and clash", &ORDERS, &self.orders, least)
+    }
+
+    /// The codes of each call, the forms of laws, the kinds of command logs, of capitals, of answers by the completion
+    /// formulas and of sets with both faults that were seen fewer times than asked for.
     pub fn too_rare(&self, least: u64) -> Vec<String> {
         let mut rare = self.rare_logs(least);
         rare.extend(self.rare_capitals(least));
         rare.extend(self.rare_formulas(least));
+        rare.extend(self.rare_orders(least));
         for ((_, name), count) in LAWS.iter().zip(self.laws) {
             if count < least {
                 rare.push(format!("laws by {name}: {count}, wanted {least}"));

@@ -4,16 +4,20 @@ use super::completion;
 use super::formulas::Formula;
 use super::letters;
 use super::logs::{examples, Log};
+use super::orders;
 use super::tally::{Call, Tally};
 use super::Difference;
 use crate::answer::{
-    Answer, BROKEN, CLASH, CONTRADICTED, FAILS, HOLDS, MISSING, PASSES, PATH, UNCAUSED, UNFOUNDED, WRITTEN,
+    Answer, BROKEN, CLASH, CONTRADICTED, FAILS, HOLDS, LAST_REFUSAL, MISSING, PASSES, PATH, UNCAUSED, UNFOUNDED,
+    WRITTEN,
 };
 use crate::calls::{Calls, Reading};
+use crate::generate::faults::put_faults;
 use crate::generate::letters::with_capitals;
 use crate::generate::texts::text;
 use crate::random::Random;
 use crate::reading::description::read_description;
+use crate::reading::faults::first_fault;
 use crate::reading::history::{filled, listed_values};
 use crate::reading::lines::first_lines;
 use crate::reading::model::Description;
@@ -89,6 +93,7 @@ pub fn compare(
     case.check_history()?;
     case.causal_reading()?;
     case.completion()?;
+    case.bad_atoms()?;
     case.spelled_anew(letters)
 }
 
@@ -134,7 +139,12 @@ impl<'a, C: Calls> Case<'a, C> {
                 return Err(self.difference("report", &wanted, &given, &lent));
             }
         }
-        Ok(())
+        let history = self.known.as_ref().and_then(|known| known.history.as_ref());
+        let values = history.map(|history| history.values.clone());
+        match (values, orders::printed_verdict(&printed)) {
+            (Some(values), Some(verdict)) => self.count_order(Call::Report, &values, verdict),
+            _ => Ok(()),
+        }
     }
 
     fn translate(&mut self) -> Result<(), Difference> {
@@ -191,7 +201,10 @@ impl<'a, C: Calls> Case<'a, C> {
             let lent = format!("first {} bytes, values {values:?}, room {room}, {change}", text.len());
             return Err(self.difference("check_history", &wanted, &given, &lent));
         }
-        Ok(())
+        match given.code > LAST_REFUSAL {
+            true => self.count_order(Call::CheckHistory, &values, given),
+            false => Ok(()),
+        }
     }
 
     fn causal_reading(&mut self) -> Result<(), Difference> {
@@ -240,6 +253,37 @@ impl<'a, C: Calls> Case<'a, C> {
         Ok(())
     }
 
+    /// Values with bad atoms of any sort: on the words that the library's history check leaves behind, both calls that
+    /// judge by the completion formulas say what the history check says, and so does the lowest bad atom. One text in six
+    /// will do.
+    fn bad_atoms(&mut self) -> Result<(), Difference> {
+        let Some(known) = self.known.as_ref().filter(|_| self.random.chance(1, 6)) else {
+            return Ok(());
+        };
+        let mut values = match &known.history {
+            Some(history) => history.values.clone(),
+            None => vec![1; known.description.atoms()],
+        };
+        put_faults(self.random, &mut values, |_| true);
+        let mut table = vec![0; known.need];
+        let text = &self.text[..known.description.length];
+        let checked = self.library.check_history(text, &values, &mut table);
+        let levels = known.times();
+        let lent = completion::Lent {
+            values: &values,
+            table: &table,
+            levels: &levels,
+        };
+        let answers = completion::compare_calls(self.library, &lent, self.tally)?;
+        let wanted = first_fault(&values).map(Answer::from);
+        let all = [checked, answers.completion, answers.by_levels];
+        if !all.iter().all(|answer| Some(*answer) == wanted) {
+            let found = completion::difference("bad atoms by three calls", &lent, &all);
+            return Err(self.difference(&found.0, &wanted, &all, "as above"));
+        }
+        self.count_order(Call::CheckHistory, &values, checked)
+    }
+
     /// The text with other spellings of its names, in every second case, by the library alone.
     fn spelled_anew(&mut self, random: &mut Random) -> Result<(), Difference> {
         if random.chance(1, 2) {
@@ -253,6 +297,20 @@ impl<'a, C: Calls> Case<'a, C> {
     fn count(&mut self, call: Call, answer: Answer) {
         self.tally.call(call);
         self.tally.code(call, answer.code);
+    }
+
+    /// Holds a verdict on a history's values against the former order of missing and clash, and counts what the values
+    /// are an example of.
+    fn count_order(&mut self, call: Call, values: &[u8], verdict: Answer) -> Result<(), Difference> {
+        let is_changed = orders::changed(values, verdict)
+            .map_err(|found| self.difference(&found, &"the former order", &verdict, &format!("values {values:?}")))?;
+        let seen = orders::call_example(call, values, is_changed);
+        seen.into_iter().for_each(|order| self.tally.order(order));
+        if let Some(known) = &self.known {
+            let seen = orders::examples(&known.description, values);
+            seen.into_iter().for_each(|order| self.tally.order(order));
+        }
+        Ok(())
     }
 
     /// Counts the answers that a printed output holds.
@@ -328,7 +386,8 @@ impl<'a, C: Calls> Case<'a, C> {
         }
     }
 
-    /// Values for the history check: the history's own, only what it lists, or some, and often spoilt in one place.
+    /// Values for the history check: the history's own, only what it lists, or some, and often spoilt in one place or by
+    /// several bad atoms.
     fn values(&mut self) -> Vec<u8> {
         let length = self.values_length();
         let mut values = match &self.known {
@@ -345,12 +404,13 @@ impl<'a, C: Calls> Case<'a, C> {
             return values;
         }
         let index = self.random.below(length);
-        match self.random.below(10) {
+        match self.random.below(12) {
             0 => values[index] = 0,
             1 => values[index] = 3,
             2 => values[index] = 4,
             3 => values[index] = self.random.byte(),
             4 => values[index] = 3 - values[index].min(3),
+            5 | 6 => put_faults(self.random, &mut values, |_| true),
             _ => (),
         }
         values

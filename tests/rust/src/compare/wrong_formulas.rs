@@ -58,12 +58,17 @@ enum Slip {
     /// The highest literal that fails is told, or the lowest one's atom.
     Highest,
     AtomTold,
-    /// Clash comes before missing; the lowest atom with either fault decides; missing is false; the highest atom is
-    /// told.
+    /// Of bad atoms the order before change request 5 is told, missing first; or clash always comes first; or the highest
+    /// one decides; or the words are exchanged. Missing is false, or clash is true. The first or the last atom is not
+    /// seen.
+    FormerOrder,
     ClashFirst,
-    EitherFault,
-    MissingFalse,
     HighestAtom,
+    FaultTurned,
+    MissingFalse,
+    ClashTrue,
+    FirstAtomUnseen,
+    LastAtomUnseen,
     /// Values 0 and 3 come before 12, or before 13.
     FaultBefore12,
     FaultBefore13,
@@ -112,7 +117,7 @@ enum Slip {
     HighestRule,
 }
 
-const SLIPS: [Slip; 63] = [
+const SLIPS: [Slip; 67] = [
     Slip::NegatedPlain,
     Slip::NegatedNotComplement,
     Slip::NegatedIgnored,
@@ -140,10 +145,14 @@ const SLIPS: [Slip; 63] = [
     Slip::FalseTurned,
     Slip::Highest,
     Slip::AtomTold,
+    Slip::FormerOrder,
     Slip::ClashFirst,
-    Slip::EitherFault,
-    Slip::MissingFalse,
     Slip::HighestAtom,
+    Slip::FaultTurned,
+    Slip::MissingFalse,
+    Slip::ClashTrue,
+    Slip::FirstAtomUnseen,
+    Slip::LastAtomUnseen,
     Slip::FaultBefore12,
     Slip::FaultBefore13,
     Slip::Engine,
@@ -183,10 +192,11 @@ fn refused_13(place: usize) -> Refusal {
     Refusal::new(13, place)
 }
 
-/// Is the literal in the set? No value is taken for false, for one of the slips.
+/// Is the literal in the set? No value is taken for false and both for true, for some of the slips.
 fn is_in(values: &[u8], code: u16) -> bool {
     match values[usize::from(code / 2)] {
         0 => code % 2 == 1,
+        3 => code.is_multiple_of(2),
         value => value == 1 + (code % 2) as u8,
     }
 }
@@ -226,21 +236,27 @@ impl Slip {
         accepted
     }
 
-    /// Values 0 and 3.
+    /// Values 0 and 3: each bad atom has a place in a line, and the first in it decides.
     fn fault(self, values: &[u8]) -> Option<Completion> {
-        let find = |wanted: u8| match self {
-            Slip::HighestAtom => values.iter().rposition(|value| *value == wanted),
-            _ => values.iter().position(|value| *value == wanted),
+        let is_bad = |(atom, value): &(usize, u8)| match self {
+            Slip::MissingFalse => *value == 3,
+            Slip::ClashTrue => *value == 0,
+            Slip::FirstAtomUnseen => matches!(value, 0 | 3) && *atom > 0,
+            Slip::LastAtomUnseen => matches!(value, 0 | 3) && atom + 1 < values.len(),
+            _ => matches!(value, 0 | 3),
         };
-        let (missing, clash) = (find(0), find(3));
-        let clash_told = || clash.map(Completion::Clash);
-        let missing_told = || missing.map(Completion::Missing);
-        match self {
-            Slip::ClashFirst => clash_told().or_else(missing_told),
-            Slip::EitherFault if clash.is_some() && clash < missing => clash_told(),
-            Slip::MissingFalse => clash_told(),
-            _ => missing_told().or_else(clash_told),
-        }
+        let place = |(atom, value): &(usize, u8)| match self {
+            Slip::FormerOrder => (usize::from(*value != 0), *atom),
+            Slip::ClashFirst => (usize::from(*value == 0), *atom),
+            Slip::HighestAtom => (values.len() - atom, *atom),
+            _ => (0, *atom),
+        };
+        let bad = values.iter().copied().enumerate().filter(is_bad);
+        let (atom, value) = bad.min_by_key(place)?;
+        Some(match (value == 0) != (self == Slip::FaultTurned) {
+            true => Completion::Missing(atom),
+            false => Completion::Clash(atom),
+        })
     }
 
     /// Refusal 13.

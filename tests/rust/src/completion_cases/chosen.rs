@@ -67,14 +67,30 @@ only false fails, from nothing | a:; false: | 1 | none | fails 65535
 no body of false holds | a:; false: -a; false: not a; false: a, -a | 1 | none | holds
 only the negative literal fails | a: not -a | 2 | none | fails 1";
 
-/// Values 0 and 3.
+/// Values 0 and 3. The lowest atom that has one of them decides, and which of them it has says the fault.
 const SETS: &str = "\
 missing |  | 0 | none | missing 0
 clash |  | 3 | none | clash 0
-missing before clash, behind it |  | 3 0 | none | missing 1
-missing before clash, before it |  | 0 3 | none | missing 0
 the lowest atom that is missing |  | 1 0 0 | none | missing 1
 the lowest atom that clashes |  | 1 3 3 | none | clash 1
+both values at the atom below one with none |  | 3 0 | none | clash 0
+no value at the atom below one with both |  | 0 3 | none | missing 0
+both below none, at the last atoms |  | 1 2 1 3 0 | none | clash 3
+none below both, at the last atoms |  | 1 2 1 0 3 | none | missing 3
+both below none, at the ends |  | 3 1 2 1 2 1 2 0 | none | clash 0
+none below both, at the ends |  | 0 1 2 1 2 1 2 3 | none | missing 0
+both below none, two atoms on |  | 2 3 1 0 1 | none | clash 1
+none below both, two atoms on |  | 2 0 1 3 1 | none | missing 1
+one with both below many with none |  | 3 0 0 0 0 0 | none | clash 0
+one with none below many with both |  | 0 3 3 3 3 3 | none | missing 0
+several of each, both first |  | 1 3 3 0 3 0 | none | clash 1
+several of each, none first |  | 1 0 0 3 0 3 | none | missing 1
+both and none by turns |  | 3 0 3 0 | none | clash 0
+none and both by turns |  | 0 3 0 3 | none | missing 0
+both below none, where formulas fail below | a:; b: a | 2 2 3 0 | none | clash 2
+none below both, where formulas fail below | a:; b: a | 2 2 0 3 | none | missing 2
+both below none, where false fails | false: | 3 0 | none | clash 0
+both below none, where all are facts | a:; -a:; b:; -b: | 3 0 | none | clash 0
 missing before a literal that fails | a:; b: a | 2 2 0 | none | missing 2
 clash before a literal that fails | a:; b: a | 2 2 3 | none | clash 2
 missing before false that fails | false: | 0 | none | missing 0
@@ -127,8 +143,16 @@ the length before a rule | a: a | 1 | 0 | refused 13 65535
 the length before missing |  | 0 |  | refused 13 65535
 a rule before missing | a: a | 0 | 0 0 | refused 13 0
 a rule before clash | a: a | 3 | 0 0 | refused 13 0
-missing before clash, with levels |  | 3 0 | 0 0 0 0 | missing 1
+missing, with levels |  | 0 | 0 0 | missing 0
 clash, with levels |  | 3 | 0 0 | clash 0
+both below none, with levels |  | 3 0 | 0 0 0 0 | clash 0
+none below both, with levels |  | 0 3 | 0 0 0 0 | missing 0
+both below none far above, with levels | a: b | 2 3 1 2 0 | 1 0 0 0 0 0 0 0 0 0 | clash 1
+none below both far above, with levels | a: b | 2 0 1 2 3 | 1 0 0 0 0 0 0 0 0 0 | missing 1
+several of each, both first, with levels | a: b; b: | 3 3 0 0 | 1 0 0 0 0 0 0 0 | clash 0
+several of each, none first, with levels | a: b; b: | 0 0 3 3 | 1 0 0 0 0 0 0 0 | missing 0
+a rule before both below none | a: a | 3 0 | 0 0 0 0 | refused 13 0
+the length before both below none |  | 3 0 | 0 0 | refused 13 65535
 a literal fails, with levels | a: b; b: | 2 1 | 1 0 0 0 | fails 0";
 
 /// Refusals by 11 and 12, and that they come before 13. Condition 10 and a 4,097th rule do not fit in a stored line.
@@ -137,6 +161,7 @@ a byte over 3 | words | 4 | none | refused 11 0
 the highest byte | words | 1 255 | none | refused 11 1
 the lowest of two bytes | words | 1 5 4 | none | refused 11 1
 11 before missing and clash | words | 0 3 4 | none | refused 11 2
+11 before clash and missing | words | 3 0 4 | none | refused 11 2
 11 before 12 | words 0 | 4 | none | refused 11 0
 11 before 12 and 13 | words 0 | 4 |  | refused 11 0
 11 before the length | words | 4 |  | refused 11 0
@@ -156,6 +181,7 @@ a head without atoms | words 0 0 0 |  | none | refused 12 0
 the word where the second rule starts | words 0 1 0 1 0 0 | 1 | none | refused 12 4
 12 before missing | words 0 | 0 | none | refused 12 0
 12 before clash | words 0 | 3 | none | refused 12 0
+12 before clash and missing | words 0 | 3 0 | none | refused 12 0
 12 before false that fails | words 65535 0 0 0 | 1 | none | refused 12 3
 12, with levels | words 2 0 0 | 1 | 0 0 | refused 12 0
 12 before the length | words 0 | 1 |  | refused 12 0
@@ -179,14 +205,25 @@ const ELEVEN_SETS: [(&str, [u8; 3], &str); 8] = [
     ("program 11: -p, -q, -r", [2, 2, 2], "fails 5"),
 ];
 
-/// The full recipe and its other histories, as values of its five atoms.
-const HISTORIES: [(&str, [u8; 5], &str); 6] = [
+/// The full recipe and its other histories, as values of its five atoms: locked, flowed and reflow at time 0, locked and
+/// flowed at time 1.
+const HISTORIES: [(&str, [u8; 5], &str); 14] = [
     ("the full recipe", [2, 2, 1, 2, 1], "holds"),
     ("the full recipe, M1", [1, 2, 1, 1, 1], "fails 65535"),
     ("the full recipe, M2", [2, 2, 2, 2, 1], "fails 8"),
     ("the full recipe, M3", [1, 2, 2, 2, 2], "fails 7"),
     ("the full recipe, M4", [2, 0, 1, 2, 1], "missing 1"),
     ("the full recipe, M5", [3, 2, 1, 2, 1], "clash 0"),
+    // Above M4's missing atom others have both values, and above M5's clash others have none: both answers stay.
+    ("M4, the action with both", [2, 0, 3, 2, 1], "missing 1"),
+    ("M4, the last fluent with both", [2, 0, 1, 2, 3], "missing 1"),
+    ("M5, the next fluent missing", [3, 0, 1, 2, 1], "clash 0"),
+    ("M5, the action missing", [3, 2, 0, 2, 1], "clash 0"),
+    ("M5, the last fluent missing", [3, 2, 1, 2, 0], "clash 0"),
+    // The action, atom 2, is below the fluents of time 1.
+    ("the action with both, then one missing", [2, 2, 3, 2, 0], "clash 2"),
+    ("the action missing, then one with both", [2, 2, 0, 3, 1], "missing 2"),
+    ("a fluent with both, the action missing", [2, 3, 0, 2, 1], "clash 1"),
 ];
 
 /// The code of a literal such as `-b`.
@@ -293,7 +330,23 @@ fn large() -> Vec<Chosen> {
         rule,
         "refused 13 0",
     );
-    vec![missing, clash, last, facts(), links()]
+    vec![missing, clash, near_the_end(), far_apart(), last, facts(), links()]
+}
+
+/// Of the last two of all atoms the lower one has both values.
+fn near_the_end() -> Chosen {
+    let mut values = [1; MAX_ATOMS];
+    values[MAX_ATOMS - 2..].copy_from_slice(&[3, 0]);
+    let name = "1,024 atoms, the last missing and the one below it clashing";
+    chosen(name, &values, None, vec![], "clash 1022")
+}
+
+/// The bad atoms lie more than 256 apart.
+fn far_apart() -> Chosen {
+    let mut values = [2; 300];
+    (values[7], values[290]) = (3, 0);
+    let name = "300 atoms, one clashing and one missing far above it";
+    chosen(name, &values, None, vec![], "clash 7")
 }
 
 /// A fact for each atom, the last of which is not in the set.

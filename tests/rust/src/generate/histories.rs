@@ -1,5 +1,6 @@
 //! Random histories, most of them found by simulation so that many pass.
 
+use super::faults::put_faults;
 use crate::random::Random;
 use crate::reading::model::{Description, Head, Law};
 
@@ -127,6 +128,12 @@ pub fn spoil(random: &mut Random, description: &Description, values: &mut [u8]) 
     if !actions.is_empty() && random.chance(1, 12) {
         values[*random.pick(&actions)] = 3;
     }
+}
+
+/// Spoils a history by several bad atoms: fluents without a value, and fluents or actions with both. A text has no way to
+/// leave an action without a value.
+pub fn spoil_badly(random: &mut Random, description: &Description, values: &mut [u8]) {
+    put_faults(random, values, |atom| !description.is_action(atom));
 }
 
 /// Puts a history's lists into another order, with some literals twice; the set it stands for stays the same.

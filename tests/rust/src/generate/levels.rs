@@ -1,6 +1,7 @@
 //! Random rule tables with levels. Most sets are drawn first, with one value an atom, and then rules that fit them, so
 //! that the completion formulas hold of many.
 
+use super::faults::put_faults;
 use super::tables::{damaged_table, damaged_values, loop_rules, words, Made};
 use crate::random::Random;
 use crate::reading::engine::read_rules;
@@ -289,7 +290,7 @@ fn other_length(random: &mut Random, atoms: usize, levels: &mut Vec<u16>) {
     levels.resize(if length == codes { codes + 1 } else { length }, 1);
 }
 
-/// Some atoms without a value or with both.
+/// Some atoms without a value or with both, in every second case of both kinds.
 fn incomplete(random: &mut Random) -> Draft {
     let mut made = if random.chance(1, 4) {
         one_off(random)
@@ -299,6 +300,11 @@ fn incomplete(random: &mut Random) -> Draft {
     for _ in 0..random.between(1, 3) {
         let atom = random.below(made.values.len());
         made.values[atom] = *random.pick(&[0, 3]);
+    }
+    // Drawn apart, so that they change no other case of a run.
+    let mut apart = Random::new(random.clone().bits());
+    if apart.chance(1, 2) {
+        put_faults(&mut apart, &mut made.values, |_| true);
     }
     made
 }

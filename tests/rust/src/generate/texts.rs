@@ -2,16 +2,18 @@
 
 use super::damage::damage;
 use super::descriptions::{description, size, SIZES};
-use super::histories::{explained_values, reorder, spoil};
+use super::histories::{explained_values, reorder, spoil, spoil_badly};
 use super::limits;
 use super::render::{history_lines, join, log_lines, log_lists, mixed_lines};
 use crate::random::Random;
+use crate::reading::model::Description;
 
 /// What sort of text a case is.
 #[derive(Clone, Copy, Debug, PartialEq, Eq)]
 pub enum Kind {
     Sound,
     Spoilt,
+    BadAtoms,
     Limit,
     Damaged,
     Long,
@@ -19,9 +21,10 @@ pub enum Kind {
 }
 
 /// All kinds, with the name each has in the tally and how often it is drawn.
-pub const KINDS: [(Kind, &str, usize); 6] = [
+pub const KINDS: [(Kind, &str, usize); 7] = [
     (Kind::Sound, "sound", 3_800),
     (Kind::Spoilt, "spoilt history", 1_700),
+    (Kind::BadAtoms, "several bad atoms", 900),
     (Kind::Limit, "at a limit", 1_200),
     (Kind::Damaged, "damaged", 3_250),
     (Kind::Long, "about 65,535 bytes or more", 80),
@@ -32,8 +35,9 @@ pub const KINDS: [(Kind, &str, usize); 6] = [
 pub fn text(random: &mut Random) -> (usize, Vec<u8>) {
     let kind = random.weighted(&KINDS.map(|(_, _, weight)| weight));
     let text = match KINDS[kind].0 {
-        Kind::Sound => whole(random, false),
-        Kind::Spoilt => whole(random, true),
+        Kind::Sound => whole(random, |_, _, _| ()),
+        Kind::Spoilt => whole(random, spoil),
+        Kind::BadAtoms => whole(random, spoil_badly),
         Kind::Limit => limits::text(random),
         Kind::Damaged => damaged(random),
         Kind::Long => limits::long_text(random),
@@ -43,13 +47,11 @@ pub fn text(random: &mut Random) -> (usize, Vec<u8>) {
 }
 
 /// A good description with a history, which may be spoilt in a few values.
-fn whole(random: &mut Random, spoilt: bool) -> Vec<u8> {
+fn whole(random: &mut Random, spoil: impl Fn(&mut Random, &Description, &mut [u8])) -> Vec<u8> {
     let size = size(random);
     let made = description(random, size);
     let mut values = explained_values(random, &made);
-    if spoilt {
-        spoil(random, &made, &mut values);
-    }
+    spoil(random, &made, &mut values);
     let mut lists = log_lists(random, &made, &values);
     reorder(random, &mut lists);
     let mut lines = mixed_lines(random, &made);

@@ -136,6 +136,11 @@ fn both_literals_of_an_action_clash() {
     }
     let (verdict, _) = said_of(&switch(2), &["p,q", "", "p,q", "-b,b", "p,q"]);
     assert_eq!(verdict, Verdict::Clash(7));
+    // A fluent missing later does not come before it; one missing earlier does.
+    let (verdict, causal) = said_of(FULL_DESCRIPTION, &["-locked,-flowed", "reflow,-reflow", "-locked"]);
+    assert_eq!((verdict, causal), (Verdict::Clash(2), Err(Refusal::new(11, 2))));
+    let (verdict, causal) = said_of(FULL_DESCRIPTION, &["-flowed", "reflow,-reflow", "-locked,flowed"]);
+    assert_eq!((verdict, causal), (Verdict::Missing(0), Err(Refusal::new(11, 0))));
 }
 
 #[test]
@@ -146,7 +151,6 @@ fn a_fluent_not_listed_is_missing_at_its_own_atom() {
         (["-locked,-flowed", "", "flowed"], 3),
         (["-locked,-flowed", "", "-locked"], 4),
         (["-locked,-flowed", "-reflow", "-locked"], 4),
-        (["-locked,-flowed", "reflow,-reflow", "-locked"], 4),
         (["", "", ""], 0),
     ] {
         let missing = (Verdict::Missing(atom), printed(FULL_DESCRIPTION, &lists));
@@ -269,9 +273,11 @@ fn a_callers_own_values_are_not_filled() {
     assert_eq!(said_of(FULL_DESCRIPTION, &as_text).0, Verdict::Unfounded(8));
     let listed = listed_values(&description, history(&as_text).as_bytes());
     assert_eq!(listed, Ok(own.to_vec()), "the text lists no more than that");
-    // Missing is still the lowest atom without a value, be it a fluent's or an action's.
+    // The lowest bad atom decides, be it a fluent's or an action's.
     assert_eq!(verdict(&[2, 0, 0, 2, 1]), Verdict::Missing(1));
-    assert_eq!(verdict(&[3, 2, 0, 0, 1]), Verdict::Missing(2));
+    assert_eq!(verdict(&[2, 2, 0, 0, 1]), Verdict::Missing(2));
+    assert_eq!(verdict(&[2, 2, 0, 3, 1]), Verdict::Missing(2));
+    assert_eq!(verdict(&[3, 2, 0, 0, 1]), Verdict::Clash(0));
     // The engine knows no actions: rule 10, not-reflow from "not reflow", is kept and its head is not in the set.
     let table = translate(&description, 53).unwrap();
     assert_eq!(check_set(&[2, 2, 0, 2, 2], &table.words), Ok(Verdict::Broken(10)));

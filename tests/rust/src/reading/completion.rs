@@ -5,6 +5,7 @@
 //! and so a caller may lend them.
 
 use super::engine::{accept, Rule};
+use super::faults::first_fault;
 use super::{Refusal, FALSE_HEAD};
 
 /// What the formulas say of a set.
@@ -13,9 +14,9 @@ pub enum Completion {
     Holds,
     /// The lowest literal code whose formula fails; false, which is 65535, comes last.
     Fails(u16),
-    /// The lowest atom without a value.
+    /// An atom without a value; every lower one has just one.
     Missing(usize),
-    /// The lowest atom with both values; said only where every atom has a value.
+    /// An atom with both values; every lower one has just one.
     Clash(usize),
 }
 
@@ -49,13 +50,10 @@ fn stands_above(rule: &Rule, levels: &[u16]) -> bool {
     rule.head == FALSE_HEAD || rule.plain.iter().all(|part| level(part) < level(&rule.head))
 }
 
-/// Values 0 and 3 come first; behind them every value is 1 or 2.
+/// Values 0 and 3 come first, as in the history check; behind them every value is 1 or 2.
 fn judge(values: &[u8], rules: &[Rule]) -> Completion {
-    if let Some(atom) = values.iter().position(|value| *value == 0) {
-        return Completion::Missing(atom);
-    }
-    if let Some(atom) = values.iter().position(|value| *value == 3) {
-        return Completion::Clash(atom);
+    if let Some(fault) = first_fault(values) {
+        return Completion::from(fault);
     }
     let codes = 2 * values.len() as u16;
     let failing = (0..codes).find(|code| is_member(values, *code) != has_body(values, rules, *code));

@@ -12,7 +12,7 @@ pub enum Verdict {
     Broken(usize),
     /// The lowest literal code of the set that nothing derives.
     Unfounded(usize),
-    /// The lowest atom without a value; said by the history check only.
+    /// An atom without a value; said by the history check only, where no lower atom has both.
     Missing(usize),
 }
 

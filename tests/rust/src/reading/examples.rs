@@ -102,10 +102,26 @@ fn m5_clashes() {
     assert_eq!(causal, Err(Refusal::new(11, 0)));
 }
 
+/// Change request 5: M4 and M5 keep their verdicts with the other fault above. Before it, M5 with a fluent missing above
+/// was missing there.
 #[test]
-fn missing_comes_before_a_lower_clash() {
-    let (verdict, _) = said_of("-locked,locked", "reflow", "-locked,flowed");
-    assert_eq!(verdict, Verdict::Missing(1));
+fn m4_and_m5_keep_their_verdicts_below_the_other_fault() {
+    for (act, next) in [
+        ("reflow,-reflow", "-locked,flowed"),
+        ("reflow", "-locked,locked,flowed"),
+        ("reflow", "-locked,flowed,-flowed"),
+        ("-reflow,reflow", "locked,-locked,flowed,-flowed"),
+    ] {
+        assert_eq!(said_of("-locked", act, next).0, Verdict::Missing(1), "{act} {next}");
+    }
+    for (state, next) in [
+        ("-locked,locked", "-locked,flowed"),
+        ("-locked,locked,-flowed", "flowed"),
+        ("-locked,locked,-flowed", "-locked"),
+        ("-locked,locked", ""),
+    ] {
+        assert_eq!(said_of(state, "reflow", next).0, Verdict::Clash(0), "{state} {next}");
+    }
 }
 
 /// The last five printed lines for another history of the full recipe.

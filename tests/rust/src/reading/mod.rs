@@ -6,6 +6,7 @@ pub mod check;
 pub mod completion;
 pub mod description;
 pub mod engine;
+pub mod faults;
 pub mod history;
 pub mod lines;
 pub mod model;
@@ -26,6 +27,8 @@ mod letter_case;
 mod refusals;
 #[cfg(test)]
 mod shorthand;
+#[cfg(test)]
+mod two_faults;
 
 /// Longest text a reader takes, in bytes.
 pub const MAX_TEXT: usize = 65_535;

@@ -215,7 +215,9 @@ fn history_check_is_refused_in_order() {
     assert_eq!(refused(&[4; 4], 52), Err(Refusal::new(9, 53)));
     assert_eq!(refused(&[4; 4], 53), Err(Refusal::new(10, 4)));
     assert_eq!(refused(&[0, 1, 4, 3, 255], 53), Err(Refusal::new(11, 2)));
-    assert_eq!(refused(&[3, 0, 1, 1, 1], 60), Ok(Verdict::Missing(1)));
+    assert_eq!(refused(&[3, 0, 1, 1, 4], 60), Err(Refusal::new(11, 4)));
+    assert_eq!(refused(&[3, 0, 1, 1, 1], 60), Ok(Verdict::Clash(0)));
+    assert_eq!(refused(&[1, 0, 3, 1, 1], 60), Ok(Verdict::Missing(1)));
     assert_eq!(causal_reading(&description, &[1, 2, 3, 0, 4]), Err(Refusal::new(11, 2)));
     assert_eq!(causal_reading(&description, &[1; 6]), Err(Refusal::new(10, 6)));
 }

@@ -41,15 +41,28 @@ pub fn output(input: &[u8]) -> Vec<u8> {
 
 /// What is printed for an input that is read already, or refused.
 pub fn printed(read: Result<Input, Refusal>) -> Vec<u8> {
-    match read.and_then(answers) {
+    printed_by(read, |description, values| {
+        check_history(description, values, usize::MAX)
+    })
+}
+
+/// The same where the history check is given, so that one with a slip can be tried.
+pub fn printed_by(
+    read: Result<Input, Refusal>,
+    check: impl Fn(&Description, &[u8]) -> Result<(Verdict, Table), Refusal>,
+) -> Vec<u8> {
+    match read.and_then(|input| answers(input, check)) {
         Ok(lines) => lines,
         Err(refusal) => format!("refused={}\nplace={}\n", refusal.number, refusal.place).into_bytes(),
     }
 }
 
-fn answers(input: Input) -> Result<Vec<u8>, Refusal> {
+fn answers(
+    input: Input,
+    check: impl Fn(&Description, &[u8]) -> Result<(Verdict, Table), Refusal>,
+) -> Result<Vec<u8>, Refusal> {
     let Input { description, values } = input;
-    let (verdict, table) = check_history(&description, &values, usize::MAX)?;
+    let (verdict, table) = check(&description, &values)?;
     let causal = match verdict {
         Verdict::Missing(_) | Verdict::Clash(_) => None,
         _ => Some(causal_reading(&description, &values)?),
