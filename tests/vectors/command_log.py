@@ -73,7 +73,8 @@ def steps():
 
 
 def fluents():
-    """Fluents that are not listed: missing is said of them, whatever actions are left out before."""
+    """Fluents that are not listed: missing is said of them, whatever actions are left out before; an action with both
+    literals before them is a clash."""
     still_p = "horizon=2\nfluent=p\ninertial=p\ninertial=-p\nend=\n"
     return {
         "missing_first_atom_act_line_empty": FULL + history("-flowed", "", "-locked,flowed"),

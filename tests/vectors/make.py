@@ -4,7 +4,8 @@
 READING is the program `reading` of tests/rust, an independent reading of the contract: the stored outputs are what it says, so
 that the checker is held against a second reading and never against itself. The inputs: every verdict and causal verdict, every
 refusal that a text can meet, limits from both sides, damaged lines of each kind, the same for short laws (short_laws.py),
-for command logs (command_log.py) and for capitals (letter_case.py), and byte values 0 to 255 in names."""
+for command logs (command_log.py) and for capitals (letter_case.py), missing and clash in one history, with answers worked out
+by hand that the reading must give too (two_faults.py), and byte values 0 to 255 in names."""
 import sys
 
 sys.dont_write_bytecode = True
@@ -14,6 +15,7 @@ import subprocess
 import command_log
 import letter_case
 import short_laws
+import two_faults
 from recipes import FULL, PASSING, RECIPE, TOP, history, inertia, largest, still, swapped
 
 CRATE = TOP / "crates" / "vectors"
@@ -31,6 +33,7 @@ def verdicts():
         "m5": FULL + history("-locked,locked,-flowed", "reflow", "-locked,flowed"),
         "missing_last_atom": FULL + history("-locked,-flowed", "reflow", "-locked"),
         "m2_act_line_empty": FULL + history("-locked,-flowed", "", "-locked,flowed"),
+        # Named when missing came before clash; the lowest bad atom decides now, and that is the clash.
         "missing_before_clash": FULL + history("locked,-locked", "reflow", "-locked,flowed"),
         "contradicted_at_time_0": static + history("-p,q", "", "p,q"),
         "contradicted_at_the_end": swapped("fluent=q\n", "fluent=q\naction=a\n", static) + history("p,q", "a", "-p,q"),
@@ -148,11 +151,19 @@ def with_byte(place, value):
     return bytes(raw)
 
 
+def is_stated(said, answer):
+    """Does an output tell this answer, a word and an atom, with no causal verdict?"""
+    word, at = answer.split()
+    return said.decode().endswith(f"\nanswer={word}\nat={at}\ncausal=none\ntime=\nitem=\n")
+
+
 def main():
     def say(raw):
         return subprocess.run([sys.argv[1]], input=raw, stdout=subprocess.PIPE, check=True).stdout
 
+    stated = two_faults.cases()
     parts = [verdicts(), limits(), damaged(), misspelt(), short_laws.cases(), command_log.cases(), letter_case.cases()]
+    parts.append({name: text for name, (text, _) in stated.items()})
     cases = {name: text for part in parts for name, text in part.items()}
     assert len(cases) == sum(map(len, parts)), "a name is given twice"
     data = CRATE / "data"
@@ -162,13 +173,16 @@ def main():
     for name, text in cases.items():
         raw = text if isinstance(text, bytes) else text.encode()
         (data / name).write_bytes(raw)
-        outputs.append(name.encode() + b"\n" + say(raw))
+        said = say(raw)
+        if name in stated:
+            assert is_stated(said, stated[name][1]), (name, stated[name][1], said)
+        outputs.append(name.encode() + b"\n" + said)
     (data / "every_byte").write_text(EVERY_BYTE)
     for value in range(256):
         outputs += [b"%sbyte %d\n" % (which, value) + say(with_byte(place, value)) for which, place in ((b"first ", 17), (b"", 18))]
     (CRATE / "args").write_text("".join(f"{name}\n" for name in cases))
     (CRATE / "stdout").write_bytes(b"".join(outputs))
-    print(f"{len(cases)} inputs, and one with each byte value in two places")
+    print(f"{len(cases)} inputs, {len(stated)} of them with stated answers, and one with each byte value in two places")
 
 
 if __name__ == "__main__":
