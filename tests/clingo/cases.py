@@ -32,6 +32,18 @@ def agrees_with_statement(stated, verdict):
     return stated == verdict
 
 
+def changed_verdicts(case):
+    """What change request 5 says of a history where an atom with both values lies below the
+    first one with none: the former verdict and the present one; None of any other case."""
+    values = values_of(case.program.atoms, case.codes)
+    if not case.program.history or 0 not in values:
+        return None
+    none = values.index(0)
+    if 3 not in values[:none]:
+        return None
+    return "missing %d" % none, "clash %d" % values.index(3)
+
+
 def should_pass(case):
     """What the plain program's answer sets say: for a history every atom
     must have a value besides."""

@@ -1,7 +1,8 @@
 """Recipes picked by hand: the full recipe of the contract with M1 to M5, the
 two examples of the paper's section 2, recipes for each known slip, recipes whose
-laws are written short, command logs, which list only what was done, and names
-with capitals, each use of which is spelled in another way.
+laws are written short, command logs, which list only what was done, names with
+capitals, each use of which is spelled in another way, and histories with bad
+atoms of both kinds.
 
 A law is written `head if list` (static) or `head if list after list` (dynamic);
 either list may be left empty, and a law is dynamic if the word `after` is there.
@@ -147,9 +148,9 @@ SLIPS = [
     # repeated and contradictory literals, repeated laws
     ((1, "p q", "a", ["q if p,-p", "q after a,-a", "-q if -q,-q after a,a,a", "p if p,p",
                       "p if p,p"]), ["p,q;a;p,-q", "p,q;a;p,q", "p,q,p;-a,-a;p,-q,p"]),
-    # missing before clash, whatever atom is lower; empty lists
-    ((1, "p", "", free("p")), ["p,-p;;", ";;", ";;p,-p", "p,-p;;p,-p"]),
-    ((1, "p", "a", free("p")), ["p;;p", "p;a,-a;p", "p;a,-a;"]),
+    # empty lists
+    ((1, "p", "", free("p")), [";;", "p,-p;;p,-p"]),
+    ((1, "p", "a", free("p")), ["p;;p", "p;a,-a;p"]),
     # names that look like keys, and a name of 16 letters
     ((1, "end state", "act", ["end if state after act", "-state after act", "end after end",
                               "state if state after"]),
@@ -250,6 +251,35 @@ CAPITALS = [
      [("End,State,FALS;;End,State,FALS", "passes"),
       ("End,State,FALS;Act;End,-State,FALS", "passes"),
       ("-End,State,FALS;;-End,State,FALS", SOME_FAULT)]),
+]
+
+
+# Missing and clash in one history: the lowest atom that has either fault decides. A fluent is
+# missing where its state line does not list it; an action never is. The laws have no say in it,
+# so most have none.
+BAD_ATOMS = [
+    # p at time 0 is atom 0, at time 1 atom 1
+    ((1, "p", "", free("p")), [("p,-p;;", "clash 0"), (";;p,-p", "missing 0")]),
+    # the action is atom 1, between p at time 0 and p at time 1
+    ((1, "p", "a", free("p")), [("p;a,-a;", "clash 1"), (";a,-a;p", "missing 0")]),
+    # M4, whose atom 1 is missing, and M5, whose atom 0 has both, with the other fault above
+    (LOCK, [("-locked; reflow,-reflow; -locked,flowed,-flowed", "missing 1"),
+            ("-locked,locked; reflow; -locked", "clash 0")]),
+    # p and q at time 0 are atoms 0 and 1, a is atom 2, p and q at time 1 are atoms 3 and 4
+    ((1, "p q", "a", []),
+     [("p,-p;a;p,q", "clash 0"), ("q,-q;a;p,q", "missing 0"),  # one state line, by atoms
+      ("p,q;a;p,-p", "clash 3"), ("p,q;;q,-q", "missing 3"),
+      ("p,q;a,-a;p", "clash 2"), ("p,q;-a,a;", "clash 2"),  # an act line, and missing later
+      ("q;a,-a;p,q", "missing 0"), ("p;a,-a;p", "missing 1"),  # and missing earlier
+      ("p,q,-q;a,-a;q", "clash 1"), ("p;;p,q,-q", "missing 1")]),
+    # three steps of two fluents and two actions: p is 4t, q 4t + 1, a 4t + 2, b 4t + 3
+    ((3, "p q", "a b", []),
+     [("p,q;b,-b;q;;p,q;;p,q", "clash 3"), ("p,q;;p;a,-a;p,q;;p,q", "missing 5"),
+      ("p,q;;p,q;;p,q;b,-b;", "clash 11"), ("p,q,-q;;p,q;;p,q;;p", "clash 1"),
+      # several of each
+      ("p,q;;p,-p;a,-a;p;b,-b;q,-q", "clash 4"), ("p,q;;q,-q;a,-a;;b,-b;p,-p", "missing 4")]),
+    # the ends of the longest history
+    ((30, "p", "", []), [("p,-p" + 29 * ";;p" + ";;", "clash 0")]),
 ]
 
 
@@ -360,4 +390,5 @@ def chosen_recipes():
     return (picked_cases(long, lambda: written_out) + largest_cases()
             + picked_cases(short, lambda: written_short) + picked_cases(mixed, each_way_by_turns)
             + picked_cases(stated_recipes(LOGS), lambda: written_short)
+            + picked_cases(stated_recipes(BAD_ATOMS), lambda: written_short)
             + picked_cases(stated_recipes(CAPITALS), each_way_by_turns, each_spelling_by_turns))

@@ -10,7 +10,9 @@ agree on what passes, and the program `solver_cases` must give the same verdict.
 Where each atom has one value, the second program also says whether the
 completion formulas hold, or which is the first that fails, 65535 for that of
 false; and `solver_cases` writes that behind the verdict. They must hold of what
-passes, and of no other recipe.
+passes, and of no other recipe. The second program also says what the verdict was
+while missing came before clash: it must be another one exactly where an atom with
+both values lies below the first with none, from missing there to clash.
 
     compare.py                       3,000 recipes and 3,000 tables
     compare.py --recipes N --tables M --seed S --program PATH
@@ -38,7 +40,7 @@ import tempfile
 
 import language
 import solver
-from cases import agrees_with_statement, should_pass
+from cases import agrees_with_statement, changed_verdicts, should_pass
 from chosen_recipes import chosen_recipes
 from chosen_tables import chosen_tables
 from recipe_cases import random_recipes
@@ -60,6 +62,7 @@ def make_cases(seed, recipes, tables):
     recipe_list = picked + random_recipes(random.Random("recipes %d" % seed),
                                           random.Random("act lines %d" % seed),
                                           random.Random("capitals %d" % seed),
+                                          random.Random("bad atoms %d" % seed),
                                           recipes - len(picked))
     picked = chosen_tables()[:tables]
     table_list = picked + random_tables(random.Random("tables %d" % seed), tables - len(picked))
@@ -87,8 +90,15 @@ def formulas_agree(case, judged):
     return passes == holds if case.program.history else holds or not passes
 
 
+def orders_agree(case, judged):
+    """Is the verdict another than in the former order just where it should be, and as it should?"""
+    stated = changed_verdicts(case) or (judged.verdict, judged.verdict)
+    return (judged.former, judged.verdict) == stated
+
+
 def judge(cases):
-    """Clingo's lines; None if its two readings, a statement or the formulas differ."""
+    """Clingo's lines; None if its two readings, a statement, the formulas or the orders of
+    missing and clash differ as they should not."""
     found = solver.judge([(case.program, case.codes) for case in cases])
     for case, judged in zip(cases, found):
         said = "verdict program: " + judged.line()
@@ -103,6 +113,10 @@ def judge(cases):
             return None
         if not formulas_agree(case, judged):
             show_case("clingo's verdict and the formulas differ", case, [said])
+            return None
+        if not orders_agree(case, judged):
+            show_case("clingo's verdict changed otherwise than stated", case,
+                      [said, "while missing came before clash: " + judged.former])
             return None
     return [judged.line() for judged in found]
 
@@ -276,6 +290,7 @@ def report(recipes, recipe_lines, tables, table_lines):
                   + tally(map(capitals, cases), ["no capitals", "as declared", "otherwise"]))
             print("  false as a head: "
                   + tally(map(false_heads, cases), ["none", "false", "with capitals"]))
+            print("  missing before, clash now: %d" % sum(map(bool, map(changed_verdicts, cases))))
 
 
 def compare(options):

@@ -1,7 +1,8 @@
 """Recipes drawn at random: descriptions of many shapes, histories that clingo
 finds for them, and histories got from those by small changes. Laws that have a
 short form are written short by chance, act lines leave out by chance none, some
-or all of what was not done, and names are declared and used in any capitals."""
+or all of what was not done, and names are declared and used in any capitals.
+Histories with bad atoms of both kinds, in either order, are drawn apart."""
 
 import solver
 from cases import Case
@@ -282,6 +283,42 @@ CHANGES = {
 }
 
 
+def bad_atoms(rng, chosen, places):
+    """Some atoms of the set lose their value and some get both. The first pair lies at the
+    ends, next to each other or anywhere; an action without a value cannot be written."""
+    atoms = sorted({place[:2] + (place[2] // 2,) for place in places},
+                   key=lambda atom: (atom[1], atom[2]))
+    lacking = [place for place, atom in enumerate(atoms) if not atom[0]]
+    none = rng.choice([lacking[0], lacking[-1], rng.choice(lacking), rng.choice(lacking)])
+    both = rng.choice([none - 1, none + 1, 0, len(atoms) - 1, rng.randrange(len(atoms))])
+    faults = {}
+    for _ in range(rng.choice([0, 0, 0, 1, 2, 3])):
+        place = rng.randrange(len(atoms))
+        faults[place] = "both" if place not in lacking else rng.choice(["both", "none"])
+    faults[min(max(both, 0), len(atoms) - 1)] = "both"
+    faults[none] = "none"
+    for place, fault in faults.items():
+        is_act, time, name = atoms[place]
+        literals = {(is_act, time, 2 * name), (is_act, time, 2 * name + 1)}
+        chosen = chosen - literals if fault == "none" else chosen | literals
+    return chosen
+
+
+def bad_histories(rng, description, passing):
+    """A few histories with bad atoms, from passing ones where there are any. What act lines
+    leave out and in which order lists stand is drawn here too."""
+    places, literals = literal_places(description), all_literals(description)
+    histories = []
+    for _ in range(rng.choice([0, 1])):
+        if passing:
+            start = listed_places(places, literals, rng.choice(passing))
+        else:
+            start = any_values(rng, set(), set(), places)
+        chosen = bad_atoms(rng, start, places)
+        histories.append(left_out(rng, write_history(rng, description, chosen)))
+    return histories
+
+
 def draw_histories(rng, log_rng, description, passing, count):
     """So many histories with the names of their changes."""
     places, literals = literal_places(description), all_literals(description)
@@ -340,9 +377,9 @@ def recipe_cases(description, histories, groups, stated=None, found=None,
     return cases
 
 
-def random_recipes(rng, log_rng, letter_rng, wanted):
-    """So many recipes; `log_rng` settles only what act lines leave out, and `letter_rng` only
-    the capitals."""
+def random_recipes(rng, log_rng, letter_rng, bad_rng, wanted):
+    """So many recipes; `log_rng` settles only what act lines leave out, `letter_rng` only the
+    capitals, and `bad_rng` histories with bad atoms, which come besides all others."""
     cases = []
     while len(cases) < wanted:
         description = with_capitals(letter_rng, random_description(rng))
@@ -353,4 +390,7 @@ def random_recipes(rng, log_rng, letter_rng, wanted):
                                            rng.randint(3, 7))
         cases += recipe_cases(description, histories, groups, None, found,
                               lambda: mixed_spelling(rng), lambda: mixed_letters(letter_rng))
+        bad = bad_histories(bad_rng, description, passing)
+        cases += recipe_cases(description, bad, ["bad atoms"] * len(bad), None, found,
+                              lambda: mixed_spelling(bad_rng), lambda: mixed_letters(bad_rng))
     return cases[:wanted]

@@ -1,7 +1,8 @@
 """Calls of clingo: answer sets of a plain program, whether given sets are
 answer sets, sets that are closed but perhaps not least, and the verdicts by a
 second program that is handed the rules and the sets as facts. That program also
-says what the completion formulas make of each set with one value an atom.
+says what the completion formulas make of each set with one value an atom, and
+what the verdict was while missing came before clash.
 """
 
 import shutil
@@ -19,6 +20,11 @@ from language import FALSE_HEAD
 # literal fails where the literal is in the set and no body for it is met, or the
 # other way round; that of false where a body for it is met. A body is met if its
 # plain parts and the complements of its negated parts are in the set.
+#
+# Missing and clash have one rank: the lowest atom with either fault decides, and
+# no atom has both faults. A set that is no history has no missing. In the former
+# order missing came before clash, whatever atom was lower; what it said is shown
+# only to be held against the present verdict.
 VERDICT_PROGRAM = """
 dropped(C,R) :- case(C,P), in(C,L), neg(P,R,L).
 kept(C,R) :- case(C,P), rule(P,R,_,_), not dropped(C,R).
@@ -36,12 +42,17 @@ derived(C,R,I+1) :- derived(C,R,I), case(C,P), pos(P,R,I,L), least(C,L).
 least(C,H) :- derived(C,R,K), case(C,P), rule(P,R,H,K), H != none.
 fault(C,unfounded,L) :- in(C,L), not least(C,L).
 
-order(missing,0). order(clash,1). order(broken,2). order(unfounded,3).
+order(missing,0). order(clash,0). order(broken,1). order(unfounded,2).
 rank(C,O) :- fault(C,F,_), order(F,O).
-first(C,F) :- case(C,_), O = #min{ Q : rank(C,Q) }, order(F,O).
-verdict(C,F,N) :- first(C,F), N = #min{ M : fault(C,F,M) }.
+first(C,O) :- rank(C,_), O = #min{ Q : rank(C,Q) }.
+place(C,N) :- first(C,O), N = #min{ M : fault(C,F,M), order(F,O) }.
+verdict(C,F,N) :- first(C,O), order(F,O), place(C,N), fault(C,F,N).
 verdict(C,passes,0) :- case(C,_), not fault(C,_,_).
 #show verdict/3.
+
+former(C,missing,N) :- fault(C,missing,_), N = #min{ M : fault(C,missing,M) }.
+former(C,F,N) :- verdict(C,F,N), not fault(C,missing,_).
+#show former/3.
 
 literal(P,0..2*N-1) :- size(P,N), N > 0.
 one_value(C,A) :- case(C,P), size(P,N), A = 0..N-1, 1 = { in(C,2*A); in(C,2*A+1) }.
@@ -138,6 +149,7 @@ class Judged(NamedTuple):
 
     verdict: str
     formulas: Optional[str]  # None where some atom has no value or both
+    former: str  # the verdict while missing came before clash
 
     def line(self):
         """The line the compared program is to write."""
@@ -159,10 +171,11 @@ def said(model, name, number_of_cases):
 
 def judged(model, number_of_cases):
     """What one answer set says of each case, in case order."""
-    verdicts = said(model, "verdict", number_of_cases)
-    if None in verdicts:
-        raise RuntimeError("no verdict for case %d" % verdicts.index(None))
-    return list(map(Judged, verdicts, said(model, "formulas", number_of_cases)))
+    verdicts, former = (said(model, name, number_of_cases) for name in ("verdict", "former"))
+    for found in (verdicts, former):
+        if None in found:
+            raise RuntimeError("no verdict for case %d" % found.index(None))
+    return list(map(Judged, verdicts, said(model, "formulas", number_of_cases), former))
 
 
 def judge_batch(batch):
