@@ -21,6 +21,10 @@ mod short_laws;
 #[cfg(test)]
 mod short_refusals;
 #[cfg(test)]
+mod stored;
+#[cfg(test)]
+mod wrong_faults;
+#[cfg(test)]
 mod wrong_formulas;
 
 use crate::calls::Calls;
