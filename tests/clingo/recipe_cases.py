@@ -358,12 +358,13 @@ def spelled_recipe(description, history, spelling, letters):
 
 
 def recipe_cases(description, histories, groups, stated=None, found=None,
-                 new_spelling=lambda: written_out, new_letters=lambda: as_declared):
+                 new_spelling=lambda: written_out, new_letters=lambda: as_declared, counted=None):
     """Cases of one description; `found` holds all its answer sets, or None.
 
-    `new_spelling` gives each case its own way to write laws, `new_letters` its own letters.
+    `new_spelling` gives each case its own way to write laws, `new_letters` its own letters;
+    `counted` are the counted rules where other cases have them already.
     """
-    plain, counted = solver_program(description), coded_program(description)
+    plain, counted = solver_program(description), counted or coded_program(description)
     sets = [history_literals(description, history) for history in histories]
     if found is not None:
         answers = [one in found for one in sets]
@@ -392,5 +393,6 @@ def random_recipes(rng, log_rng, letter_rng, bad_rng, wanted):
                               lambda: mixed_spelling(rng), lambda: mixed_letters(letter_rng))
         bad = bad_histories(bad_rng, description, passing)
         cases += recipe_cases(description, bad, ["bad atoms"] * len(bad), None, found,
-                              lambda: mixed_spelling(bad_rng), lambda: mixed_letters(bad_rng))
+                              lambda: mixed_spelling(bad_rng), lambda: mixed_letters(bad_rng),
+                              cases[-1].program)
     return cases[:wanted]
