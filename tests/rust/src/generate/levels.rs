@@ -290,7 +290,7 @@ fn other_length(random: &mut Random, atoms: usize, levels: &mut Vec<u16>) {
     levels.resize(if length == codes { codes + 1 } else { length }, 1);
 }
 
-/// Some atoms without a value or with both, in every second case of both kinds.
+/// Some atoms without a value or with both; in every second case several more, of both kinds.
 fn incomplete(random: &mut Random) -> Draft {
     let mut made = if random.chance(1, 4) {
         one_off(random)
