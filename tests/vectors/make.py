@@ -33,8 +33,7 @@ def verdicts():
         "m5": FULL + history("-locked,locked,-flowed", "reflow", "-locked,flowed"),
         "missing_last_atom": FULL + history("-locked,-flowed", "reflow", "-locked"),
         "m2_act_line_empty": FULL + history("-locked,-flowed", "", "-locked,flowed"),
-        # Named when missing came before clash; the lowest bad atom decides now, and that is the clash.
-        "missing_before_clash": FULL + history("locked,-locked", "reflow", "-locked,flowed"),
+        "clash_below_missing": FULL + history("locked,-locked", "reflow", "-locked,flowed"),
         "contradicted_at_time_0": static + history("-p,q", "", "p,q"),
         "contradicted_at_the_end": swapped("fluent=q\n", "fluent=q\naction=a\n", static) + history("p,q", "a", "-p,q"),
         "static_law_caused": static + history("p,q", "", "p,q"),
