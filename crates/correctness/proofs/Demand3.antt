@@ -3,20 +3,20 @@
 -- of the completion formulas through Proposition 3. And what the functions open to callers promise of it.
 -- Assumes nothing.
 use mathlib.Core.Path.{_≡_, refl, sym, _∙_, ap}
-use mathlib.Core.Logic.{_↔_, ⊎-elim, Iff·trans, Iff·symm}
-use mathlib.Core.Bool.{Bool, false, cond}
+use mathlib.Core.Logic.{_↔_, inl, inr, ⊎-elim, Iff·trans, Iff·symm}
+use mathlib.Core.Bool.{Bool, true, false, not, cond, _||_}
 use mathlib.Core.List.{List}
 use mathlib.Core.Option.{none, some}
 use Prim.Native.Nat.{ℕ, _*_, _≤_}
 use native.Mathlib.Omega.{arith}
-use borrow.Author.Tests.{eq-eqb, le-ltb}
-use lib.Dec.{ltb}
+use borrow.Author.Tests.{eqb-true, eq-eqb, le-ltb}
+use lib.Dec.{eqb, ltb}
 use lib.ListN.{length, take, drop}
 use lib.Seq.{take-append-seam}
 use Rattle.search.specs.Search.{Each, first}
 use Rattle.search.specs.Replies.{Reply, refused, answered}
-use Rattle.search.proofs.Tests.{each-map}
-use Rattle.search.proofs.Lists.{none-iff}
+use Rattle.search.proofs.Tests.{or-iff, each-map}
+use Rattle.search.proofs.Lists.{each-iff, none-iff}
 use Rattle.logic_programs.specs.Literals.{OneValue, setOf}
 use Rattle.logic_programs.proofs.Values.{all-one-value}
 use Rattle.logic_programs.specs.AnswerSets.{AnswerSet}
@@ -53,8 +53,19 @@ use Rattle.correctness.proofs.Translated.{translation-tight, answer-set
 fits-byte : (v : ℕ) → OneValue v → ltb 3 v ≡ false
 fits-byte v o = le-ltb 3 v (⊎-elim (λ (e : v ≡ 1). omega arith) (λ (e : v ≡ 2). omega arith) o)
 
-one-value : (v : ℕ) → OneValue v → causal.notOneValue v ≡ false
-one-value v o = ⊎-elim (λ (e : v ≡ 1). rw e refl) (λ (e : v ≡ 2). rw e refl) o
+one-value : (v : ℕ) → causal.notOneValue v ≡ false ↔ OneValue v
+one-value v = (
+  λ e. ⊎-elim (λ t. inl (eqb-true v 1 t)) (λ t. inr (eqb-true v 2 t)) (or-iff (eqb v 1) (eqb v 2) .0 (negated (eqb v 1 || eqb v 2) e)),
+  λ o. ⊎-elim (λ (e : v ≡ 1). rw e refl) (λ (e : v ≡ 2). rw e refl) o,
+)
+  where
+    negated : (b : Bool) → not b ≡ false → b ≡ true
+    negated true e = refl
+    negated false e = sym e
+
+-- so the causal reading refuses none by 11 exactly if each has one value
+pub one-value-each : (vs : List ℕ) → first causal.notOneValue 0 vs ≡ none ↔ Each OneValue vs
+one-value-each vs = Iff·trans (none-iff causal.notOneValue 0 vs) (each-iff one-value vs)
 
 module _ (d : Description) (ls : List Law) (lent : ℕ) (vs : List ℕ) (complete : Complete d ls lent vs) where
   taken : badRecord d ls lent ≡ none
@@ -133,7 +144,7 @@ module _ (d : Description) (ls : List Law) (lent : ℕ) (vs : List ℕ) (complet
 
   pub read-verdict : causal.reading d ls lent vs ≡ answered (causalVerdict (d .fluents) (d .actions) (d .horizon) (lawsOf d ls) vs)
   unfolding causal.reading
-  read-verdict = rw (taken, horizon, eq-eqb (length vs) _ size, none-iff causal.notOneValue 0 vs .1 (each-map one-value vs one))
+  read-verdict = rw (taken, horizon, eq-eqb (length vs) _ size, one-value-each vs .1 one)
 
   by-causal : causal.reading d ls lent vs ≡ answered path ↔ PathOf d ls vs
   by-causal = Iff·trans (λ e. let v = read-verdict in cc, λ e. let v = read-verdict in cc) (causal-iff (d .fluents) (d .actions) (d .horizon) (lawsOf d ls) vs)

@@ -4,22 +4,21 @@ use mathlib.Core.Path.{_≡_, refl}
 use mathlib.Core.Bool.{Bool, true, false, cond, not, _&&_, and-eq-true-iff}
 use mathlib.Core.List.{List, [], _∷_}
 use mathlib.Core.Option.{Option, none, some}
-use Prim.Native.Nat.{ℕ, zero, suc, _+_, _*_, _≤_, _<_}
+use Prim.Native.Nat.{ℕ, suc, _+_, _*_, _≤_}
 use native.Mathlib.Omega.{arith}
-use lib.Dec.{ltb, leb}
-use lib.ListN.{length, getD, length-take}
-use borrow.Author.Tests.{ltb-true, leb-true, le-leb}
+use lib.Dec.{eqb, leb}
+use lib.ListN.{length, length-take}
+use borrow.Author.Tests.{eqb-true, leb-true, le-leb}
 use Rattle.search.specs.declared.Found.{Found}
 use Rattle.search.specs.declared.Found.the-variants.{At, Nothing}
 use Rattle.search.specs.Search.{Each, placeOf}
 use Rattle.search.specs.Replies.{refusalOf, refusal}
-use Rattle.description.specs.declared.Head.{Head}
-use Rattle.description.specs.declared.Head.the-variants.{Lit, False}
 use Rattle.description.specs.declared.Kind.{Kind}
 use Rattle.description.specs.declared.Kind.the-variants.{Static, Dynamic}
 use Rattle.description.specs.declared.Law.{Law}
 use Rattle.description.specs.declared.Description.{Description}
 use Rattle.description.specs.Laws.{ifList, afterList, lawsOf}
+use Rattle.description.specs.Atoms.{wrongLength}
 use Rattle.description.specs.Acceptance.{countsFit, codesBelow, headFits, afterFits, lawFits, badLaw, badRecord, badHorizon}
 
 -- the refusal of a search's answer is that of its place
@@ -84,6 +83,10 @@ horizon-refused T out = go (leb 1 T && leb T 30) refl
     go : (b : Bool) → (leb 1 T && leb T 30) ≡ b → cond {A = Option ℕ} b none (some 0) ≡ some 0
     go true e = let t = last (leb 1 T) e in absurd (out (leb-true _ _ (t .0), leb-true _ _ (t .1)))
     go false e = refl
+
+-- a history's values are as many as its atoms where 10 does not come
+pub right-length : (atoms count : ℕ) → wrongLength atoms count ≡ none → count ≡ atoms
+right-length atoms count h = eqb-true count atoms (passed (eqb count atoms) none count h .0)
 
 -- Laws
 

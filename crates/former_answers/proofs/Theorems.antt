@@ -1,12 +1,10 @@
 -- The answers of the history check and of the completion formulas changed exactly as 02, §5 says.
 -- Assumes nothing.
 use mathlib.Core.Path.{_≡_, refl, sym, _∙_, ap}
-use mathlib.Core.Bool.{Bool, true, false, cond}
 use mathlib.Core.List.{List}
 use mathlib.Core.Option.{Option, none, some}
 use Prim.Native.Nat.{ℕ}
 use native.Mathlib.Omega.{arith}
-use borrow.Author.Tests.{eqb-true}
 use lib.Dec.{eqb}
 use lib.ListN.{length}
 use Rattle.search.specs.Search.{first, Lowest}
@@ -18,6 +16,7 @@ use Rattle.answer_sets.specs.Answers as engine
 use Rattle.description.specs.declared.Law.{Law}
 use Rattle.description.specs.declared.Description.{Description}
 use Rattle.description.specs.Atoms.{wrongLength}
+use Rattle.description.proofs.Laws.{right-length}
 use Rattle.translation.specs.Translated as translated
 use Rattle.translation.specs.Translated.{Written, written}
 use Rattle.translation_bounds.proofs.Tables.{engine-accepts, engine-judges}
@@ -78,14 +77,8 @@ module _ (d : Description) (ls : List Law) (lent : ℕ) (vs : List ℕ) (room : 
       go (refused number place) e = refused-changed history.missing (λ b. history.judged (clash b)) vs refl refl
       go (answered (written a r w)) e =
           tested-changed history.missing (λ b. history.judged (clash b)) vs (wrongLength a (length vs)) 10
-          (λ right. tested-changed history.missing (λ b. history.judged (clash b)) vs (badValue vs) 11 (λ small. finding-changed e (size right) small))
-        where
-          size : wrongLength a (length vs) ≡ none → length vs ≡ a
-          size right = by-test (eqb (length vs) a) refl right
-            where
-              by-test : (b : Bool) → eqb (length vs) a ≡ b → cond b none (some (length vs)) ≡ none → length vs ≡ a
-              by-test true t q = eqb-true (length vs) a t
-              by-test false f q = let z : _≡_ {A = ℕ} 0 1 = cc in absurd (omega arith)
+          (λ right. tested-changed history.missing (λ b. history.judged (clash b)) vs (badValue vs) 11
+          (λ small. finding-changed e (right-length a (length vs) right) small))
 
 pub history-changed : HistoryChanged
 history-changed = checked-changed

@@ -5,3 +5,4 @@ pub mod Lists
 pub mod Loops
 pub mod Stored
 pub mod Tables
+pub mod Replies

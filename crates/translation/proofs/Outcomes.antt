@@ -1,26 +1,22 @@
 -- What a translation that is written tells: no refusal held, and the counts are the definition's.
 -- Assumes nothing.
-use mathlib.Core.Path.{_≡_, refl, sym, _∙_, ap}
+use mathlib.Core.Path.{_≡_, refl, sym, ap}
 use mathlib.Core.Bool.{Bool, true, false, cond}
 use mathlib.Core.List.{List}
-use mathlib.Core.Option.{Option, none, some}
+use mathlib.Core.Option.{none, some}
 use Prim.Native.Nat.{ℕ, _≤_, _<_}
 use native.Mathlib.Omega.{arith}
 use borrow.Author.Tests.{ltb-false, le-ltb, lt-ltb}
 use lib.Dec.{ltb}
 use lib.ListN.{length}
-use Rattle.search.specs.Replies.{Reply, refused, answered, orRefuse}
+use Rattle.search.specs.Replies.{Reply, refused, answered}
+use Rattle.search.proofs.Replies.{orRefuse-answered}
 use Rattle.description.specs.declared.Law.{Law}
 use Rattle.description.specs.declared.Description.{Description}
 use Rattle.description.specs.Atoms.{atomCount}
 use Rattle.description.specs.Acceptance.{badRecord, badHorizon}
 use Rattle.description.proofs.Laws.{accepted-counts, accepted-horizon}
 use Rattle.translation.specs.Translated.{Written, written, tooShort, rulesFor, tableFor, outcome, overwritten, tableAfter}
-
--- no refusal was made where the end is no refusal
-passed : (o : Option ℕ) (number : ℕ) (next : Reply Written) {w : Written} → orRefuse o number next ≡ answered w → (o ≡ none) × (next ≡ answered w)
-passed none number next e = (refl, e)
-passed (some place) number next e = absurd (let z : _≡_ {A = ℕ} 0 1 = cc in omega arith)
 
 enough : (needed room : ℕ) → tooShort needed room ≡ none → needed ≤ room
 enough needed room e = go (ltb room needed) refl e
@@ -41,9 +37,9 @@ pub written-accepted : (d : Description) (ls : List Law) (lent room : ℕ) {a r 
     → Accepted d ls lent room a r w
 unfolding outcome
 written-accepted d ls lent room e =
-    let p₁ = passed (badRecord d ls lent) 8 _ e in
-    let p₂ = passed (badHorizon (d .horizon)) 3 _ (p₁ .1) in
-    let p₃ = passed (tooShort (length (tableFor d ls)) room) 9 _ (p₂ .1) in
+    let p₁ = orRefuse-answered (badRecord d ls lent) 8 _ e in
+    let p₂ = orRefuse-answered (badHorizon (d .horizon)) 3 _ (p₁ .1) in
+    let p₃ = orRefuse-answered (tooShort (length (tableFor d ls)) room) 9 _ (p₂ .1) in
     record {
       taken = p₁ .0;
       horizon = p₂ .0;

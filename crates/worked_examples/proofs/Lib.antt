@@ -14,4 +14,5 @@ pub mod WorkedLong
 pub mod WorkedOutputs
 pub mod WorkedFormulas
 pub mod WorkedFaults
+pub mod WorkedCuts
 pub mod Worked

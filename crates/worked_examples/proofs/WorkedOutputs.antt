@@ -30,6 +30,7 @@ use Rattle.worked_examples.specs.Short.{shortOutputExamples}
 use Rattle.worked_examples.specs.Log.{logOutputs}
 use Rattle.worked_examples.specs.Capitals.{styleOutputs}
 use Rattle.worked_examples.specs.Faults.{faultOutputs}
+use Rattle.worked_examples.specs.Cuts.{cutOutputs}
 use Rattle.worked_examples.specs.Worked.{outputExamples}
 
 pub output-examples : Each Holds outputExamples
@@ -51,3 +52,7 @@ style-outputs = (refl, (refl, tt))
 pub fault-outputs : Each Holds faultOutputs
 unfolding output decimal shownFluent engine.answer verdict rulesOf badRule setOf holdsTrue holdsFalse complement badRecord badHorizon translation translated.outcome history.checked causalVerdict causal.reading cut keyNumber firstLine isName literal items listOf horizonOf headOf lineStep described readHistory recordedIn
 fault-outputs = (refl, (refl, (refl, tt)))
+
+pub cut-outputs : Each Holds cutOutputs
+unfolding output decimal shownFluent engine.answer verdict rulesOf badRule setOf holdsTrue holdsFalse complement badRecord badHorizon translation translated.outcome history.checked causalVerdict causal.reading cut keyNumber firstLine isName literal items listOf horizonOf headOf lineStep described readHistory recordedIn
+cut-outputs = (refl, (refl, (refl, (refl, (refl, tt)))))

@@ -20,6 +20,7 @@ use Rattle.history.specs.Checks.{Finding}
 use Rattle.former_answers.specs.Former.{formerChecked, formerAnswer, formerAnswerByLevels}
 use Rattle.causal.specs.Verdicts.{Causal, contradicted, uncaused, path, causalVerdict}
 use Rattle.causal.specs.Readings as causal
+use Rattle.cut_and_join.specs.Halves.{firstSteps, laterSteps, lastState, firstState, joined}
 use Rattle.description_reader.specs.Descriptions.{Taken, described}
 use Rattle.description_reader.specs.Answers.{recordOf, lawsLeft}
 use Rattle.shown_names.specs.Shown.{shownFluent, shownAction}
@@ -79,6 +80,12 @@ pub data Example : Type 0 where
   historySaid : Description → List Law → List ℕ → Reply Finding → Example
   historyLeaves : Description → List Law → List ℕ → List ℕ → List ℕ → Example
   causalSays : Description → List Law → List ℕ → Reply Causal → Example
+  -- values of n fluents and m actions cut after k steps, and their two halves
+  cutAs : ℕ → ℕ → ℕ → List ℕ → List ℕ → List ℕ → Example
+  -- two histories over n fluents, and the two joined
+  joinedAs : ℕ → List ℕ → List ℕ → List ℕ → Example
+  -- the first and the last state of values over n fluents
+  statesAre : ℕ → List ℕ → List ℕ → List ℕ → Example
   -- of some lists of values, those that are paths
   pathsAre : ℕ → ℕ → ℕ → List Law → List (List ℕ) → List (List ℕ) → Example
   -- a run of so many law records is lent, a text, and what is read of it
@@ -118,6 +125,9 @@ Holds (historySays d ls vs reply) = history.checked d ls (length ls) vs room ≡
 Holds (historySaid d ls vs reply) = formerChecked d ls (length ls) vs room ≡ reply
 Holds (historyLeaves d ls vs before after) = history.tableAfter d ls (length ls) vs before ≡ after
 Holds (causalSays d ls vs reply) = causal.reading d ls (length ls) vs ≡ reply
+Holds (cutAs n m k vs first later) = (firstSteps n m k vs ≡ first) × (laterSteps n m k vs ≡ later)
+Holds (joinedAs n vs ws whole) = joined n vs ws ≡ whole
+Holds (statesAre n vs first last) = (firstState n vs ≡ first) × (lastState n vs ≡ last)
 Holds (pathsAre n m T ls vss expected) = paths n m T ls vss ≡ expected
 Holds (reads lent text reply) = described lent text ≡ reply
 Holds (readsHistory description text values reply) = readHistory description text values ≡ reply

@@ -12,4 +12,5 @@ pub mod Capitals
 pub mod Transitions
 pub mod Formulas
 pub mod Faults
+pub mod Cuts
 pub mod Worked

@@ -12,7 +12,7 @@ use Rattle.history.specs.Checks.{missing, judged}
 use Rattle.written_form.specs.Writing.{asDeclared}
 use Rattle.written_form.specs.HistoryWriting.{everyAction, onlyDone}
 use Rattle.worked_examples.specs.Texts.{recipeText, historyText, m2Text}
-use Rattle.worked_examples.specs.Outputs.{recipeCounts, m2Output, m3Output, m4Output}
+use Rattle.worked_examples.specs.Outputs.{recipeCounts, passedLines, m2Output, m3Output, m4Output}
 use Rattle.worked_examples.specs.Recipe.{recipeFluents, recipeActions}
 use Rattle.worked_examples.specs.Examples.{Example, historySays, causalSays, readsHistory, writesHistory, lacksAction, prints}
 
@@ -125,16 +125,7 @@ twoOutput =
     ++ (114 ∷ 117 ∷ 108 ∷ 101 ∷ 115 ∷ 61 ∷ 49 ∷ 51 ∷ 10 ∷ [])
     -- words=52
     ++ (119 ∷ 111 ∷ 114 ∷ 100 ∷ 115 ∷ 61 ∷ 53 ∷ 50 ∷ 10 ∷ [])
-    -- answer=passes
-    ++ (97 ∷ 110 ∷ 115 ∷ 119 ∷ 101 ∷ 114 ∷ 61 ∷ 112 ∷ 97 ∷ 115 ∷ 115 ∷ 101 ∷ 115 ∷ 10 ∷ [])
-    -- at=
-    ++ (97 ∷ 116 ∷ 61 ∷ 10 ∷ [])
-    -- causal=path
-    ++ (99 ∷ 97 ∷ 117 ∷ 115 ∷ 97 ∷ 108 ∷ 61 ∷ 112 ∷ 97 ∷ 116 ∷ 104 ∷ 10 ∷ [])
-    -- time=
-    ++ (116 ∷ 105 ∷ 109 ∷ 101 ∷ 61 ∷ 10 ∷ [])
-    -- item=
-    ++ (105 ∷ 116 ∷ 101 ∷ 109 ∷ 61 ∷ 10 ∷ [])
+    ++ passedLines
 
 -- false actions are listed at time 1 alone
 abbrev pub secondTime : ℕ → ℕ → Bool

@@ -15,12 +15,11 @@ recipeCounts =
     -- words=53
     ++ (119 ∷ 111 ∷ 114 ∷ 100 ∷ 115 ∷ 61 ∷ 53 ∷ 51 ∷ 10 ∷ [])
 
--- what 01 prints for its full recipe
-abbrev pub passedOutput : List ℕ
-passedOutput =
-    recipeCounts
+-- what is printed behind the counts where a history passes
+abbrev pub passedLines : List ℕ
+passedLines =
     -- answer=passes
-    ++ (97 ∷ 110 ∷ 115 ∷ 119 ∷ 101 ∷ 114 ∷ 61 ∷ 112 ∷ 97 ∷ 115 ∷ 115 ∷ 101 ∷ 115 ∷ 10 ∷ [])
+    (97 ∷ 110 ∷ 115 ∷ 119 ∷ 101 ∷ 114 ∷ 61 ∷ 112 ∷ 97 ∷ 115 ∷ 115 ∷ 101 ∷ 115 ∷ 10 ∷ [])
     -- at=
     ++ (97 ∷ 116 ∷ 61 ∷ 10 ∷ [])
     -- causal=path
@@ -29,6 +28,12 @@ passedOutput =
     ++ (116 ∷ 105 ∷ 109 ∷ 101 ∷ 61 ∷ 10 ∷ [])
     -- item=
     ++ (105 ∷ 116 ∷ 101 ∷ 109 ∷ 61 ∷ 10 ∷ [])
+
+-- what 01 prints for its full recipe
+abbrev pub passedOutput : List ℕ
+passedOutput =
+    recipeCounts
+    ++ passedLines
 
 -- M1 to M5
 abbrev pub m1Output : List ℕ
@@ -120,16 +125,7 @@ doorOutput =
     ++ (114 ∷ 117 ∷ 108 ∷ 101 ∷ 115 ∷ 61 ∷ 55 ∷ 10 ∷ [])
     -- words=28
     ++ (119 ∷ 111 ∷ 114 ∷ 100 ∷ 115 ∷ 61 ∷ 50 ∷ 56 ∷ 10 ∷ [])
-    -- answer=passes
-    ++ (97 ∷ 110 ∷ 115 ∷ 119 ∷ 101 ∷ 114 ∷ 61 ∷ 112 ∷ 97 ∷ 115 ∷ 115 ∷ 101 ∷ 115 ∷ 10 ∷ [])
-    -- at=
-    ++ (97 ∷ 116 ∷ 61 ∷ 10 ∷ [])
-    -- causal=path
-    ++ (99 ∷ 97 ∷ 117 ∷ 115 ∷ 97 ∷ 108 ∷ 61 ∷ 112 ∷ 97 ∷ 116 ∷ 104 ∷ 10 ∷ [])
-    -- time=
-    ++ (116 ∷ 105 ∷ 109 ∷ 101 ∷ 61 ∷ 10 ∷ [])
-    -- item=
-    ++ (105 ∷ 116 ∷ 101 ∷ 109 ∷ 61 ∷ 10 ∷ [])
+    ++ passedLines
 
 -- for horizon 2, a fault at time 2
 abbrev pub lateFaultOutput : List ℕ

@@ -1,7 +1,7 @@
 -- Worked examples of all layers, gathered as one list: the full recipe and M1 to M10 with all that 01 prints of them, the
 -- horizons and tables at the limits, the transitions of 000's two examples, and the rules of the text format, of the short
--- laws, of the command log and of letter case one by one; the same recipes and programs by the completion formulas; and
--- histories with atoms of both faults.
+-- laws, of the command log and of letter case one by one; the same recipes and programs by the completion formulas;
+-- histories with atoms of both faults; and histories cut and joined.
 -- Assumes nothing.
 use mathlib.Core.List.{List, [], _∷_, _++_, map}
 use Prim.Native.Nat.{ℕ}
@@ -16,6 +16,7 @@ use Rattle.description.specs.Examples.{recipe, recipeLaws, door, doorLaws, wate
 use Rattle.translation.specs.Translated.{written}
 use Rattle.history.specs.Checks.{Finding, missing, judged}
 use Rattle.causal.specs.Verdicts.{Causal, contradicted, uncaused, path}
+use Rattle.cut_and_join.specs.Halves.{withHorizon}
 use Rattle.description_reader.specs.Descriptions.{read}
 use Rattle.written_form.specs.Writing.{inFull, asDeclared}
 use Rattle.written_form.specs.HistoryWriting.{everyAction}
@@ -35,6 +36,7 @@ use Rattle.worked_examples.specs.Capitals.{styleExamples, styleOutputs, 
 use Rattle.worked_examples.specs.Transitions.{doorTransitions, waterTransitions}
 use Rattle.worked_examples.specs.Formulas.{crateFormulas, crateLevels, formulaExamples}
 use Rattle.worked_examples.specs.Faults.{faultExamples, faultOutputs}
+use Rattle.worked_examples.specs.Cuts.{cutExamples, joinExamples, apartExamples, cutOutputs}
 use Rattle.worked_examples.specs.Format.{readerExamples, lineExamples, historyExamples, longExamples}
 
 -- an engine example of the crate below
@@ -47,10 +49,6 @@ both d ls vs answer reading = historySays d ls vs answer ∷ causalSays d ls vs 
 
 abbrev pub ofRecipe : List ℕ → Reply Finding → Reply Causal → List Example
 ofRecipe vs answer reading = both recipe recipeLaws vs answer reading
-
--- the full recipe for another horizon
-abbrev pub recipeFor : ℕ → Description
-recipeFor T = record { fluents = 2; actions = 1; laws = 6; horizon = T }
 
 -- by records and values
 abbrev pub recordExamples : List Example
@@ -82,8 +80,8 @@ recordExamples =
     ++ both (door 2) doorLaws (1 ∷ 2 ∷ 1 ∷ 2 ∷ 2 ∷ []) (answered (judged (unfounded 9))) (answered (uncaused 2 0))
     ++ both (door 2) doorLaws (1 ∷ 2 ∷ 1 ∷ 1 ∷ 1 ∷ []) (answered (judged (broken 4))) (answered (contradicted 2 1))
     -- horizons at the limits
-    ++ (translates (recipeFor 0) recipeLaws 53 (refused 3 0) ∷ translates (recipeFor 1) recipeLaws 53 (answered (written 5 12 53)) ∷ [])
-    ++ (translates (recipeFor 30) recipeLaws 1126 (answered (written 92 244 1126)) ∷ translates (recipeFor 31) recipeLaws 1200 (refused 3 0) ∷ [])
+    ++ (translates (withHorizon recipe 0) recipeLaws 53 (refused 3 0) ∷ translates (withHorizon recipe 1) recipeLaws 53 (answered (written 5 12 53)) ∷ [])
+    ++ (translates (withHorizon recipe 30) recipeLaws 1126 (answered (written 92 244 1126)) ∷ translates (withHorizon recipe 31) recipeLaws 1200 (refused 3 0) ∷ [])
 
 -- 30,912 words for the largest table are enough, and one fewer are refused
 abbrev pub largestExamples : List Example
@@ -201,4 +199,8 @@ worked =
     ∷ formulaExamples
     ∷ faultExamples
     ∷ faultOutputs
+    ∷ cutExamples
+    ∷ joinExamples
+    ∷ apartExamples
+    ∷ cutOutputs
     ∷ [])

@@ -1,0 +1,54 @@
+-- When a history passes, once for the path and once for each of demand 3's readings, by the definitions that the public functions
+-- promise. Each reading is of a description, a run of laws of which some number is lent, values, and a table lent.
+-- Assumes nothing.
+use mathlib.Core.Path.{_≡_}
+use mathlib.Core.List.{List}
+use Prim.Native.Nat.{ℕ, _≤_}
+use lib.ListN.{length, take}
+use Rattle.search.specs.Replies.{answered}
+use Rattle.logic_programs.specs.Literals.{setOf}
+use Rattle.logic_programs.specs.AnswerSets.{AnswerSet}
+use Rattle.answer_sets.specs.Verdicts.{passes}
+use Rattle.answer_sets.specs.Answers as engine
+use Rattle.literal_completion.specs.Findings.{holds}
+use Rattle.literal_completion.specs.Answers as completion
+use Rattle.description.specs.declared.Law.{Law}
+use Rattle.description.specs.declared.Description.{Description}
+use Rattle.translation.specs.Translated.{rulesFor, tableFor, tableAfter}
+use Rattle.history.specs.Checks as history
+use Rattle.causal.specs.Verdicts.{path}
+use Rattle.causal.specs.Readings as causal
+use Rattle.correctness.specs.Demand3.{Complete, PathOf}
+
+abbrev pub Reading : Type 1
+Reading = Description → List Law → ℕ → List ℕ → List ℕ → Type 0
+
+-- a path of causally explained transitions
+abbrev pub byPath : Reading
+byPath d ls lent vs table = PathOf d ls vs
+
+-- an answer set of the published translation
+abbrev pub byAnswerSet : Reading
+byAnswerSet d ls lent vs table = AnswerSet (rulesFor d ls) (setOf vs)
+
+-- the engine passes, on the words that the translation leaves in front
+abbrev pub byEngine : Reading
+byEngine d ls lent vs table = engine.answer vs (take (length (tableFor d ls)) (tableAfter d ls lent table)) ≡ answered passes
+
+-- the completion formulas of these words hold
+abbrev pub byFormulas : Reading
+byFormulas d ls lent vs table = completion.answer vs (take (length (tableFor d ls)) (tableAfter d ls lent table)) ≡ answered holds
+
+-- the history check passes
+abbrev pub byHistory : Reading
+byHistory d ls lent vs table = history.checked d ls lent vs (length table) ≡ answered (history.judged passes)
+
+-- the causal reading says path
+abbrev pub byCauses : Reading
+byCauses d ls lent vs table = causal.reading d ls lent vs ≡ answered path
+
+-- passed: the description is accepted, the values are one for each atom, and the reading passes them, whatever table is lent that
+-- is long enough
+pub record Passed (Passes : Reading) (d : Description) (ls : List Law) (lent : ℕ) (vs : List ℕ) : Type 0 where
+  pub complete : Complete d ls lent vs
+  pub passes : (table : List ℕ) → length (tableFor d ls) ≤ length table → Passes d ls lent vs table

@@ -1,0 +1,30 @@
+-- The worked examples of cutting and joining hold.
+-- Assumes nothing.
+use mathlib.Core.Path.{refl}
+use Rattle.search.specs.Search.{Each}
+use Rattle.logic_programs.specs.Literals.{complement, setOf, holdsTrue, holdsFalse}
+use Rattle.logic_programs.specs.Words.{rulesOf, badRule}
+use Rattle.answer_sets.specs.Verdicts.{verdict}
+use Rattle.answer_sets.specs.Answers as engine
+use Rattle.literal_completion.specs.Findings as formulas
+use Rattle.literal_completion.specs.Answers as completion
+use Rattle.description.specs.Acceptance.{badRecord, badHorizon}
+use Rattle.translation.specs.Rules.{translation}
+use Rattle.translation.specs.Translated as translated
+use Rattle.history.specs.Checks as history
+use Rattle.causal.specs.Verdicts.{causalVerdict}
+use Rattle.causal.specs.Readings as causal
+use Rattle.worked_examples.specs.Examples.{Holds}
+use Rattle.worked_examples.specs.Cuts.{cutExamples, joinExamples, apartExamples}
+
+pub cut-examples : Each Holds cutExamples
+unfolding engine.answer verdict rulesOf badRule setOf holdsTrue holdsFalse complement badRecord badHorizon translation translated.outcome history.checked causalVerdict causal.reading completion.answer formulas.finding formulas.judged
+cut-examples = (refl, (refl, (refl, (refl, ((refl, refl), (refl, (refl, (refl, (refl, (refl, (refl, (refl, (refl, ((refl, refl), (refl, (refl, (refl, (refl, (refl, (refl, (refl, (refl, (refl, (refl, (refl, (refl, ((refl, refl), (refl, (refl, (refl, (refl, (refl, (refl, (refl, (refl, ((refl, refl), (refl, (refl, (refl, (refl, (refl, (refl, (refl, (refl, ((refl, refl), (refl, (refl, (refl, (refl, (refl, (refl, (refl, (refl, ((refl, refl), ((refl, refl), (refl, (refl, tt)))))))))))))))))))))))))))))))))))))))))))))))))))))))))
+
+pub join-examples : Each Holds joinExamples
+unfolding engine.answer verdict rulesOf badRule setOf holdsTrue holdsFalse complement badRecord badHorizon translation translated.outcome history.checked causalVerdict causal.reading completion.answer formulas.finding formulas.judged
+join-examples = ((refl, refl), ((refl, refl), (refl, (refl, (refl, (refl, (refl, (refl, (refl, (refl, (refl, (refl, (refl, (refl, (refl, (refl, (refl, tt)))))))))))))))))
+
+pub apart-examples : Each Holds apartExamples
+unfolding engine.answer verdict rulesOf badRule setOf holdsTrue holdsFalse complement badRecord badHorizon translation translated.outcome history.checked causalVerdict causal.reading completion.answer formulas.finding formulas.judged
+apart-examples = (refl, (refl, (refl, (refl, ((refl, refl), (refl, (refl, (refl, (refl, (refl, (refl, (refl, (refl, (refl, (refl, (refl, (refl, (refl, (refl, (refl, (refl, (refl, (refl, (refl, (refl, (refl, (refl, tt)))))))))))))))))))))))))))
