@@ -31,7 +31,7 @@ pub fn explained_values(random: &mut Random, description: &Description) -> Vec<u
 }
 
 /// A random state, mended until it satisfies the static laws or no try is left.
-fn first_state(random: &mut Random, description: &Description) -> Vec<bool> {
+pub fn first_state(random: &mut Random, description: &Description) -> Vec<bool> {
     let mut state = truths(random, description.fluents.len());
     for _ in 0..TRIES * MENDS {
         let broken = |law: &&Law| {
@@ -74,7 +74,7 @@ fn step(random: &mut Random, description: &Description, state: &[bool]) -> (Vec<
 }
 
 /// Changes a guess at the next state towards what the laws cause. True if the guess ends up explained.
-fn mend(random: &mut Random, description: &Description, before: &[bool], next: &mut [bool]) -> bool {
+pub fn mend(random: &mut Random, description: &Description, before: &[bool], next: &mut [bool]) -> bool {
     for _ in 0..MENDS {
         let Some(caused) = caused(description, before, next) else {
             return false;

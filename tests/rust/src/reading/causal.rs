@@ -66,6 +66,15 @@ pub fn causal_reading(description: &Description, values: &[u8]) -> Result<Causal
     Ok(read_causes(description, values))
 }
 
+/// The numbers of the laws that apply in the step that ends at `time`, which is above 0. The values are one for each atom.
+pub fn applying(description: &Description, values: &[u8], time: usize) -> Vec<usize> {
+    let history = History { description, values };
+    let laws = description.laws.iter().enumerate();
+    laws.filter(|(_, law)| history.applies(law, time))
+        .map(|(number, _)| number)
+        .collect()
+}
+
 fn read_causes(description: &Description, values: &[u8]) -> Causal {
     let history = History { description, values };
     let breaks_state =

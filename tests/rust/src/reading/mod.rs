@@ -1,5 +1,5 @@
-//! The contract, read independently: text, translation, engine, completion formulas, history check, causal reading and
-//! printed output.
+//! The contract, read independently: text, translation, engine, completion formulas, history check, causal reading, printed
+//! output, and recipes cut and joined.
 
 pub mod causal;
 pub mod check;
@@ -7,6 +7,7 @@ pub mod completion;
 pub mod description;
 pub mod engine;
 pub mod faults;
+pub mod halves;
 pub mod history;
 pub mod lines;
 pub mod model;
@@ -17,6 +18,8 @@ pub mod translation;
 
 #[cfg(test)]
 mod command_log;
+#[cfg(test)]
+mod cut_and_joined;
 #[cfg(test)]
 mod examples;
 #[cfg(test)]
