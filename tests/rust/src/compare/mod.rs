@@ -3,9 +3,13 @@
 pub mod brute;
 pub mod completion;
 pub mod formulas;
+pub mod halves;
 pub mod letters;
 pub mod logs;
+pub mod misplaced;
 pub mod orders;
+pub mod parts;
+pub mod program;
 pub mod tables;
 pub mod tally;
 pub mod texts;
@@ -26,10 +30,13 @@ mod stored;
 mod wrong_faults;
 #[cfg(test)]
 mod wrong_formulas;
+#[cfg(test)]
+mod wrong_halves;
 
 use crate::calls::Calls;
 use crate::generate::tables::case;
 use crate::random::Random;
+use program::Program;
 use std::io::{self, Write};
 use tally::Tally;
 
@@ -41,6 +48,22 @@ pub struct Plan {
     pub tables: usize,
     /// How often each answer code must have been seen at the end.
     pub least: u64,
+}
+
+/// For so many texts there is one case of recipes that are cut or joined.
+const TEXTS_A_HALF: usize = 30;
+/// One in so many of these cases goes through the program too, where one is given.
+const HALVES_A_PROGRAM: usize = 12;
+/// Recipes cut and joined cost more than other cases and processes cost most, so that each kind need be seen only so many
+/// times fewer than an answer code.
+const PARTS_FEWER: u64 = 2;
+const PROGRAM_FEWER: u64 = 4;
+
+impl Plan {
+    /// How many cases of recipes that are cut or joined there are.
+    pub fn halves(&self) -> usize {
+        self.texts / TEXTS_A_HALF
+    }
 }
 
 /// What a first difference looks like, in words that let it be made again.
@@ -55,14 +78,29 @@ fn case_random(seed: u64, stream: u64, number: usize) -> Random {
 
 /// Runs the plan. True if there is no difference and every code was seen often enough.
 pub fn run(library: &impl Calls, plan: &Plan, out: &mut impl Write) -> io::Result<bool> {
+    run_beside(library, None, plan, out)
+}
+
+/// The same beside a program, which some of the recipes go through.
+pub fn run_beside(
+    library: &impl Calls,
+    program: Option<&dyn Program>,
+    plan: &Plan,
+    out: &mut impl Write,
+) -> io::Result<bool> {
     writeln!(out, "seed {}", plan.seed)?;
     let mut tally = Tally::new();
-    if let Err(found) = all_cases(library, plan, &mut tally) {
+    let cases = all_cases(library, plan, &mut tally);
+    if let Err(found) = cases.and_then(|()| half_cases(library, program, plan, &mut tally)) {
         writeln!(out, "difference: {}", found.0)?;
         return Ok(false);
     }
     tally.print(out)?;
-    let rare = tally.too_rare(plan.least);
+    let mut rare = tally.too_rare(plan.least);
+    rare.extend(tally.rare_parts(plan.least / PARTS_FEWER));
+    if program.is_some() {
+        rare.extend(tally.rare_by_program(plan.least / PROGRAM_FEWER));
+    }
     for line in &rare {
         writeln!(out, "seen too rarely: {line}")?;
     }
@@ -98,6 +136,22 @@ fn table_cases(library: &impl Calls, plan: &Plan, number: usize, tally: &mut Tal
         completion::compare_table(library, &made, &mut random, tally)?;
     }
     completion::compare(library, &mut random, tally)
+}
+
+/// Recipes that are cut or joined, by random numbers of their own.
+fn half_cases(
+    library: &impl Calls,
+    program: Option<&dyn Program>,
+    plan: &Plan,
+    tally: &mut Tally,
+) -> Result<(), Difference> {
+    for number in 0..plan.halves() {
+        let mut random = case_random(plan.seed, 5, number);
+        let program = program.filter(|_| number.is_multiple_of(HALVES_A_PROGRAM));
+        halves::compare(library, program, &mut random, tally)
+            .map_err(|found| located(plan, "recipe", number, &found))?;
+    }
+    Ok(())
 }
 
 fn located(plan: &Plan, sort: &str, number: usize, found: &Difference) -> Difference {

@@ -4,6 +4,7 @@ use super::formulas::{Formula, FORMULAS};
 use super::letters::{Capital, CAPITALS};
 use super::logs::{Log, LOGS};
 use super::orders::{Order, ORDERS};
+use super::parts::{Part, PARTS, PROGRAM_PARTS};
 use crate::answer::{
     meaning, BROKEN, CLASH, CONTRADICTED, FAILS, HOLDS, MISSING, PASSES, PATH, READ, UNCAUSED, UNFOUNDED, WRITTEN,
 };
@@ -92,6 +93,8 @@ pub struct Tally {
     formulas: [u64; FORMULAS.len()],
     /// Sets with atoms of no value and atoms of both.
     orders: [u64; ORDERS.len()],
+    /// Recipes that are cut and joined, those by the program last.
+    parts: [u64; PARTS.len() + PROGRAM_PARTS.len()],
 }
 
 impl Default for Tally {
@@ -115,6 +118,7 @@ impl Tally {
             capitals: [0; CAPITALS.len()],
             formulas: [0; FORMULAS.len()],
             orders: [0; ORDERS.len()],
+            parts: [0; PARTS.len() + PROGRAM_PARTS.len()],
         }
     }
 
@@ -136,6 +140,10 @@ impl Tally {
 
     pub fn order(&mut self, order: Order) {
         self.orders[order as usize] += 1;
+    }
+
+    pub fn part(&mut self, part: Part) {
+        self.parts[part as usize] += 1;
     }
 
     pub fn call(&mut self, call: Call) {
@@ -202,12 +210,27 @@ impl Tally {
         for ((_, name), count) in ORDERS.iter().zip(self.orders) {
             writeln!(out, "missing and clash, {name}: {count}")?;
         }
+        self.print_parts(out)?;
         let [no, yes] = self.defined;
         writeln!(
             out,
             "tables held against the definition: {yes} answer sets, {no} others"
         )?;
         self.print_codes(out)
+    }
+
+    /// Recipes that were cut and joined; those by the program where there were any.
+    fn print_parts(&self, out: &mut impl Write) -> io::Result<()> {
+        let (parts, by_program) = self.parts.split_at(PARTS.len());
+        for ((_, name), count) in PARTS.iter().zip(parts) {
+            writeln!(out, "recipes, {name}: {count}")?;
+        }
+        if by_program.iter().any(|count| *count > 0) {
+            for ((_, name), count) in PROGRAM_PARTS.iter().zip(by_program) {
+                writeln!(out, "recipes by the program, {name}: {count}")?;
+            }
+        }
+        Ok(())
     }
 
     /// How many calls of each kind were made, and how often each code was answered.
@@ -241,6 +264,21 @@ impl Tally {
     /// The kinds of sets with both faults that were seen fewer times than asked for.
     pub fn rare_orders(&self, least: u64) -> Vec<String> {
         rare("missing and clash", &ORDERS, &self.orders, least)
+    }
+
+    /// The kinds of recipes cut and joined that were seen fewer times than asked for.
+    pub fn rare_parts(&self, least: u64) -> Vec<String> {
+        rare("recipes", &PARTS, &self.parts, least)
+    }
+
+    /// The same of those that went through the program.
+    pub fn rare_by_program(&self, least: u64) -> Vec<String> {
+        rare(
+            "recipes by the program",
+            &PROGRAM_PARTS,
+            &self.parts[PARTS.len()..],
+            least,
+        )
     }
 
     /// The codes of each call, the forms of laws, the kinds of command logs, of capitals, of answers by the completion
