@@ -9,7 +9,8 @@
 //! - `cargo run --release --bin reading < INPUT`: what the reading prints where the program `check` prints its answer.
 //! - `cargo run --release --bin largest [HORIZON]`: the largest recipe, or a belt of some horizon.
 //! - `cargo run --release --bin completion_cases DIRECTORY`: the stored cases of the completion formulas, with answers.
-//! - `cargo run --release --bin compare [SEED [TEXTS [TABLES]]]`: the comparison, with the library linked.
+//! - `cargo run --release --bin compare [SEED [TEXTS [TABLES [CHECK]]]]`: the comparison, with the library linked, and
+//!   beside the program `check_main` where its path is given.
 //! - `cargo run --release --bin benchmark [CHECK [PROGRAM=RECIPE ...]]`: times, with the library linked.
 //! - `cargo run --release --features causal_times --bin causal_benchmark`: times of the causal reading by itself.
 //!

@@ -1,12 +1,15 @@
-//! Compares the linked library with the independent reading on random texts and tables.
+//! Compares the linked library with the independent reading on random texts and tables, and on recipes cut and joined.
 //!
-//! `compare [SEED [TEXTS [TABLES]]]`. A run prints its seed, so it can be made again.
+//! `compare [SEED [TEXTS [TABLES [CHECK]]]]`. A run prints its seed, so it can be made again. CHECK is the path of the
+//! program `check_main`, which reads a recipe and prints what is said of it; where it is given, some of the recipes cut and
+//! joined go through it too.
 
 #[path = "../lent.rs"]
 mod lent;
 
 use lent::Lent;
-use readings::compare::{run, Plan};
+use readings::compare::program::{Child, Program};
+use readings::compare::{run_beside, Plan};
 use std::env;
 use std::io::{self, Write};
 use std::process::ExitCode;
@@ -45,8 +48,11 @@ fn main() -> ExitCode {
             return ExitCode::from(2);
         }
     };
+    let child = env::args_os().nth(4).map(|path| Child { path: path.into() });
+    let program = child.as_ref().map(|child| child as &dyn Program);
     let mut out = io::stdout().lock();
-    match run(&Lent { watched: true }, &plan, &mut out).and_then(|good| out.flush().map(|()| good)) {
+    let done = run_beside(&Lent { watched: true }, program, &plan, &mut out);
+    match done.and_then(|good| out.flush().map(|()| good)) {
         Ok(true) => ExitCode::SUCCESS,
         Ok(false) => ExitCode::FAILURE,
         Err(reason) => {
