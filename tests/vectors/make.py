@@ -4,8 +4,8 @@
 READING is the program `reading` of tests/rust, an independent reading of the contract: the stored outputs are what it says, so
 that the checker is held against a second reading and never against itself. The inputs: every verdict and causal verdict, every
 refusal that a text can meet, limits from both sides, damaged lines of each kind, the same for short laws (short_laws.py),
-for command logs (command_log.py) and for capitals (letter_case.py), missing and clash in one history, with answers worked out
-by hand that the reading must give too (two_faults.py), and byte values 0 to 255 in names."""
+for command logs (command_log.py) and for capitals (letter_case.py), missing and clash in one history and recipes cut and joined,
+with answers worked out by hand that the reading must give too (two_faults.py, halves.py), and byte values 0 to 255 in names."""
 import sys
 
 sys.dont_write_bytecode = True
@@ -13,6 +13,7 @@ sys.dont_write_bytecode = True
 import subprocess
 
 import command_log
+import halves
 import letter_case
 import short_laws
 import two_faults
@@ -160,9 +161,9 @@ def main():
     def say(raw):
         return subprocess.run([sys.argv[1]], input=raw, stdout=subprocess.PIPE, check=True).stdout
 
-    stated = two_faults.cases()
+    stated, printed = two_faults.cases(), halves.cases()
     parts = [verdicts(), limits(), damaged(), misspelt(), short_laws.cases(), command_log.cases(), letter_case.cases()]
-    parts.append({name: text for name, (text, _) in stated.items()})
+    parts += [{name: text for name, (text, _) in part.items()} for part in (stated, printed)]
     cases = {name: text for part in parts for name, text in part.items()}
     assert len(cases) == sum(map(len, parts)), "a name is given twice"
     data = CRATE / "data"
@@ -175,13 +176,16 @@ def main():
         said = say(raw)
         if name in stated:
             assert is_stated(said, stated[name][1]), (name, stated[name][1], said)
+        if name in printed:
+            assert said.decode() == printed[name][1], (name, printed[name][1], said)
         outputs.append(name.encode() + b"\n" + said)
     (data / "every_byte").write_text(EVERY_BYTE)
     for value in range(256):
         outputs += [b"%sbyte %d\n" % (which, value) + say(with_byte(place, value)) for which, place in ((b"first ", 17), (b"", 18))]
     (CRATE / "args").write_text("".join(f"{name}\n" for name in cases))
     (CRATE / "stdout").write_bytes(b"".join(outputs))
-    print(f"{len(cases)} inputs, {len(stated)} of them with stated answers, and one with each byte value in two places")
+    by_hand = len(stated) + len(printed)
+    print(f"{len(cases)} inputs, {by_hand} of them with stated answers, and one with each byte value in two places")
 
 
 if __name__ == "__main__":
