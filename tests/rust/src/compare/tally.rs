@@ -198,18 +198,10 @@ impl Tally {
         for ((_, name), count) in LAWS.iter().zip(self.laws) {
             writeln!(out, "laws by {name}: {count}")?;
         }
-        for ((_, name), count) in LOGS.iter().zip(self.logs) {
-            writeln!(out, "histories, {name}: {count}")?;
-        }
-        for ((_, name), count) in CAPITALS.iter().zip(self.capitals) {
-            writeln!(out, "capitals, {name}: {count}")?;
-        }
-        for ((_, name), count) in FORMULAS.iter().zip(self.formulas) {
-            writeln!(out, "formulas, {name}: {count}")?;
-        }
-        for ((_, name), count) in ORDERS.iter().zip(self.orders) {
-            writeln!(out, "missing and clash, {name}: {count}")?;
-        }
+        print_kinds(out, "histories", &LOGS, &self.logs)?;
+        print_kinds(out, "capitals", &CAPITALS, &self.capitals)?;
+        print_kinds(out, "formulas", &FORMULAS, &self.formulas)?;
+        print_kinds(out, "missing and clash", &ORDERS, &self.orders)?;
         self.print_parts(out)?;
         let [no, yes] = self.defined;
         writeln!(
@@ -222,13 +214,9 @@ impl Tally {
     /// Recipes that were cut and joined; those by the program where there were any.
     fn print_parts(&self, out: &mut impl Write) -> io::Result<()> {
         let (parts, by_program) = self.parts.split_at(PARTS.len());
-        for ((_, name), count) in PARTS.iter().zip(parts) {
-            writeln!(out, "recipes, {name}: {count}")?;
-        }
+        print_kinds(out, "recipes", &PARTS, parts)?;
         if by_program.iter().any(|count| *count > 0) {
-            for ((_, name), count) in PROGRAM_PARTS.iter().zip(by_program) {
-                writeln!(out, "recipes by the program, {name}: {count}")?;
-            }
+            print_kinds(out, "recipes by the program", &PROGRAM_PARTS, by_program)?;
         }
         Ok(())
     }
@@ -303,6 +291,14 @@ impl Tally {
         }
         rare
     }
+}
+
+/// How often each of some kinds was seen.
+fn print_kinds<T>(out: &mut impl Write, what: &str, kinds: &[(T, &str)], counts: &[u64]) -> io::Result<()> {
+    for ((_, name), count) in kinds.iter().zip(counts) {
+        writeln!(out, "{what}, {name}: {count}")?;
+    }
+    Ok(())
 }
 
 /// Of some kinds, those seen fewer times than asked for.

@@ -3,6 +3,7 @@
 
 use super::parts::{PARTS, PROGRAM_PARTS};
 use super::program::Program;
+use super::stored::reports_otherwise;
 use super::tally::{Call, Tally};
 use super::{half_cases, run_beside, Plan, TEXTS_A_HALF};
 use crate::answer::{Answer, BROKEN, CONTRADICTED, FAILS, HOLDS, LAST_REFUSAL, PASSES, PATH};
@@ -290,6 +291,15 @@ fn every_wrong_call_on_texts_is_found() {
         for call in [Call::Report, Call::CausalReading] {
             assert!(is_found(&Library::new(slip, call)), "{slip:?} in {call:?}");
         }
+    }
+}
+
+#[test]
+fn every_wrong_report_is_found_by_stored_texts() {
+    assert_eq!(reports_otherwise(&Library::new(Slip::None, Call::Report)), 0);
+    for slip in OF_HISTORIES {
+        let found = reports_otherwise(&Library::new(slip, Call::Report));
+        assert!(found > 0, "{slip:?}");
     }
 }
 
