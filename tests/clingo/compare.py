@@ -12,10 +12,12 @@ completion formulas hold, or which is the first that fails, 65535 for that of
 false; and `solver_cases` writes that behind the verdict. They must hold of what
 passes, and of no other recipe. The second program also says what the verdict was
 while missing came before clash: it must be another one exactly where an atom with
-both values lies below the first with none, from missing there to clash.
+both values lies below the first with none, from missing there to clash. Besides,
+recipes that pass are cut in two and joined with others, and all of these must pass.
 
-    compare.py                       3,000 recipes and 3,000 tables
-    compare.py --recipes N --tables M --seed S --program PATH
+    compare.py                       3,000 recipes and 3,000 tables, and 160 recipes
+                                     with their halves and joins
+    compare.py --recipes N --tables M --halves K --seed S --program PATH
     compare.py --store DIR           writes a smaller part with clingo's verdicts,
                                      to be run later without clingo
     compare.py --translate FILE      prints the recipe in FILE for clingo, which
@@ -43,6 +45,7 @@ import solver
 from cases import agrees_with_statement, changed_verdicts, should_pass
 from chosen_recipes import chosen_recipes
 from chosen_tables import chosen_tables
+from half_cases import half_recipes
 from recipe_cases import random_recipes
 from table_cases import random_tables
 
@@ -299,6 +302,7 @@ def compare(options):
         return 1
     print("seed %d" % options.seed)
     recipes, tables = make_cases(options.seed, options.recipes, options.tables)
+    recipes += half_recipes(random.Random("halves %d" % options.seed), options.halves)
     recipe_lines, table_lines = judge(recipes), judge(tables)
     if recipe_lines is None or table_lines is None:
         return 1
@@ -374,6 +378,7 @@ def main():
     parser.add_argument("--seed", type=int, default=1)
     parser.add_argument("--recipes", type=int, default=3000)
     parser.add_argument("--tables", type=int, default=3000)
+    parser.add_argument("--halves", type=int, default=160, help="recipes to be cut and joined")
     parser.add_argument("--program", default=PROGRAM, help="path of solver_cases")
     parser.add_argument("--store", metavar="DIR")
     parser.add_argument("--translate", metavar="FILE")
