@@ -68,10 +68,10 @@ def cut_cases(rng, description, wholes):
     for whole, (first, second) in zip(wholes, halves):
         if not fits(first, second) or together(first, second) != whole:
             raise RuntimeError("the halves do not join into the whole: %r" % (whole,))
-    firsts, seconds = of_steps(description, steps), of_steps(description, description.horizon - steps)
+    shorter, rest = of_steps(description, steps), of_steps(description, description.horizon - steps)
     return (cases_of(rng, description, wholes, "whole to be cut")
-            + cases_of(rng, firsts, [first for first, _ in halves], "first half")
-            + cases_of(rng, seconds, [second for _, second in halves], "second half"))
+            + cases_of(rng, shorter, [first for first, _ in halves], "first half")
+            + cases_of(rng, rest, [second for _, second in halves], "second half"))
 
 
 def join_cases(rng, description, first):
