@@ -46,17 +46,16 @@ pub struct Plan {
     pub seed: u64,
     pub texts: usize,
     pub tables: usize,
-    /// How often each answer code must have been seen at the end.
+    /// How often each answer code and each kind of case must have been seen at the end.
     pub least: u64,
 }
 
 /// For so many texts there is one case of recipes that are cut or joined.
-const TEXTS_A_HALF: usize = 30;
+const TEXTS_A_HALF: usize = 20;
 /// One in so many of these cases goes through the program too, where one is given.
-const HALVES_A_PROGRAM: usize = 12;
-/// Recipes cut and joined cost more than other cases and processes cost most, so that each kind need be seen only so many
-/// times fewer than an answer code.
-const PARTS_FEWER: u64 = 2;
+const HALVES_A_PROGRAM: usize = 18;
+/// Processes cost most, so that each kind of recipe need go through the program only so many times less often than others
+/// are seen.
 const PROGRAM_FEWER: u64 = 4;
 
 impl Plan {
@@ -76,7 +75,7 @@ fn case_random(seed: u64, stream: u64, number: usize) -> Random {
     Random::new(mixer.bits())
 }
 
-/// Runs the plan. True if there is no difference and every code was seen often enough.
+/// Runs the plan. True if there is no difference and every code and kind was seen often enough.
 pub fn run(library: &impl Calls, plan: &Plan, out: &mut impl Write) -> io::Result<bool> {
     run_beside(library, None, plan, out)
 }
@@ -97,7 +96,6 @@ pub fn run_beside(
     }
     tally.print(out)?;
     let mut rare = tally.too_rare(plan.least);
-    rare.extend(tally.rare_parts(plan.least / PARTS_FEWER));
     if program.is_some() {
         rare.extend(tally.rare_by_program(plan.least / PROGRAM_FEWER));
     }

@@ -270,12 +270,13 @@ impl Tally {
     }
 
     /// The codes of each call, the forms of laws, the kinds of command logs, of capitals, of answers by the completion
-    /// formulas and of sets with both faults that were seen fewer times than asked for.
+    /// formulas, of sets with both faults and of recipes cut and joined that were seen fewer times than asked for.
     pub fn too_rare(&self, least: u64) -> Vec<String> {
         let mut rare = self.rare_logs(least);
         rare.extend(self.rare_capitals(least));
         rare.extend(self.rare_formulas(least));
         rare.extend(self.rare_orders(least));
+        rare.extend(self.rare_parts(least));
         for ((_, name), count) in LAWS.iter().zip(self.laws) {
             if count < least {
                 rare.push(format!("laws by {name}: {count}, wanted {least}"));
