@@ -87,11 +87,11 @@ uint64_t huntyghai_read_history(const uint8_t *description, size_t description_l
  * value is 0 and clash if it is 3. Codes 1 to 6, 9 to 11, 64 to 68. After every verdict the table's first words are the
  * description's rules.
  *
- * A history of T steps with n fluents and m actions that passes may be cut after k steps, k from 1 to T - 1: lend the text
- * with horizon k and the first k * (n + m) + n values, then the text with horizon T - k and the values from place
- * k * (n + m) on; both halves pass. Where the last n values of one history that passes are the first n of another under the
- * same laws, and both have at most 30 steps together, the values of the first and those of the second behind its first n
- * pass with the horizon of both together. */
+ * A history of T steps with n fluents and m actions that passes may be cut after k steps, k from 1 to T - 1: lend a text of
+ * the same description with horizon k and the first k * (n + m) + n values, then one with horizon T - k and the values from
+ * place k * (n + m) on; both halves pass, and the same table is long enough. Where the last n values of one history that
+ * passes are the first n of another of the same description, and both have at most 30 steps together, the values of the first
+ * and those of the second behind its first n pass with the horizon of both together. */
 uint64_t huntyghai_check_history(const uint8_t *text, size_t text_length, const uint8_t *values, size_t values_length,
                                  uint16_t *table, size_t table_length);
 

@@ -21,9 +21,11 @@ use Rattle.cut_and_join.specs.Passing.{Reading, byPath, byAnswerSet, byE
 
 -- what is said of each reading, of a description and laws of which some number is lent
 pub record ForReading (Passes : Reading) (d : Description) (ls : List Law) (lent : ℕ) : Type 0 where
+  -- a passed history, cut after k steps, gives two
   pub cut : (vs : List ℕ) (k : ℕ) → Passed Passes d ls lent vs → 1 ≤ k → k < d .horizon
       → Passed Passes (withHorizon d k) ls lent (firstSteps (d .fluents) (d .actions) k vs)
       × Passed Passes (withHorizon d (d .horizon - k)) ls lent (laterSteps (d .fluents) (d .actions) k vs)
+  -- two passed ones that meet in one state join into one
   pub join : (vs ws : List ℕ) (j k : ℕ) → Passed Passes (withHorizon d j) ls lent vs → Passed Passes (withHorizon d k) ls lent ws
       → lastState (d .fluents) vs ≡ firstState (d .fluents) ws → j + k ≤ 30
       → Passed Passes (withHorizon d (j + k)) ls lent (joined (d .fluents) vs ws)
@@ -41,7 +43,7 @@ pub record EachUndoesTheOther (n m : ℕ) : Type 0 where
   pub cut-again : (vs ws : List ℕ) (j k : ℕ) → length vs ≡ atomCount n m j → length ws ≡ atomCount n m k → lastState n vs ≡ firstState n ws
       → (firstSteps n m j (joined n vs ws) ≡ vs) × (laterSteps n m j (joined n vs ws) ≡ ws)
 
--- for all descriptions, law runs and numbers lent
+-- of the path and of each of demand 3's readings
 pub record CutAndJoin (d : Description) (ls : List Law) (lent : ℕ) : Type 0 where
   pub by-path : ForReading byPath d ls lent
   pub by-answer-set : ForReading byAnswerSet d ls lent
@@ -56,5 +58,6 @@ pub record CutAndJoin (d : Description) (ls : List Law) (lent : ℕ) : Type 0 wh
   -- a table that is long enough for the whole is so for each half
   pub room-enough : (k : ℕ) → k ≤ d .horizon → length (tableFor (withHorizon d k) ls) ≤ length (tableFor d ls)
 
+-- for all descriptions, law runs and numbers lent
 abbrev pub CuttingAndJoining : Type 0
 CuttingAndJoining = (d : Description) (ls : List Law) (lent : ℕ) → CutAndJoin d ls lent
