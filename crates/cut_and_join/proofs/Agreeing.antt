@@ -1,7 +1,7 @@
 -- Interpretations that agree on the n fluents, and actions that agree on the m actions, are the same to laws that are accepted.
 -- Assumes nothing.
 use mathlib.Core.Path.{_≡_, refl, sym, _∙_}
-use mathlib.Core.Logic.{⊎-elim}
+use mathlib.Core.Logic.{_↔_, ⊎-elim}
 use mathlib.Core.Bool.{true, false}
 use mathlib.Core.List.{List, [], _∷_}
 use Prim.Native.Nat.{ℕ, _+_, _-_, _*_, _/_, _<_}
@@ -39,14 +39,20 @@ together-same n m s t a b states acts i low =
     ⊎-elim (λ (e : ltb i n ≡ true). rw e (states i (ltb-true i n e)))
     (λ (e : ltb i n ≡ false). rw e (acts (i - n) (omega (arith, ltb-false i n e)))) (true-or-false (ltb i n))
 
+flipped : (n : ℕ) (I J : Interpretation) → Same n I J → Same n J I
+flipped n I J same f b = sym (same f b)
+
 -- States
 
-pub state-same : (n m : ℕ) (s t : Interpretation) → Same n s t → (ls : List Law) → AllFit n m ls → State ls s → State ls t
+state-same : (n m : ℕ) (s t : Interpretation) → Same n s t → (ls : List Law) → AllFit n m ls → State ls s → State ls t
 state-same n m s t same ls fit h = each-map₂ (λ l fits. law (l .kind) l (law-fits n m l fits)) ls fit h
   where
     law : (k : Kind) (l : Law) → Fits n m l → SatisfiesStatic s k l → SatisfiesStatic t k l
     law Static l f h = λ e. sym (head-same n s t same (l .head) (f .head)) ∙ h (holds-same n s t same (ifList l) (f .if-list) ∙ e)
     law Dynamic l f h = tt
+
+pub agree-state : (n m : ℕ) (s t : Interpretation) → Same n s t → (ls : List Law) → AllFit n m ls → State ls s ↔ State ls t
+agree-state n m s t same ls fit = (state-same n m s t same ls fit, state-same n m t s (flipped n s t same) ls fit)
 
 -- Steps
 
@@ -70,8 +76,15 @@ module _ (n m : ℕ) (s t a b s′ t′ : Interpretation) (before : Same n s t) 
       (each-map₂ (λ l fits obeyed e. sym (head-same n s′ t′ after (l .head) (law-fits n m l fits .head)) ∙ obeyed e) ls fit
       (caused-iff n s a s′ (λ h. satisfiesHead s′ h ≡ true) ls .0 all))
 
-  pub explained-same : (ls : List Law) → AllFit n m ls → Explained n ls s a s′ → Explained n ls t b t′
+  explained-same : (ls : List Law) → AllFit n m ls → Explained n ls s a s′ → Explained n ls t b t′
   explained-same ls fit h = record {
     satisfied = rw (← caused-same ls fit) (satisfied-same ls fit (h .satisfied));
     only = λ I all f low. h .only I (rw (caused-same ls fit) all) f low ∙ after f low;
   }
+
+pub agree-explained : (n m : ℕ) (s t a b s′ t′ : Interpretation) → Same n s t → Same m a b → Same n s′ t′ → (ls : List Law) → AllFit n m ls
+    → Explained n ls s a s′ ↔ Explained n ls t b t′
+agree-explained n m s t a b s′ t′ before acts after ls fit = (
+  explained-same n m s t a b s′ t′ before acts after ls fit,
+  explained-same n m t s b a t′ s′ (flipped n s t before) (flipped m a b acts) (flipped n s′ t′ after) ls fit,
+)

@@ -1,8 +1,8 @@
 -- A history that lies within another from some time on: the same states and actions, so a part of a path is a path, and what is made
 -- of two paths is one.
 -- Assumes nothing.
-use mathlib.Core.Path.{_≡_, sym, ap, _∙_}
-use mathlib.Core.Logic.{⊎-elim}
+use mathlib.Core.Path.{_≡_, ap, _∙_}
+use mathlib.Core.Logic.{_↔_, ⊎-elim}
 use mathlib.Core.Bool.{true, false}
 use mathlib.Core.List.{List}
 use Prim.Native.Nat.{ℕ, suc, _+_, _-_, _*_, _≤_, _<_}
@@ -17,7 +17,7 @@ use Rattle.description.specs.Atoms.{atomCount}
 use Rattle.description.specs.Meaning.{Same, Explained, State, stateAt, actionAt, Path}
 use Rattle.description.proofs.Laws.{AllFit}
 use Rattle.correctness.proofs.Reading.{path-states}
-use Rattle.cut_and_join.proofs.Agreeing.{state-same, explained-same}
+use Rattle.cut_and_join.proofs.Agreeing.{agree-state, agree-explained}
 
 -- ws is what vs holds for T steps from time k on
 abbrev pub Within : ℕ → ℕ → ℕ → ℕ → List ℕ → List ℕ → Type 0
@@ -48,35 +48,34 @@ module _ (n m k T : ℕ) (vs ws : List ℕ) (within : Within n m k T vs ws) wher
   results t b = let e : suc (k + t) ≡ k + suc t = omega arith in rw e (states (suc t) b)
 
   module _ (ls : List Law) (fit : AllFit n m ls) where
+    start-iff : State ls (stateAt n m vs (k + 0)) ↔ State ls (stateAt n m ws 0)
+    start-iff = agree-state n m (stateAt n m vs (k + 0)) (stateAt n m ws 0) (states 0 (omega arith)) ls fit
+
+    -- a step of the part is one of the whole
+    step-iff : (t : ℕ) → t < T → StepAt n m ls vs (k + t) ↔ StepAt n m ls ws t
+    step-iff t low =
+        agree-explained n m (stateAt n m vs (k + t)) (stateAt n m ws t) (actionAt n m vs (k + t)) (actionAt n m ws t)
+        (stateAt n m vs (suc (k + t))) (stateAt n m ws (suc t)) (states t (omega arith)) (acts t low) (results t low) ls fit
+
     -- a part of a path is a path: its first state satisfies the static laws, as every state of a path does
     pub path-part : (U : ℕ) → k + T ≤ U → Path n m U ls vs → Path n m T ls ws
     path-part U b h = record {
-      start = state-same n m (stateAt n m vs (k + 0)) (stateAt n m ws 0) (states 0 (omega arith)) ls fit (path-states n m U ls vs h (k + 0) (omega arith));
-      steps = λ t low. explained-same n m (stateAt n m vs (k + t)) (stateAt n m ws t) (actionAt n m vs (k + t)) (actionAt n m ws t)
-          (stateAt n m vs (suc (k + t))) (stateAt n m ws (suc t)) (states t (omega arith)) (acts t low) (results t low) ls fit (h .steps (k + t) (omega arith));
+      start = start-iff .0 (path-states n m U ls vs h (k + 0) (omega arith));
+      steps = λ t low. step-iff t low .0 (h .steps (k + t) (omega arith));
     }
-
-    -- a step of the part is one of the whole
-    pub step-inside : (t : ℕ) → t < T → StepAt n m ls ws t → StepAt n m ls vs (k + t)
-    step-inside t low h = explained-same n m (stateAt n m ws t) (stateAt n m vs (k + t)) (actionAt n m ws t) (actionAt n m vs (k + t))
-        (stateAt n m ws (suc t)) (stateAt n m vs (suc (k + t)))
-        (λ f b. sym (states t (omega arith) f b)) (λ f b. sym (acts t low f b)) (λ f b. sym (results t low f b)) ls fit h
-
-    pub start-inside : State ls (stateAt n m ws 0) → State ls (stateAt n m vs (k + 0))
-    start-inside h = state-same n m (stateAt n m ws 0) (stateAt n m vs (k + 0)) (λ f b. sym (states 0 (omega arith) f b)) ls fit h
 
 -- a history whose first j steps are one path and whose k steps behind them are another is a path
 pub path-whole : (n m j k : ℕ) (us vs ws : List ℕ) → Within n m 0 j us vs → Within n m j k us ws → (ls : List Law) → AllFit n m ls
     → Path n m j ls vs → Path n m k ls ws → Path n m (j + k) ls us
 path-whole n m j k us vs ws front back ls fit first second = record {
-  start = start-inside n m 0 j us vs front ls fit (first .start);
+  start = start-iff n m 0 j us vs front ls fit .1 (first .start);
   steps = λ t b. ⊎-elim (λ (e : ltb t j ≡ true). before t (ltb-true t j e)) (λ (e : ltb t j ≡ false). behind t b (ltb-false t j e)) (true-or-false (ltb t j));
 }
   where
     before : (t : ℕ) → t < j → StepAt n m ls us t
-    before t b = rw (zero-add t) at (step-inside n m 0 j us vs front ls fit t b (first .steps t b))
+    before t b = rw (zero-add t) at (step-iff n m 0 j us vs front ls fit t b .1 (first .steps t b))
 
     behind : (t : ℕ) → t < j + k → j ≤ t → StepAt n m ls us t
     behind t b low =
         let e : j + (t - j) ≡ t = omega arith in
-        rw e at (step-inside n m j k us ws back ls fit (t - j) (omega arith) (second .steps (t - j) (omega arith)))
+        rw e at (step-iff n m j k us ws back ls fit (t - j) (omega arith) .1 (second .steps (t - j) (omega arith)))

@@ -1,5 +1,5 @@
 -- When a history passes, once for the path and once for each of demand 3's readings, by the definitions that the public functions
--- promise. Each reading is of a description, a run of laws of which some number is lent, values, and a table lent.
+-- promise.
 -- Assumes nothing.
 use mathlib.Core.Path.{_≡_}
 use mathlib.Core.List.{List}
@@ -20,6 +20,7 @@ use Rattle.causal.specs.Verdicts.{path}
 use Rattle.causal.specs.Readings as causal
 use Rattle.correctness.specs.Demand3.{Complete, PathOf}
 
+-- what passes: a description, a run of laws, the number of them lent, values, and a table lent
 abbrev pub Reading : Type 1
 Reading = Description → List Law → ℕ → List ℕ → List ℕ → Type 0
 
