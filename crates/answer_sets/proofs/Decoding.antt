@@ -116,7 +116,7 @@ accepted-head n w e = go (eqb w 65535) refl
     go true t = rw t tt
     go false f = rw f (ltb-true w (2 * n) (cc))
 
-accepted-rule : (n : ℕ) (ws : List ℕ) → ruleFits n ws ≡ true → RuleBelow (2 * n) (ruleAt ws)
+pub accepted-rule : (n : ℕ) (ws : List ℕ) → ruleFits n ws ≡ true → RuleBelow (2 * n) (ruleAt ws)
 accepted-rule n ws e =
     let (_, head, parts) = ruleFits-iff n ws .0 e in
     let r = ruleAt ws in

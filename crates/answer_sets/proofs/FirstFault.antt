@@ -96,7 +96,7 @@ module _ (n : ℕ) (Π : List Rule) (X : Lits) where
   no-clash : clashes ≡ none ↔ Nowhere (Clashing X) n
   no-clash = range-nowhere (bothValues X) n (Clashing X) (λ i b. clashing-iff X i)
 
-  no-broken : breaks ≡ none ↔ Nowhere (BrokenAt Π X) (length Π)
+  pub no-broken : breaks ≡ none ↔ Nowhere (BrokenAt Π X) (length Π)
   no-broken = first-nowhere (isBroken X) noRule Π (length Π) refl (BrokenAt Π X) (λ i b. brokenRule-iff X (getD Π i noRule))
 
   pub clash-iff : (a : ℕ) → verdict n Π X ≡ clash a ↔ Lowest (Clashing X) n a

@@ -1,9 +1,10 @@
 -- The verdict and the answer, from what the searches found, in the order in which the code makes them.
 -- Assumes nothing.
-use mathlib.Core.Path.{_≡_, sym, _∙_}
-use mathlib.Core.List.{List}
+use mathlib.Core.Path.{_≡_, refl, sym, _∙_}
+use mathlib.Core.Bool.{Bool, true, false, not, _&&_}
+use mathlib.Core.List.{List, [], _∷_}
 use mathlib.Core.Option.{none, some}
-use Prim.Native.Nat.{ℕ, _+_, _-_, _*_, _≤_, _<_}
+use Prim.Native.Nat.{ℕ, suc, _+_, _-_, _*_, _≤_, _<_}
 use native.Mathlib.Numerals.{add-one}
 use native.Mathlib.Omega.{arith}
 use borrow.Author.Tests.{lt-ltb, le-ltb}
@@ -70,3 +71,12 @@ module _ (Π : List Rule) (X Y : Lits) (k : ℕ) (is : Y ≡ rounds k Π X) wher
   -- so many rounds that the last one added nothing
   pub round-enough : (n : ℕ) → HeadsBelow (2 * n) Π → k ≡ 2 * n + 1 → Y ≡ rounds (2 * n) Π X
   round-enough n low e = is ∙ (rw (e, add-one (2 * n)) (rounds-settle (2 * n) Π X low))
+
+-- no literal of a set is outside that set itself
+pub none-unfounded : (X : Lits) (k : ℕ) (cs : List ℕ) → none ≡ first (isUnfounded X X) k cs
+none-unfounded X k [] = refl
+none-unfounded X k (c ∷ cs) = rw (never (X c)) (none-unfounded X (suc k) cs)
+  where
+    never : (b : Bool) → (b && not b) ≡ false
+    never true = refl
+    never false = refl

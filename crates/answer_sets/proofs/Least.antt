@@ -193,6 +193,10 @@ module _ (N : ℕ) (Π : List Rule) (X : Lits) (low : HeadsBelow N Π) where
       literal (lit c) b = lt-ltb c N b
       literal falsum b = tt
 
+  pub rounds-below : (k : ℕ) → Below N (rounds k Π X)
+  rounds-below zero c e = absurd (not-both e refl)
+  rounds-below (suc k) c e = round-below (rounds k Π X) c e
+
   abbrev Settled : ℕ → Type 0
   Settled k = rounds (suc k) Π X ≡ rounds k Π X
 

@@ -6,6 +6,8 @@ pub mod Passes
 pub mod Decoding
 pub mod Theorems
 pub mod Stores
-pub mod Fronts
+pub mod Outside
+pub mod Starts
 pub mod Judging
+pub mod Rounds
 pub mod Examples

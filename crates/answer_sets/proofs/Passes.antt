@@ -4,19 +4,20 @@ use mathlib.Core.Path.{_≡_}
 use mathlib.Core.Logic.{_↔_, Iff·trans}
 use mathlib.Core.Bool.{true}
 use mathlib.Core.List.{List}
+use mathlib.Core.Option.{none}
 use Prim.Native.Nat.{ℕ, _*_, _<_}
 use native.Mathlib.Omega.{arith}
 use lib.ListN.{length, getD}
-use Rattle.search.specs.Search.{Each, Nowhere}
+use Rattle.search.specs.Search.{Each, Nowhere, first}
 use Rattle.logic_programs.specs.Literals.{Lits}
 use Rattle.logic_programs.specs.Rules.{Head, lit, falsum, Rule}
 use Rattle.logic_programs.specs.AnswerSets.{reduct, HeadIn, Closed, Subset, AnswerSet, literalHeaded, IsLeastClosed}
 use Rattle.rule_tables.specs.Bodies.{applies}
-use Rattle.answer_sets.specs.Verdicts.{passes, rounds, verdict}
+use Rattle.answer_sets.specs.Verdicts.{passes, rounds, isBroken, verdict}
 use Rattle.answer_sets.specs.Demand2.{Clashing, BrokenRule, BrokenAt, Unfounded, noRule}
 use Rattle.search.proofs.Tests.{not-both, false-of-not, true-of-not, each-map₂, each-at}
 use Rattle.answer_sets.proofs.Least.{HeadsBelow, Below, LiteralIn, applies-iff, applies-subset, reduct-closed, literal-closed, closed-literal, least-closed}
-use Rattle.answer_sets.proofs.FirstFault.{faultless-iff}
+use Rattle.answer_sets.proofs.FirstFault.{no-broken, faultless-iff}
 
 -- a set is closed exactly where no rule is broken
 
@@ -41,6 +42,9 @@ closed-iff Π X = (
 
     each : Each Holds Π ↔ ((i : ℕ) → i < length Π → Holds (getD Π i noRule))
     each = each-at Holds noRule Π
+
+pub unbroken-closed : (Π : List Rule) (X : Lits) → first (isBroken X) 0 Π ≡ none → Closed (literalHeaded (reduct Π X)) X
+unbroken-closed Π X e = closed-literal Π X X (closed-iff Π X .1 (no-broken 0 Π X .0 e))
 
 -- the least set of a closed X is closed under the constraints too
 least-reduct : (Π : List Rule) (X L : Lits) → Subset L X → Closed (reduct Π X) X → Closed (literalHeaded (reduct Π X)) L → Closed (reduct Π X) L

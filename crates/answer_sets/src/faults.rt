@@ -15,11 +15,11 @@ ghost use Rattle.logic_programs.specs.Literals.{setOf};
 ghost use Rattle.answer_sets.specs.Verdicts.{verdict, bothValues, isBroken, isUnfounded};
 ghost use Rattle.logic_programs.specs.Words.{rulesOf, badRule, ruleAt, ruleSize};
 ghost use Rattle.answer_sets.specs.Answers.{replyOf};
-ghost use Rattle.rule_tables.specs.Bodies.{marked};
+ghost use Rattle.rule_tables.specs.Marks.{marked};
 ghost use Rattle.rule_tables.specs.Internal.{Sound};
 
 // Whether an atom has both values.
-fn both_values(x: &[bool], atom: usize) -> bool
+fn both_values(x: &[u64], atom: usize) -> bool
     requires { ⌜ atom ≤ 1024 ⌝ }
     ensures { λ r. ⌜ r ≡ bothValues (marked (now (x .entry))) atom ⌝ }
 {
@@ -30,7 +30,7 @@ fn both_values(x: &[bool], atom: usize) -> bool
 }
 
 // The lowest atom with both values.
-fn first_clash(x: &[bool], atoms: usize) -> Found
+fn first_clash(x: &[u64], atoms: usize) -> Found
     requires { ⌜ atoms ≤ 1024 ⌝ }
     ensures { λ r. ⌜ placeOf r ≡ first (bothValues (marked (now (x .entry)))) 0 (range 0 atoms) ⌝ }
 {
@@ -43,7 +43,7 @@ fn first_clash(x: &[bool], atoms: usize) -> Found
 }
 
 // Whether the rule at the front applies while its head is false or not in the set.
-fn is_broken(rest: &[u16], x: &[bool]) -> bool
+fn is_broken(rest: &[u16], x: &[u64]) -> bool
     requires { ⌜ ruleSize (now rest) ≤ length (now rest) ⌝ }
     ensures { λ r. ⌜ r ≡ isBroken (marked (now (x .entry))) (ruleAt (now (rest .entry))) ⌝ }
 {
@@ -54,7 +54,7 @@ fn is_broken(rest: &[u16], x: &[bool]) -> bool
 }
 
 // The lowest broken rule.
-fn first_broken(table: &[u16], x: &[bool]) -> Found
+fn first_broken(table: &[u16], x: &[u64]) -> Found
     requires { ⌜ Sound (now table) ⌝ }
     ensures { λ r. ⌜ placeOf r ≡ first (isBroken (marked (now (x .entry)))) 0 (rulesOf (now (table .entry))) ⌝ }
 {
@@ -72,7 +72,7 @@ fn first_broken(table: &[u16], x: &[bool]) -> Found
 }
 
 // Whether a literal of the set is outside the least closed one.
-fn is_unfounded(x: &[bool], least: &[bool], code: usize) -> bool
+fn is_unfounded(x: &[u64], least: &[u64], code: usize) -> bool
     ensures { λ r. ⌜ r ≡ isUnfounded (marked (now (x .entry))) (marked (now (least .entry))) code ⌝ }
 {
     if !marks::has(x, code) {
@@ -82,9 +82,12 @@ fn is_unfounded(x: &[bool], least: &[bool], code: usize) -> bool
 }
 
 // The lowest literal of the set outside the least closed one.
-fn first_unfounded(x: &[bool], least: &[bool], codes: usize) -> Found
+fn first_unfounded(x: &[u64], least: &[u64], codes: usize) -> Found
     ensures { λ r. ⌜ placeOf r ≡ first (isUnfounded (marked (now (x .entry))) (marked (now (least .entry)))) 0 (range 0 codes) ⌝ }
 {
+    if marks::same(x, least) {
+        return Found::Nothing;
+    }
     for code in 0..codes {
         if is_unfounded(x, least, code) {
             return Found::At(code);
@@ -107,7 +110,8 @@ pub(crate) fn judge(values: &[u8], table: &[u16]) -> Answer
     if let Found::At(rule) = first_broken(table, &x) {
         return Answer::Broken(rule);
     }
-    let least = derivation::derive(table, x, atoms);
+    // No rule is broken, so x is closed.
+    let least = derivation::derive(table, &x, &x, atoms);
     if let Found::At(code) = first_unfounded(&x, &least, 2 * atoms) {
         return Answer::Unfounded(code);
     }

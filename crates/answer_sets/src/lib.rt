@@ -1,6 +1,7 @@
 // The answer-set engine: whether a set of literals is an answer set of a rule table. It knows nothing of what atoms mean.
 mod derivation;
 mod faults;
+mod pending;
 mod values;
 
 use search::Found;

@@ -1,16 +1,15 @@
-// The heads that have a body that holds, as marks: one for each literal code, and one behind them for false.
+// The heads that have a body that holds, as marks, 64 to a word: one for each literal code, and one in a last word for false.
 use rule_tables::marks;
 use rule_tables::table;
 use rule_tables::values;
 use search::Found;
 ghost use mathlib.Core.Path.{_≡_};
-ghost use mathlib.Core.Bool.{false};
 ghost use Prim.Native.Nat.{_*_, _≤_, _<_};
 ghost use lib.ListN.{length, replicate};
 ghost use Rattle.search.specs.Search.{all, first, range, placeOf};
 ghost use Rattle.logic_programs.specs.Literals.{setOf};
 ghost use Rattle.logic_programs.specs.Words.{rulesOf};
-ghost use Rattle.rule_tables.specs.Bodies.{marked};
+ghost use Rattle.rule_tables.specs.Marks.{marked};
 ghost use Rattle.rule_tables.specs.Internal.{Sound};
 ghost use Rattle.literal_completion.specs.Findings.{differ};
 ghost use Rattle.completion.specs.Internal.{readAs, frontHolds, markOf, heldAt, failingFalse};
@@ -59,14 +58,14 @@ fn body_holds(rest: &[u16], values: &[u8]) -> bool
     parts_hold(&rest[middle..end], values, false)
 }
 
-// 2,049 marks, all clear.
-fn no_heads() -> [bool; 2049]
-    ensures { λ r. ⌜ r ≡ replicate 2049 false ⌝ }
+// 33 words, all clear: 2,048 marks of literals in 32, and the mark of false, which is the lowest bit of the last.
+fn no_heads() -> [u64; 33]
+    ensures { λ r. ⌜ r ≡ replicate 33 0 ⌝ }
 {
-    [false; 2049]
+    [0; 33]
 }
 
-// The mark of a head word: a literal's is at its code, that of false is the last.
+// The mark of a head word: a literal's is at its code, that of false is the next after them.
 fn mark_of(head: usize) -> usize
     ensures { λ r. ⌜ r ≡ markOf head ⌝ }
 {
@@ -77,7 +76,7 @@ fn mark_of(head: usize) -> usize
 }
 
 // The heads of the rules whose bodies hold.
-pub(crate) fn held_heads(table: &[u16], values: &[u8]) -> [bool; 2049]
+pub(crate) fn held_heads(table: &[u16], values: &[u8]) -> [u64; 33]
     requires { ⌜ Sound (now table) ⌝ }
     ensures { λ r. ⌜ marked r ≡ heldAt (rulesOf (now (table .entry))) (setOf (now (values .entry))) ⌝ }
 {
@@ -86,7 +85,7 @@ pub(crate) fn held_heads(table: &[u16], values: &[u8]) -> [bool; 2049]
     while 0 < rest.len() {
         let mark = mark_of(rest[0] as usize);
         if body_holds(rest, values) {
-            held[mark] = true;
+            held[mark / 64] |= 1u64 << (mark % 64);
         }
         let size = table::rule_size(rest);
         rest = &rest[size..];
@@ -95,14 +94,14 @@ pub(crate) fn held_heads(table: &[u16], values: &[u8]) -> [bool; 2049]
 }
 
 // Whether a literal is in the set while no body for it holds, or the other way round.
-fn literal_fails(values: &[u8], held: &[bool], code: usize) -> bool
+fn literal_fails(values: &[u8], held: &[u64], code: usize) -> bool
     ensures { λ r. ⌜ r ≡ differ (setOf (now (values .entry)) code) (marked (now (held .entry)) code) ⌝ }
 {
     values::has(values, code) != marks::has(held, code)
 }
 
 // The lowest literal whose formula fails.
-pub(crate) fn first_failing(values: &[u8], held: &[bool]) -> Found
+pub(crate) fn first_failing(values: &[u8], held: &[u64]) -> Found
     requires { ⌜ length (now values) ≤ 1024 ⌝ }
     ensures { λ r. ⌜ placeOf r ≡ first (λ c. differ (setOf (now (values .entry)) c) (marked (now (held .entry)) c)) 0 (range 0 (2 * length (now (values .entry)))) ⌝ }
 {
@@ -116,7 +115,7 @@ pub(crate) fn first_failing(values: &[u8], held: &[bool]) -> Found
 }
 
 // The head word of false, if the formula of false fails.
-pub(crate) fn false_failing(held: &[bool]) -> Found
+pub(crate) fn false_failing(held: &[u64]) -> Found
     ensures { λ r. ⌜ placeOf r ≡ failingFalse (marked (now (held .entry))) ⌝ }
 {
     if marks::has(held, 2048) {

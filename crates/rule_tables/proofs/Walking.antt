@@ -59,17 +59,25 @@ accepted-sound n ws few e = record { atoms = n; few = few; before = 0; at = 0; f
 
 module _ (ws : List ℕ) (h : 0 < length ws) (s : Sound ws) where
   -- the test of the rule at the front passed
-  tested : (ruleFits (s .atoms) ws ≡ true) × (badRuleFrom (s .atoms) (suc (s .before)) (s .at + ruleSize ws) (drop (ruleSize ws) ws) ≡ none)
+  tested : (s .before < 4096) × (ruleFits (s .atoms) ws ≡ true)
+      × (badRuleFrom (s .atoms) (suc (s .before)) (s .at + ruleSize ws) (drop (ruleSize ws) ws) ≡ none)
   unfolding badRuleFrom
-  tested = passed (ltb (s .before) 4096) (ruleFits (s .atoms) ws) refl (sym (bad-front (s .atoms) (s .before) (s .at) ws h) ∙ s .fits)
+  tested = passed (ltb (s .before) 4096) (ruleFits (s .atoms) ws) refl refl (sym (bad-front (s .atoms) (s .before) (s .at) ws h) ∙ s .fits)
     where
-      passed : (a b : Bool) → b ≡ ruleFits (s .atoms) ws → {next : Option ℕ} → cond (a && b) next (some (s .at)) ≡ none → (ruleFits (s .atoms) ws ≡ true) × (next ≡ none)
-      passed true true q e = (sym q, e)
-      passed true false q e = absurd (let z : _≡_ {A = ℕ} 0 1 = cc in omega arith)
-      passed false b q e = absurd (let z : _≡_ {A = ℕ} 0 1 = cc in omega arith)
+      passed : (a b : Bool) → a ≡ ltb (s .before) 4096 → b ≡ ruleFits (s .atoms) ws → {next : Option ℕ} → cond (a && b) next (some (s .at)) ≡ none
+          → (s .before < 4096) × (ruleFits (s .atoms) ws ≡ true) × (next ≡ none)
+      passed true true few q e = (ltb-true (s .before) 4096 (sym few), sym q, e)
+      passed true false few q e = absurd (let z : _≡_ {A = ℕ} 0 1 = cc in omega arith)
+      passed false b few q e = absurd (let z : _≡_ {A = ℕ} 0 1 = cc in omega arith)
+
+  pub sound-few : s .before < 4096
+  sound-few = tested .0
+
+  pub sound-fits : ruleFits (s .atoms) ws ≡ true
+  sound-fits = tested .1
 
   fit : (ruleSize ws ≤ length ws) × (headFits (s .atoms) (getD ws 0 0) ≡ true)
-  fit = let f = ruleFits-iff (s .atoms) ws .0 (tested .0) in (f .0, f .1)
+  fit = let f = ruleFits-iff (s .atoms) ws .0 sound-fits in (f .0, f .1)
 
   pub sound-size : ruleSize ws ≤ length ws
   sound-size = fit .0
@@ -79,7 +87,11 @@ module _ (ws : List ℕ) (h : 0 < length ws) (s : Sound ws) where
 
   pub sound-rest : Sound (drop (ruleSize ws) ws)
   unfolding badRuleFrom
-  sound-rest = record { atoms = s .atoms; few = s .few; before = suc (s .before); at = s .at + ruleSize ws; fits = tested .1 }
+  sound-rest = record { atoms = s .atoms; few = s .few; before = suc (s .before); at = s .at + ruleSize ws; fits = tested .2 }
+
+  pub sound-before : sound-rest .before ≡ suc (s .before)
+  unfolding sound-rest
+  sound-before = refl
 
 -- the same, for a search of any first rule
 module _ (p : Rule → Bool) (k : ℕ) (ws : List ℕ) {R : Option ℕ} where

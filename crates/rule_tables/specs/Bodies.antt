@@ -1,4 +1,4 @@
--- Bodies and heads of rules looked up in sets of literals, and sets given as marks: what the functions on a rule table tell.
+-- Bodies and heads of rules looked up in sets of literals: what the functions on a rule table tell.
 -- Assumes nothing.
 use mathlib.Core.Bool.{Bool, true, false, not, _&&_}
 use mathlib.Core.List.{List}
@@ -18,10 +18,6 @@ applies X Y r = all (λ c. not (X c)) (r .negated) && all Y (r .plain)
 abbrev pub headIn : Head → Lits → Bool
 headIn (lit h) X = X h
 headIn falsum X = false
-
--- the set that a list of marks stands for, one mark a literal code
-abbrev pub marked : List Bool → Lits
-marked marks c = getD marks c false
 
 -- a mark is as wanted
 abbrev pub is : Bool → Bool → Bool

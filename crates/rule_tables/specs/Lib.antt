@@ -1,3 +1,4 @@
 -- What the promises on rule tables, marks and values mean.
+pub mod Marks
 pub mod Bodies
 pub mod Internal

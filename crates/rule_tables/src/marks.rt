@@ -1,30 +1,32 @@
-// Sets of literals as marks, one mark a literal code.
+// Sets of literals as marks, 64 to a word: literal code c is bit c mod 64, from the lowest, of word c div 64.
 ghost use mathlib.Core.Path.{_≡_};
 ghost use mathlib.Core.Logic.{_↔_};
+ghost use mathlib.Core.Bool.{true};
 ghost use lib.ListN.{replicate};
-ghost use mathlib.Core.Bool.{true, false};
 ghost use Rattle.search.specs.Search.{all};
-ghost use Rattle.rule_tables.specs.Bodies.{marked, is};
+ghost use Rattle.rule_tables.specs.Bodies.{is};
+ghost use Rattle.rule_tables.specs.Marks.{marked};
 
 // 2,048 marks, all clear.
-pub fn clear() -> [bool; 2048]
-    ensures { λ r. ⌜ r ≡ replicate 2048 false ⌝ }
+pub fn clear() -> [u64; 32]
+    ensures { λ r. ⌜ r ≡ replicate 32 0 ⌝ }
 {
-    [false; 2048]
+    [0; 32]
 }
 
 // Whether a literal is in the set.
-pub fn has(marks: &[bool], code: usize) -> bool
+pub fn has(marks: &[u64], code: usize) -> bool
     ensures { λ r. ⌜ r ≡ marked (now (marks .entry)) code ⌝ }
 {
-    if code < marks.len() {
-        return marks[code];
+    let at = code / 64;
+    if at < marks.len() {
+        return (marks[at] >> (code % 64)) % 2 == 1;
     }
     false
 }
 
 // Whether every part is in the set, or where want is false, none.
-pub fn all_are(parts: &[u16], marks: &[bool], want: bool) -> bool
+pub fn all_are(parts: &[u16], marks: &[u64], want: bool) -> bool
     ensures { λ r. ⌜ r ≡ all (λ c. is want (marked (now (marks .entry)) c)) (now (parts .entry)) ⌝ }
 {
     let mut i = 0;
@@ -38,8 +40,8 @@ pub fn all_are(parts: &[u16], marks: &[bool], want: bool) -> bool
     true
 }
 
-// Whether two sets have the same marks.
-pub fn same(a: &[bool], b: &[bool]) -> bool
+// Whether two sets have the same words.
+pub fn same(a: &[u64], b: &[u64]) -> bool
     ensures { λ r. ⌜ r ≡ true ↔ now (a .entry) ≡ now (b .entry) ⌝ }
 {
     if a.len() != b.len() {

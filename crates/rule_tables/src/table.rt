@@ -5,7 +5,8 @@ ghost use mathlib.Core.Path.{_≡_};
 ghost use Prim.Native.Nat.{_<_};
 ghost use lib.ListN.{getD};
 ghost use Rattle.search.specs.Search.{placeOf};
-ghost use Rattle.rule_tables.specs.Bodies.{marked, headIn, frontApplies, frontDerives};
+ghost use Rattle.rule_tables.specs.Bodies.{headIn, frontApplies, frontDerives};
+ghost use Rattle.rule_tables.specs.Marks.{marked};
 ghost use Rattle.logic_programs.specs.Words.{ruleSize, ruleFits, headFits, headOf, partsFit, badRule};
 
 // A word, or 0 past the end.
@@ -87,7 +88,7 @@ pub fn bad_rule(table: &[u16], atoms: usize) -> Found
 }
 
 // Whether the rule at the front is whole, no negated part of it is in x and every plain part is in y.
-pub fn rule_applies(rest: &[u16], x: &[bool], y: &[bool]) -> bool
+pub fn rule_applies(rest: &[u16], x: &[u64], y: &[u64]) -> bool
     ensures { λ r. ⌜ r ≡ frontApplies (marked (now (x .entry))) (marked (now (y .entry))) (now (rest .entry)) ⌝ }
 {
     if rest.len() < rule_size(rest) {
@@ -102,7 +103,7 @@ pub fn rule_applies(rest: &[u16], x: &[bool], y: &[bool]) -> bool
 }
 
 // Whether the rule at the front applies and has a literal as its head.
-pub fn rule_derives(rest: &[u16], x: &[bool], y: &[bool]) -> bool
+pub fn rule_derives(rest: &[u16], x: &[u64], y: &[u64]) -> bool
     ensures { λ r. ⌜ r ≡ frontDerives (marked (now (x .entry))) (marked (now (y .entry))) (now (rest .entry)) ⌝ }
 {
     if word(rest, 0) == 65535 {
@@ -112,7 +113,7 @@ pub fn rule_derives(rest: &[u16], x: &[bool], y: &[bool]) -> bool
 }
 
 // Whether a head is a literal of the set; false never is.
-pub fn head_in(head: usize, x: &[bool]) -> bool
+pub fn head_in(head: usize, x: &[u64]) -> bool
     ensures { λ r. ⌜ r ≡ headIn (headOf head) (marked (now (x .entry))) ⌝ }
 {
     if head == 65535 {

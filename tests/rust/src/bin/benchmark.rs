@@ -16,7 +16,8 @@ use readings::clingo;
 use readings::measure::{pair, print_pair, readable, Pair};
 use readings::reading::report::read_input;
 use readings::reading::translation::all_rules;
-use readings::recipes::{belt_recipe, full_recipe, largest_recipe};
+use readings::reading::MAX_HORIZON;
+use readings::recipes::{belt_recipe, full_recipe, inertia_recipe, largest_recipe};
 use std::env;
 use std::fs;
 use std::hint::black_box;
@@ -276,6 +277,8 @@ fn main() -> Result<(), String> {
     println!("Table buffers are lent to every call as the call before left them; they are not cleared in between.");
     time_sample(&sample("full recipe", full_recipe()));
     time_sample(&sample("largest table", largest_recipe()));
+    time_sample(&sample("inertia", inertia_recipe()));
+    time_sample(&sample("belt", belt_recipe(MAX_HORIZON)));
     time_growth();
     time_grown();
     time_clingo()

@@ -1,27 +1,22 @@
 -- `answer_sets::derivation::derive` meets its contract.
 -- Assumes nothing.
-use Rattle.answer_sets.proofs.Judging.{round-after, round-last, round-enough}
 use native.Mathlib.Omega.{arith}
-use mathlib.Core.Path.{_≡_, ap}
-use mathlib.Core.Bool.{false}
+use mathlib.Core.Path.{_≡_, refl, ap}
 use Prim.Native.Nat.{_≤_, _*_, _-_}
-use lib.ListN.{length}
-use mathlib.Core.Path.{fun-ext, ap}
-use lib.ListN.{length-replicate}
-use Rattle.answer_sets.specs.Verdicts.{rounds, round}
 use Rattle.logic_programs.specs.Words.{rulesOf}
-use Rattle.rule_tables.specs.Bodies.{marked}
-use Rattle.search.proofs.Stored.{getD-replicate}
-use Rattle.answer_sets.proofs.Decoding.{accepted-below, codes-heads}
+use Rattle.rule_tables.specs.Marks.{marked}
 use Rattle.rule_tables.proofs.Walking.{accepted-sound}
+use Rattle.answer_sets.proofs.Decoding.{accepted-below, codes-heads}
+use Rattle.answer_sets.proofs.Judging.{round-last, round-enough}
+use Rattle.answer_sets.proofs.Rounds.{Reached, reach-start, round-whole, reach-next, least-marked}
 use Rattle.answer_sets.proofs.derivation.derive.Statement.{statement}
 use Rattle.answer_sets.proofs.derivation.derive.Tie as tie
 
 abbrev Inv-loop : tie.InvT-loop
-Inv-loop table x atoms limit marks₀ k₀ marks k = (k ≤ limit) × (length marks ≡ 2048) × (marked marks ≡ rounds k (rulesOf table) (marked x))
+Inv-loop table x closed atoms limit starts₀ waits₀ count₀ marks₀ k₀ starts waits count marks k = (k ≤ limit) × Reached table (marked x) (marked closed) starts waits count marks k
 
 abbrev μ-loop : tie.MeasureT-loop
-μ-loop table x atoms limit marks₀ k₀ marks k = limit - k
+μ-loop table x closed atoms limit starts₀ waits₀ count₀ marks₀ k₀ starts waits count marks k = limit - k
 
 mul-limit : tie.Need-mul-limit Inv-loop μ-loop
 mul-limit c = omega arith
@@ -29,14 +24,38 @@ mul-limit c = omega arith
 add-limit : tie.Need-add-limit Inv-loop μ-loop
 add-limit c = omega arith
 
+no-starts-requires : tie.Need-no-starts-requires Inv-loop μ-loop
+no-starts-requires c κs = tt
+
+no-waits-requires : tie.Need-no-waits-requires Inv-loop μ-loop
+no-waits-requires c κs = tt
+
+slice-aggregate-pend : tie.Need-slice-aggregate-pend Inv-loop μ-loop
+slice-aggregate-pend c = omega arith
+
+pend-requires : tie.Need-pend-requires Inv-loop μ-loop
+pend-requires c κs =
+    let c6 = c .before .before .before .before .before .before in
+    (accepted-sound _ _ (c6 .pre .0) (c6 .pre .1 .0), omega arith)
+
 clear-requires : tie.Need-clear-requires Inv-loop μ-loop
 clear-requires c κs = tt
 
 loop-holds : tie.Need-loop-holds Inv-loop μ-loop
-loop-holds c = (omega arith, rw (c .clear .ensures) (length-replicate 2048 false), fun-ext (λ k. rw (c .clear .ensures) (getD-replicate 2048 k false)))
+loop-holds c =
+    (omega arith, reach-start _ _ _ _ _ _ _ (c .before .before .pend .ensures) (omega arith) (c .before .before .before .before .no-waits .ensures) (c .clear .ensures))
+
+slice-aggregate-round : tie.Need-slice-aggregate-round Inv-loop μ-loop
+slice-aggregate-round c = omega arith
+
+slice-aggregate-round-2 : tie.Need-slice-aggregate-round-2 Inv-loop μ-loop
+slice-aggregate-round-2 c = omega arith
 
 round-requires : tie.Need-round-requires Inv-loop μ-loop
-round-requires c κs = accepted-sound _ _ (c .before .before .before .before .pre .0) (c .before .before .before .before .pre .1)
+round-requires c κs =
+    let c3 = c .before .before .before in
+    let inv = c3 .loop .inv .1 in
+    (omega (arith, inv .few, inv .starts-size), (omega (arith, inv .few, inv .waits-size), inv .waiting))
 
 slice-aggregate-same : tie.Need-slice-aggregate-same Inv-loop μ-loop
 slice-aggregate-same c = omega arith
@@ -49,11 +68,13 @@ same-requires c κs = tt
 
 returns : tie.Need-returns Inv-loop μ-loop
 returns c =
-    let c4 = c .before .before .before .before in
-    let c6 = c4 .before .before in
-    let c9 = c6 .before .before .before in
-    round-last _ _ (marked (c6 .loop .marks)) (c6 .loop .k) (c6 .loop .inv .2) _ (2 * c9 .args .atoms) (c4 .round .ensures)
-    (ap marked (c .before .same .ensures .0 (c .if1 .taken))) (omega arith)
+    let c7 = c .before .before .before .before .before .before .before in
+    let c11 = c7 .before .before .before .before in
+    let c21 = c11 .before .before .before .before .before .before .before .before .before .before in
+    let inv = c11 .loop .inv .1 in
+    let next = round-whole _ _ _ _ _ _ _ (c11 .loop .k) inv (c21 .pre .1 .1) _ _ (c7 .round .ensures .1 .1) in
+    let is = round-last _ _ _ (c11 .loop .k) (inv .is) _ (2 * c21 .args .atoms) next (ap marked (c .before .same .ensures .0 (c .if1 .taken))) (omega arith) in
+    (is, least-marked _ _ _ _ (codes-heads (2 * c21 .args .atoms) (rulesOf (c21 .args .table .now)) (accepted-below _ _ (c21 .pre .1 .0))) (inv .marks-size) is)
 
 add-k : tie.Need-add-k Inv-loop μ-loop
 add-k c = omega arith
@@ -63,15 +84,21 @@ loop-less c = omega arith
 
 loop-again : tie.Need-loop-again Inv-loop μ-loop
 loop-again c =
-    let c4 = c .before .before .before .before in
-    let c6 = c4 .before .before in
-    (omega arith, omega arith, round-after _ _ (marked (c6 .loop .marks)) (c6 .loop .k) (c6 .loop .inv .2) _ (c4 .round .ensures))
+    let c7 = c .before .before .before .before .before .before .before in
+    let c11 = c7 .before .before .before .before in
+    let c21 = c11 .before .before .before .before .before .before .before .before .before .before in
+    let said = c7 .round .ensures in (
+      omega arith,
+      reach-next _ _ _ _ _ _ _ (c11 .loop .k) (c11 .loop .inv .1) (c21 .pre .1 .1) _ _ (said .1 .1) _ _ _ refl (said .0) (omega arith) (omega arith) (said .1 .0),
+    )
 
 returns-2 : tie.Need-returns-2 Inv-loop μ-loop
 returns-2 c =
-    let c4 = c .before .before .before .before in
-    round-enough _ _ (marked (c .before .loop .marks)) (c .before .loop .k) (c .before .loop .inv .2) (c4 .args .atoms)
-    (codes-heads (2 * c4 .args .atoms) (rulesOf (c4 .args .table .now)) (accepted-below _ _ (c4 .pre .1))) (omega arith)
+    let c11 = c .before .before .before .before .before .before .before .before .before .before .before in
+    let inv = c .before .loop .inv .1 in
+    let low = codes-heads (2 * c11 .args .atoms) (rulesOf (c11 .args .table .now)) (accepted-below _ _ (c11 .pre .1 .0)) in
+    let is = round-enough _ _ _ (c .before .loop .k) (inv .is) (c11 .args .atoms) low (omega arith) in
+    (is, least-marked _ _ _ _ low (inv .marks-size) is)
 
 pub derive-spec : {M : Type 1} → statement M
 derive-spec =
@@ -81,8 +108,14 @@ derive-spec =
     μ-loop
     mul-limit
     add-limit
+    no-starts-requires
+    no-waits-requires
+    slice-aggregate-pend
+    pend-requires
     clear-requires
     loop-holds
+    slice-aggregate-round
+    slice-aggregate-round-2
     round-requires
     slice-aggregate-same
     slice-aggregate-same-2

@@ -2,111 +2,153 @@
 -- Assumes nothing.
 use mathlib.Core.Logic.{⊎-elim, inl, inr}
 use native.Mathlib.Omega.{arith}
-use mathlib.Core.Path.{_≡_, sym, _∙_, fun-ext}
-use mathlib.Core.Bool.{false, _||_, or-false}
-use Prim.Native.Nat.{ℕ, _≤_}
-use lib.ListN.{length}
-use Rattle.logic_programs.specs.Words.{rulesOf}
-use lib.ListN.{length-replicate}
-use Rattle.answer_sets.specs.Verdicts.{round}
-use Rattle.rule_tables.specs.Bodies.{marked}
-use Rattle.rule_tables.specs.Internal.{Sound}
-use Rattle.search.proofs.Stored.{getD-replicate}
-use Rattle.rule_tables.proofs.Fronts.{left-behind, shorter}
-use Rattle.rule_tables.proofs.Walking.{sound-size, sound-head, sound-rest, rules-end}
-use Rattle.answer_sets.proofs.Fronts.{derives-literal, round-turn}
+use mathlib.Core.Path.{_≡_, refl, sym, _∙_}
+use Prim.Native.Nat.{_-_}
+use lib.ListN.{length, take}
+use Rattle.rule_tables.specs.Marks.{marked}
+use Rattle.answer_sets.proofs.Outside.{start-within, from-whole, from-head}
+use Rattle.answer_sets.proofs.Rounds.{Turned, turn-start, next, turn, turned}
 use Rattle.answer_sets.proofs.derivation.round.Statement.{statement}
 use Rattle.answer_sets.proofs.derivation.round.Tie as tie
 
 abbrev Inv-loop : tie.InvT-loop
-Inv-loop table x old new₀ rest₀ new rest =
-    (length rest ≤ length table) × Sound rest × (length new ≡ 2048) ×
-    ((k : ℕ) → (marked new k || round (rulesOf rest) (marked x) (marked old) k) ≡ round (rulesOf table) (marked x) (marked old) k)
+Inv-loop table starts₀ waits₀ count old new₀ left₀ i₀ starts waits new left i =
+    Turned table (marked old) (take count starts₀) (length starts₀) (length waits₀) count new starts waits left i
 
 abbrev μ-loop : tie.MeasureT-loop
-μ-loop table x old new₀ rest₀ new rest = length rest
-
-clear-requires : tie.Need-clear-requires Inv-loop μ-loop
-clear-requires c κs = tt
+μ-loop table starts₀ waits₀ count old new₀ left₀ i₀ starts waits new left i = count - i
 
 loop-holds : tie.Need-loop-holds Inv-loop μ-loop
-loop-holds c =
+loop-holds c = let c3 = c .before .before .before in turn-start _ _ _ _ _ (omega arith) (c3 .pre .1 .1)
+
+mul-start : tie.Need-mul-start Inv-loop μ-loop
+mul-start c = omega arith
+
+slice-read-start : tie.Need-slice-read-start Inv-loop μ-loop
+slice-read-start c = omega arith
+
+cast-rest : tie.Need-cast-rest Inv-loop μ-loop
+cast-rest c =
     let c2 = c .before .before in
-    (omega arith, c2 .pre, rw (c .clear .ensures) (length-replicate 2048 false), λ k. rw (c .clear .ensures, getD-replicate 2048 k false))
-
-shared-slice-read-head : tie.Need-shared-slice-read-head Inv-loop μ-loop
-shared-slice-read-head c = c .before .loop-test .taken
-
-cast-head : tie.Need-cast-head Inv-loop μ-loop
-cast-head c = omega (arith, c .shared-slice-known2 .given 0)
-
-slice-aggregate-rule-derives : tie.Need-slice-aggregate-rule-derives Inv-loop μ-loop
-slice-aggregate-rule-derives c = omega arith
-
-slice-aggregate-rule-derives-2 : tie.Need-slice-aggregate-rule-derives-2 Inv-loop μ-loop
-slice-aggregate-rule-derives-2 c = omega arith
-
-rule-derives-requires : tie.Need-rule-derives-requires Inv-loop μ-loop
-rule-derives-requires c κs = tt
-
-array-write-new : tie.Need-array-write-new Inv-loop μ-loop
-array-write-new c =
-    let c5 = c .before .before .before .before .before in
-    let c6 = c5 .before in
-    let c9 = c6 .before .before .before in
-    sound-head (c6 .loop .rest .now) (c5 .loop-test .taken) (c6 .loop .inv .1)
-    (derives-literal (marked (c9 .args .t2)) (marked (c9 .args .t3)) (c6 .loop .rest .now) _ (c .before .rule-derives .ensures) (c .if1 .taken))
-
-rule-size-requires : tie.Need-rule-size-requires Inv-loop μ-loop
-rule-size-requires c κs = tt
+    let c6 = c2 .before .before .before .before in
+    omega (arith, start-within _ _ _ (next _ _ _ _ _ _ _ _ _ _ _ (c2 .loop .inv) (c6 .pre .0) (c6 .pre .1 .0) (c .before .loop-test .taken)))
 
 mul-rest : tie.Need-mul-rest Inv-loop μ-loop
 mul-rest c =
-    let c6 = c .before .before .before .before .before .before in
-    let c7 = c6 .before in
-    omega (arith, sound-size (c7 .loop .rest .now) (c6 .loop-test .taken) (c7 .loop .inv .1), c .rule-size .ensures)
+    let c2 = c .before .before in
+    let c6 = c2 .before .before .before .before in
+    omega (arith, start-within _ _ _ (next _ _ _ _ _ _ _ _ _ _ _ (c2 .loop .inv) (c6 .pre .0) (c6 .pre .1 .0) (c .before .loop-test .taken)))
 
 sub-rest : tie.Need-sub-rest Inv-loop μ-loop
 sub-rest c =
-    let c6 = c .before .before .before .before .before .before in
-    let c7 = c6 .before in
-    omega (arith, sound-size (c7 .loop .rest .now) (c6 .loop-test .taken) (c7 .loop .inv .1), c .rule-size .ensures)
+    let c2 = c .before .before in
+    let c6 = c2 .before .before .before .before in
+    omega (arith, start-within _ _ _ (next _ _ _ _ _ _ _ _ _ _ _ (c2 .loop .inv) (c6 .pre .0) (c6 .pre .1 .0) (c .before .loop-test .taken)))
 
 part-rest-start : tie.Need-part-rest-start Inv-loop μ-loop
 part-rest-start c =
-    let c6 = c .before .before .before .before .before .before in
-    let c7 = c6 .before in
-    omega (arith, sound-size (c7 .loop .rest .now) (c6 .loop-test .taken) (c7 .loop .inv .1), c .rule-size .ensures)
+    let c2 = c .before .before in
+    let c6 = c2 .before .before .before .before in
+    omega (arith, start-within _ _ _ (next _ _ _ _ _ _ _ _ _ _ _ (c2 .loop .inv) (c6 .pre .0) (c6 .pre .1 .0) (c .before .loop-test .taken)))
 
 part-rest-end : tie.Need-part-rest-end Inv-loop μ-loop
 part-rest-end c = omega arith
 
-loop-less : tie.Need-loop-less Inv-loop μ-loop
-loop-less c =
+mul-waits-for : tie.Need-mul-waits-for Inv-loop μ-loop
+mul-waits-for c = omega arith
+
+slice-read-waits-for : tie.Need-slice-read-waits-for Inv-loop μ-loop
+slice-read-waits-for c = omega arith
+
+slice-aggregate-waits-for : tie.Need-slice-aggregate-waits-for Inv-loop μ-loop
+slice-aggregate-waits-for c = omega arith
+
+waits-for-requires : tie.Need-waits-for-requires Inv-loop μ-loop
+waits-for-requires c κs =
+    let c4 = c .before .before .before .before in
+    let c5 = c4 .before in
+    let c9 = c5 .before .before .before .before in
+    from-whole _ _ _ (next _ _ _ _ _ _ _ _ _ _ _ (c5 .loop .inv) (c9 .pre .0) (c9 .pre .1 .0) (c4 .loop-test .taken))
+
+shared-slice-read-head : tie.Need-shared-slice-read-head Inv-loop μ-loop
+shared-slice-read-head c =
     let c7 = c .before .before .before .before .before .before .before in
     let c8 = c7 .before in
-    let ws = c8 .loop .rest .now in
-    let h = c7 .loop-test .taken in
-    rw (left-behind ws _ (c .before .rule-size .ensures)) (shorter ws h)
+    let c12 = c8 .before .before .before .before in
+    omega (arith, from-whole _ _ _ (next _ _ _ _ _ _ _ _ _ _ _ (c8 .loop .inv) (c12 .pre .0) (c12 .pre .1 .0) (c7 .loop-test .taken)))
+
+cast-head : tie.Need-cast-head Inv-loop μ-loop
+cast-head c =
+    let c7 = c .before .before .before .before .before .before .before in
+    let c8 = c7 .before in
+    let c12 = c8 .before .before .before .before in
+    omega (arith, from-head _ _ _ (next _ _ _ _ _ _ _ _ _ _ _ (c8 .loop .inv) (c12 .pre .0) (c12 .pre .1 .0) (c7 .loop-test .taken)))
+
+shl-new : tie.Need-shl-new Inv-loop μ-loop
+shl-new c = omega arith
+
+mul-new : tie.Need-mul-new Inv-loop μ-loop
+mul-new c =
+    let c7 = c .before .before .before .before .before .before .before in
+    let c8 = c7 .before in
+    let c12 = c8 .before .before .before .before in
+    omega (arith, c8 .loop .inv .marks-size, from-head _ _ _ (next _ _ _ _ _ _ _ _ _ _ _ (c8 .loop .inv) (c12 .pre .0) (c12 .pre .1 .0) (c7 .loop-test .taken)))
+
+array-read-new : tie.Need-array-read-new Inv-loop μ-loop
+array-read-new c =
+    let c7 = c .before .before .before .before .before .before .before in
+    let c8 = c7 .before in
+    let c12 = c8 .before .before .before .before in
+    omega (arith, c8 .loop .inv .marks-size, from-head _ _ _ (next _ _ _ _ _ _ _ _ _ _ _ (c8 .loop .inv) (c12 .pre .0) (c12 .pre .1 .0) (c7 .loop-test .taken)))
+
+array-write-new : tie.Need-array-write-new Inv-loop μ-loop
+array-write-new c =
+    let c7 = c .before .before .before .before .before .before .before in
+    let c8 = c7 .before in
+    let c12 = c8 .before .before .before .before in
+    omega (arith, c8 .loop .inv .marks-size, from-head _ _ _ (next _ _ _ _ _ _ _ _ _ _ _ (c8 .loop .inv) (c12 .pre .0) (c12 .pre .1 .0) (c7 .loop-test .taken)))
+
+mul-starts : tie.Need-mul-starts Inv-loop μ-loop
+mul-starts c = omega arith
+
+slice-write-starts : tie.Need-slice-write-starts Inv-loop μ-loop
+slice-write-starts c = omega arith
+
+mul-waits : tie.Need-mul-waits Inv-loop μ-loop
+mul-waits c = omega arith
+
+slice-write-waits : tie.Need-slice-write-waits Inv-loop μ-loop
+slice-write-waits c = omega arith
+
+add-left : tie.Need-add-left Inv-loop μ-loop
+add-left c = omega arith
+
+add-i : tie.Need-add-i Inv-loop μ-loop
+add-i c = omega arith
+
+loop-less : tie.Need-loop-less Inv-loop μ-loop
+loop-less c = omega arith
 
 loop-again : tie.Need-loop-again Inv-loop μ-loop
 loop-again c =
-    let c2 = c .before .before in
-    let c3 = c2 .before in
-    let c7 = c3 .before .before .before .before in
-    let c8 = c7 .before in
-    let c11 = c8 .before .before .before in
-    let ws = c8 .loop .rest .now in
-    let h = c7 .loop-test .taken in
-    let turn =
-    round-turn (marked (c11 .args .t2)) (marked (c11 .args .t3)) ws h (c8 .loop .inv .1) (c8 .loop .new) (c2 .if1 .new) _
-    (c3 .rule-derives .ensures) (⊎-elim (λ w. inl (w .0 .taken, w .1)) (λ w. inr (w .0 .left, w .1)) (c2 .if1 .came)) (c8 .loop .inv .2)
-    (c8 .loop .inv .3) in
-    rw (left-behind ws _ (c .before .rule-size .ensures))
-    (omega (arith, shorter ws h), sound-rest ws h (c8 .loop .inv .1), turn .0, turn .1)
+    let c6 = c .before .before .before .before .before .before in
+    let c7 = c6 .before in
+    let c11 = c7 .before .before .before .before in
+    turn _ _ _ _ _ _ (c7 .loop .new) (c7 .loop .starts) (c7 .loop .waits) (c7 .loop .left) (c7 .loop .i) (c7 .loop .inv) (c11 .pre .0) (c11 .pre .1 .0)
+    (c6 .loop-test .taken) _ (c .before .waits-for .ensures) _ _ _ _
+    (⊎-elim (λ w. inl (w .0 .taken, w .4, w .2, w .3, w .5)) (λ w. inr (w .0 .left, w .3, w .1, w .2, w .4)) (c .if1 .came))
+
+same-length : tie.Need-same-length Inv-loop μ-loop
+same-length c = c .before .loop .inv .starts-size
+
+same-length-2 : tie.Need-same-length-2 Inv-loop μ-loop
+same-length-2 c = c .before .loop .inv .waits-size
 
 returns : tie.Need-returns Inv-loop μ-loop
-returns c = fun-ext (λ k. sym (or-false _) ∙ (rw (rules-end (c .before .loop .rest .now) (c .loop-test .left)) at (c .before .loop .inv .3 k)))
+returns c =
+    let c5 = c .before .before .before .before .before in
+    let done = turned _ _ _ _ _ _ _ _ _ _ _ (c .before .loop .inv) (c5 .pre .0) (c5 .pre .1 .0) (c .loop-test .left) in
+    (done .0, (done .1, done .2))
 
 pub round-spec : {M : Type 1} → statement M
 round-spec =
@@ -114,19 +156,32 @@ round-spec =
     (tie.spec
     Inv-loop
     μ-loop
-    clear-requires
     loop-holds
-    shared-slice-read-head
-    cast-head
-    slice-aggregate-rule-derives
-    slice-aggregate-rule-derives-2
-    rule-derives-requires
-    array-write-new
-    rule-size-requires
+    mul-start
+    slice-read-start
+    cast-rest
     mul-rest
     sub-rest
     part-rest-start
     part-rest-end
+    mul-waits-for
+    slice-read-waits-for
+    slice-aggregate-waits-for
+    waits-for-requires
+    shared-slice-read-head
+    cast-head
+    shl-new
+    mul-new
+    array-read-new
+    array-write-new
+    mul-starts
+    slice-write-starts
+    mul-waits
+    slice-write-waits
+    add-left
+    add-i
     loop-less
     loop-again
+    same-length
+    same-length-2
     returns)

@@ -6,7 +6,7 @@ use Prim.Native.Nat.{_≤_, _+_}
 use lib.ListN.{length}
 use Rattle.search.specs.Search.{first}
 use Rattle.logic_programs.specs.Words.{rulesOf}
-use Rattle.rule_tables.specs.Bodies.{marked}
+use Rattle.rule_tables.specs.Marks.{marked}
 use Rattle.rule_tables.specs.Internal.{Sound}
 use Rattle.answer_sets.specs.Verdicts.{isBroken}
 use Rattle.rule_tables.proofs.Fronts.{left-behind, shorter}

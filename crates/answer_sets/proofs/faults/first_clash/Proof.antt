@@ -5,7 +5,7 @@ use native.Mathlib.Omega.{arith}
 use mathlib.Core.Path.{_≡_, sym, _∙_}
 use Prim.Native.Nat.{_≤_, _-_}
 use Rattle.search.specs.Search.{first, range}
-use Rattle.rule_tables.specs.Bodies.{marked}
+use Rattle.rule_tables.specs.Marks.{marked}
 use Rattle.search.proofs.Loops.{range-stop, range-go, range-done}
 use Rattle.answer_sets.specs.Verdicts.{bothValues}
 use Rattle.answer_sets.proofs.faults.first_clash.Statement.{statement}

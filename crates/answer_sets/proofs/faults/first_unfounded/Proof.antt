@@ -5,9 +5,10 @@ use native.Mathlib.Omega.{arith}
 use mathlib.Core.Path.{_≡_, sym, _∙_}
 use Prim.Native.Nat.{_≤_, _-_}
 use Rattle.search.specs.Search.{first, range}
-use Rattle.rule_tables.specs.Bodies.{marked}
+use Rattle.rule_tables.specs.Marks.{marked}
 use Rattle.search.proofs.Loops.{range-stop, range-go, range-done}
 use Rattle.answer_sets.specs.Verdicts.{isUnfounded}
+use Rattle.answer_sets.proofs.Judging.{none-unfounded}
 use Rattle.answer_sets.proofs.faults.first_unfounded.Statement.{statement}
 use Rattle.answer_sets.proofs.faults.first_unfounded.Tie as tie
 
@@ -17,17 +18,25 @@ Inv-loop x least codes code₀ code = (code ≤ codes) × (first (isUnfounded (m
 abbrev μ-loop : tie.MeasureT-loop
 μ-loop x least codes code₀ code = codes - code
 
+same-requires : tie.Need-same-requires Inv-loop μ-loop
+same-requires c κs = tt
+
+returns : tie.Need-returns Inv-loop μ-loop
+returns c =
+    let c4 = c .before .before .before .before in
+    rw (c .before .same .ensures .0 (c .if1 .taken)) (none-unfounded (marked (c4 .args .least .now)) 0 (range 0 (c4 .args .codes)))
+
 loop-holds : tie.Need-loop-holds Inv-loop μ-loop
 loop-holds c = (omega arith, simp sub-zero)
 
 is-unfounded-requires : tie.Need-is-unfounded-requires Inv-loop μ-loop
 is-unfounded-requires c κs = tt
 
-returns : tie.Need-returns Inv-loop μ-loop
-returns c =
+returns-2 : tie.Need-returns-2 Inv-loop μ-loop
+returns-2 c =
     let c2 = c .before .before in
     let c3 = c2 .before in
-    range-stop _ _ _ (c2 .loop-test .taken) (c3 .loop .inv .1) (sym (c .before .is-unfounded .ensures) ∙ c .if1 .taken)
+    range-stop _ _ _ (c2 .loop-test .taken) (c3 .loop .inv .1) (sym (c .before .is-unfounded .ensures) ∙ c .if2 .taken)
 
 add-code : tie.Need-add-code Inv-loop μ-loop
 add-code c = omega arith
@@ -39,10 +48,10 @@ loop-again : tie.Need-loop-again Inv-loop μ-loop
 loop-again c =
     let c2 = c .before .before in
     let c3 = c2 .before in
-    (omega arith, range-go _ _ _ (c2 .loop-test .taken) (c3 .loop .inv .1) (sym (c .before .is-unfounded .ensures) ∙ c .if1 .left))
+    (omega arith, range-go _ _ _ (c2 .loop-test .taken) (c3 .loop .inv .1) (sym (c .before .is-unfounded .ensures) ∙ c .if2 .left))
 
-returns-2 : tie.Need-returns-2 Inv-loop μ-loop
-returns-2 c = range-done _ _ _ (c .loop-test .left) (c .before .loop .inv .1)
+returns-3 : tie.Need-returns-3 Inv-loop μ-loop
+returns-3 c = range-done _ _ _ (c .loop-test .left) (c .before .loop .inv .1)
 
 pub first-unfounded-spec : {M : Type 1} → statement M
 first-unfounded-spec =
@@ -50,10 +59,12 @@ first-unfounded-spec =
     (tie.spec
     Inv-loop
     μ-loop
+    same-requires
+    returns
     loop-holds
     is-unfounded-requires
-    returns
+    returns-2
     add-code
     loop-less
     loop-again
-    returns-2)
+    returns-3)

@@ -5,8 +5,10 @@ use native.Mathlib.Omega.{arith}
 use borrow.Author.Needs.{needs}
 use Rattle.search.specs.Replies.{answered}
 use Rattle.search.proofs.Loops.{at-place, no-place}
-use Rattle.rule_tables.specs.Bodies.{marked}
+use Rattle.logic_programs.specs.Words.{rulesOf}
+use Rattle.rule_tables.specs.Marks.{marked}
 use Rattle.rule_tables.proofs.Walking.{accepted-sound}
+use Rattle.answer_sets.proofs.Passes.{unbroken-closed}
 use Rattle.answer_sets.proofs.Judging.{says-clash, says-broken, says-unfounded, says-passes}
 use Rattle.answer_sets.proofs.faults.judge.Statement.{statement}
 use Rattle.answer_sets.proofs.faults.judge.Tie as tie
@@ -57,10 +59,18 @@ returns-2 c =
 enum-told-2 : tie.Need-enum-told-2
 enum-told-2 c = search needs
 
+slice-aggregate-derive : tie.Need-slice-aggregate-derive
+slice-aggregate-derive c = omega arith
+
+slice-aggregate-derive-2 : tie.Need-slice-aggregate-derive-2
+slice-aggregate-derive-2 c = omega arith
+
 derive-requires : tie.Need-derive-requires
 derive-requires c κs =
-    let c11 = c .before .before .before .before .before .before .before .before .before .before .before in
-    (c11 .pre .0, c11 .pre .1)
+    let c4 = c .before .before .before .before in
+    let c10 = c4 .before .before .before .before .before .before in
+    let c13 = c10 .before .before .before in
+    (c13 .pre .0, (c13 .pre .1, unbroken-closed (rulesOf (c13 .args .table .now)) (marked (c10 .marks-of .result)) (no-place (c4 .first-broken .ensures) (c .before .before .enum-told2 .given .1))))
 
 slice-aggregate-first-unfounded : tie.Need-slice-aggregate-first-unfounded
 slice-aggregate-first-unfounded c = omega arith
@@ -70,8 +80,8 @@ slice-aggregate-first-unfounded-2 c = omega arith
 
 mul-first-unfounded : tie.Need-mul-first-unfounded
 mul-first-unfounded c =
-    let c14 = c .before .before .before .before .before .before .before .before .before .before .before .before .before .before in
-    omega (arith, c14 .pre .0)
+    let c16 = c .before .before .before .before .before .before .before .before .before .before .before .before .before .before .before .before in
+    omega (arith, c16 .pre .0)
 
 first-unfounded-requires : tie.Need-first-unfounded-requires
 first-unfounded-requires c κs = tt
@@ -83,14 +93,14 @@ returns-3 : tie.Need-returns-3
 returns-3 c =
     let c3 = c .before .before .before in
     let c6 = c3 .before .before .before in
-    let c7 = c6 .before in
-    let c9 = c7 .before .before in
+    let c9 = c6 .before .before .before in
     let c11 = c9 .before .before in
     let c13 = c11 .before .before in
     let c15 = c13 .before .before in
+    let c17 = c15 .before .before in
     ap answered
-    (says-unfounded _ _ _ (marked (c15 .marks-of .result)) (c15 .marks-of .ensures) (no-place (c13 .first-clash .ensures) (c11 .enum-told .given .1))
-    (no-place (c9 .first-broken .ensures) (c7 .enum-told2 .given .1)) (marked (c6 .derive .result)) (c6 .derive .ensures)
+    (says-unfounded _ _ _ (marked (c17 .marks-of .result)) (c17 .marks-of .ensures) (no-place (c15 .first-clash .ensures) (c13 .enum-told .given .1))
+    (no-place (c11 .first-broken .ensures) (c9 .enum-told2 .given .1)) (marked (c6 .derive .result)) (c6 .derive .ensures .0)
     (at-place (c3 .first-unfounded .ensures) (c .before .code .given .1)))
 
 enum-told-3 : tie.Need-enum-told-3
@@ -100,14 +110,14 @@ returns-4 : tie.Need-returns-4
 returns-4 c =
     let c2 = c .before .before in
     let c5 = c2 .before .before .before in
-    let c6 = c5 .before in
-    let c8 = c6 .before .before in
+    let c8 = c5 .before .before .before in
     let c10 = c8 .before .before in
     let c12 = c10 .before .before in
     let c14 = c12 .before .before in
+    let c16 = c14 .before .before in
     ap answered
-    (says-passes _ _ _ (marked (c14 .marks-of .result)) (c14 .marks-of .ensures) (no-place (c12 .first-clash .ensures) (c10 .enum-told .given .1))
-    (no-place (c8 .first-broken .ensures) (c6 .enum-told2 .given .1)) (marked (c5 .derive .result)) (c5 .derive .ensures)
+    (says-passes _ _ _ (marked (c16 .marks-of .result)) (c16 .marks-of .ensures) (no-place (c14 .first-clash .ensures) (c12 .enum-told .given .1))
+    (no-place (c10 .first-broken .ensures) (c8 .enum-told2 .given .1)) (marked (c5 .derive .result)) (c5 .derive .ensures .0)
     (no-place (c2 .first-unfounded .ensures) (c .enum-told3 .given .1)))
 
 pub judge-spec : {M : Type 1} → statement M
@@ -125,6 +135,8 @@ judge-spec =
     enum-known-rule
     returns-2
     enum-told-2
+    slice-aggregate-derive
+    slice-aggregate-derive-2
     derive-requires
     slice-aggregate-first-unfounded
     slice-aggregate-first-unfounded-2

@@ -1,7 +1,7 @@
 -- `completion::heads::false_failing` meets its contract.
 -- Assumes nothing.
 use borrow.Author.Needs.{needs}
-use Rattle.rule_tables.specs.Bodies.{marked}
+use Rattle.rule_tables.specs.Marks.{marked}
 use Rattle.completion.proofs.Fronts.{false-found, false-absent}
 use Rattle.completion.proofs.heads.false_failing.Statement.{statement}
 use Rattle.completion.proofs.heads.false_failing.Tie as tie

@@ -7,7 +7,8 @@ use mathlib.Core.Bool.{true, false}
 use Prim.Native.Nat.{ℕ, _≤_, _-_}
 use lib.ListN.{length, drop}
 use Rattle.search.specs.Search.{all}
-use Rattle.rule_tables.specs.Bodies.{marked, is}
+use Rattle.rule_tables.specs.Bodies.{is}
+use Rattle.rule_tables.specs.Marks.{marked}
 use Rattle.search.proofs.Loops.{all-stop, all-go, all-done}
 use Rattle.rule_tables.proofs.Lookups.{differs}
 use Rattle.rule_tables.proofs.marks.all_are.Statement.{statement}

@@ -1,20 +1,27 @@
 -- `rule_tables::marks::has` meets its contract.
 -- Assumes nothing.
-use mathlib.Core.Bool.{false}
-use lib.ListN.{List·getD-eq-default}
-use mathlib.Core.Path.{sym}
 use borrow.Author.Needs.{needs}
+use mathlib.Core.Path.{sym}
+use Rattle.rule_tables.specs.Marks.{marked}
+use Rattle.rule_tables.proofs.Bits.{in-past}
 use Rattle.rule_tables.proofs.marks.has.Statement.{statement}
 use Rattle.rule_tables.proofs.marks.has.Tie as tie
+
+mul-result : tie.Need-mul-result
+mul-result c = search needs
 
 shared-slice-read-result : tie.Need-shared-slice-read-result
 shared-slice-read-result c = search needs
 
+shr-result : tie.Need-shr-result
+shr-result c = search needs
+
 returns : tie.Need-returns
+unfolding marked
 returns c = search needs
 
 returns-2 : tie.Need-returns-2
-returns-2 c = sym (List·getD-eq-default (c .before .args .marks .now) false (c .if1 .left))
+returns-2 c = sym (in-past (c .before .args .marks .now) (c .before .args .code) (c .if1 .left))
 
 pub has-spec : {M : Type 1} → statement M
-has-spec = tie.close (tie.spec shared-slice-read-result returns returns-2)
+has-spec = tie.close (tie.spec mul-result shared-slice-read-result shr-result returns returns-2)

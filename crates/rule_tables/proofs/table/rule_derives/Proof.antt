@@ -1,6 +1,6 @@
 -- `rule_tables::table::rule_derives` meets its contract.
 -- Assumes nothing.
-use Rattle.rule_tables.specs.Bodies.{marked}
+use Rattle.rule_tables.specs.Marks.{marked}
 use Rattle.rule_tables.proofs.Fronts.{derives-stop, derives-go}
 use Rattle.rule_tables.proofs.table.rule_derives.Statement.{statement}
 use Rattle.rule_tables.proofs.table.rule_derives.Tie as tie

@@ -1,0 +1,91 @@
+// The rules that a derivation still has to look at: the words at which they start and, beside each, a literal that its body waits
+// for, or 65535 if none is known.
+use rule_tables::marks;
+use rule_tables::table;
+ghost use mathlib.Core.Path.{_≡_};
+ghost use mathlib.Core.Bool.{not, _&&_};
+ghost use Prim.Native.Nat.{_≤_};
+ghost use lib.Dec.{ltb};
+ghost use lib.ListN.{length, replicate};
+ghost use Rattle.logic_programs.specs.Words.{ruleSize};
+ghost use Rattle.rule_tables.specs.Marks.{marked};
+ghost use Rattle.rule_tables.specs.Internal.{Sound};
+ghost use Rattle.answer_sets.specs.Waiting.{outside, waitsFor, Begun};
+
+// Room for the starts of 4,096 rules.
+pub(crate) fn no_starts() -> [u32; 4096]
+    ensures { λ r. ⌜ r ≡ replicate 4096 0 ⌝ }
+{
+    [0; 4096]
+}
+
+// Nothing waited for, 4,096 times.
+pub(crate) fn no_waits() -> [u16; 4096]
+    ensures { λ r. ⌜ r ≡ replicate 4096 65535 ⌝ }
+{
+    [65535; 4096]
+}
+
+// Whether a literal that a rule waits for is still not marked.
+fn still_waits(wait: usize, marks: &[u64]) -> bool
+    ensures { λ r. ⌜ r ≡ (ltb wait 2048 && not (marked (now (marks .entry)) wait)) ⌝ }
+{
+    if 2048 <= wait {
+        return false;
+    }
+    !marks::has(marks, wait)
+}
+
+// The first part that is not marked, or 65535.
+fn first_outside(parts: &[u16], marks: &[u64]) -> u16
+    ensures { λ r. ⌜ r ≡ outside (marked (now (marks .entry))) (now (parts .entry)) ⌝ }
+{
+    let mut i = 0;
+    while i < parts.len() {
+        let part = parts[i];
+        if !marks::has(marks, part as usize) {
+            return part;
+        }
+        i += 1;
+    }
+    65535
+}
+
+// What the rule at the front waits for now, or 65535 if its head is marked or its body holds. While what it waited for is not marked
+// no more of it is read.
+pub(crate) fn waits_for(rest: &[u16], wait: u16, marks: &[u64]) -> u16
+    requires { ⌜ ruleSize (now rest) ≤ length (now rest) ⌝ }
+    ensures { λ r. ⌜ r ≡ waitsFor (now (rest .entry)) wait (marked (now (marks .entry))) ⌝ }
+{
+    if still_waits(wait as usize, marks) {
+        return wait;
+    }
+    if marks::has(marks, rest[0] as usize) {
+        return 65535;
+    }
+    let middle = 3 + (rest[1] as usize);
+    let end = middle + (rest[2] as usize);
+    first_outside(&rest[middle..end], marks)
+}
+
+// Makes the reduct by x once: the starts of the rules with literal heads that it keeps, and how many they are. Rules with a plain part
+// outside a closed set are left out, since no round ever reaches their bodies.
+pub(crate) fn pend(table: &[u16], x: &[u64], closed: &[u64], starts: &mut [u32]) -> usize
+    requires { ⌜ Sound (now table) ⌝ }
+    requires { ⌜ length (now starts) ≡ 4096 ⌝ }
+    ensures { λ r. ⌜ Begun (now (table .entry)) (marked (now (x .entry))) (marked (now (closed .entry))) (now (starts .exit)) r ⌝ }
+{
+    let mut rest = table;
+    let mut at: usize = 0;
+    let mut count: usize = 0;
+    while 0 < rest.len() {
+        if table::rule_derives(rest, x, closed) {
+            starts[count] = at as u32;
+            count += 1;
+        }
+        let size = table::rule_size(rest);
+        rest = &rest[size..];
+        at += size;
+    }
+    count
+}
