@@ -22,7 +22,7 @@ use Rattle.logic_programs.specs.Words.{rulesOf}
 use Rattle.rule_tables.specs.Marks.{marked}
 use Rattle.rule_tables.proofs.Bits.{withMark, in-clear, in-stored, length-with}
 use Rattle.answer_sets.specs.Verdicts.{round, rounds}
-use Rattle.answer_sets.specs.Derived.{LeastMarked}
+use Rattle.answer_sets.specs.Derived.{Derived}
 use Rattle.answer_sets.specs.Waiting.{headAt, plainAt, heads, waitsFor, Waiting, EachWaiting, Begun, Made}
 use Rattle.answer_sets.proofs.Least.{HeadsBelow, rounds-within, rounds-below, least-closed}
 use Rattle.answer_sets.proofs.Sets.{all-within, within-subset}
@@ -155,52 +155,57 @@ module _ (table : List ℕ) (Y : Lits) (before : List ℕ) (n m count : ℕ) (ne
         },
       )
 
--- after k rounds: for every set between the marks and a closed one, what is marked and the rules that wait have the heads of the whole
--- program
-pub record Reached (table : List ℕ) (X B : Lits) (starts waits : List ℕ) (count : ℕ) (marks : List ℕ) (k : ℕ) : Type 0 where
+-- after k rounds: for every set between the marks and X, what is marked and the rules that wait have the heads of the whole program
+pub record Reached (table : List ℕ) (X : Lits) (starts waits : List ℕ) (count : ℕ) (marks : List ℕ) (k : ℕ) : Type 0 where
   pub few : count ≤ 4096
   pub starts-size : length starts ≡ 4096
   pub waits-size : length waits ≡ 4096
   pub marks-size : length marks ≡ 32
+  pub closed : Closed (literalHeaded (reduct (rulesOf table) X)) X
   pub waiting : EachWaiting table starts waits count
   pub is : marked marks ≡ rounds k (rulesOf table) X
-  pub covers : (Z : Lits) → Subset (marked marks) Z → Subset Z B → (c : ℕ) → (marked marks c || heads table (take count starts) Z c) ≡ round (rulesOf table) X Z c
+  pub covers : (Z : Lits) → Subset (marked marks) Z → Subset Z X → (c : ℕ) → (marked marks c || heads table (take count starts) Z c) ≡ round (rulesOf table) X Z c
 
-pub reach-start : (table : List ℕ) (X B : Lits) (starts waits : List ℕ) (count : ℕ) (marks : List ℕ) → Begun table X B starts count → length starts ≡ 4096
-    → waits ≡ replicate 4096 65535 → marks ≡ replicate 32 0 → Reached table X B starts waits count marks 0
-reach-start table X B starts waits count marks begun size w m =
+pub reach-start : (table : List ℕ) (X : Lits) (starts waits : List ℕ) (count : ℕ) (marks : List ℕ) → Begun table X starts count → length starts ≡ 4096
+    → waits ≡ replicate 4096 65535 → marks ≡ replicate 32 0 → Reached table X starts waits count marks 0
+reach-start table X starts waits count marks begun size w m =
     rw (w, m) (record {
       few = begun .few;
       starts-size = size;
       waits-size = length-replicate {A = ℕ} 4096 65535;
       marks-size = length-replicate {A = ℕ} 32 0;
+      closed = begun .closed;
       waiting = λ j l. rw (getD-replicate {A = ℕ} 4096 j 65535 0 (omega (arith, begun .few))) (begun .waiting j l);
       is = fun-ext (λ c. in-clear 32 c);
       covers = λ Z _ sub c. rw (in-clear 32 c) (begun .enough Z sub c);
     })
 
-module _ (table : List ℕ) (X B : Lits) (starts waits : List ℕ) (count : ℕ) (marks : List ℕ) (k : ℕ) (inv : Reached table X B starts waits count marks k)
-    (closed : Closed (literalHeaded (reduct (rulesOf table) X)) B) (new after : List ℕ) (made : Made table (marked marks) (take count starts) new after) where
+module _ (table : List ℕ) (X : Lits) (starts waits : List ℕ) (count : ℕ) (marks : List ℕ) (k : ℕ) (inv : Reached table X starts waits count marks k)
+    (new after : List ℕ) (made : Made table (marked marks) (take count starts) new after) where
   -- a round over the rules that wait is a round over all
   pub round-whole : marked new ≡ round (rulesOf table) X (marked marks)
-  round-whole = fun-ext (λ c. made .added c ∙ inv .covers (marked marks) (λ d e. e) (rw (inv .is) (rounds-within k (rulesOf table) X B closed)) c)
+  round-whole = fun-ext (λ c. made .added c ∙ inv .covers (marked marks) (λ d e. e) (rw (inv .is) (rounds-within k (rulesOf table) X X (inv .closed))) c)
 
   pub reach-next : (starts′ waits′ : List ℕ) (left : ℕ) → after ≡ take left starts′ → left ≤ count → length starts′ ≡ 4096 → length waits′ ≡ 4096
-      → EachWaiting table starts′ waits′ left → Reached table X B starts′ waits′ left new (k + 1)
+      → EachWaiting table starts′ waits′ left → Reached table X starts′ waits′ left new (k + 1)
   reach-next starts′ waits′ left e less size size′ each = record {
     few = omega (arith, inv .few);
     starts-size = size;
     waits-size = size′;
     marks-size = made .size;
+    closed = inv .closed;
     waiting = each;
     is = round-after (rulesOf table) X (marked marks) k (inv .is) (marked new) round-whole;
     covers = λ Z up sub c. let wide : Subset (marked marks) Z = λ d t. up d (rw (made .added d, t)) in rw (← e) (made .kept Z wide c) ∙ inv .covers Z wide sub c;
   }
 
-pub least-marked : (n : ℕ) (Π : List Rule) (X : Lits) (words : List ℕ) → HeadsBelow (2 * n) Π → length words ≡ 32 → marked words ≡ rounds (2 * n) Π X
-    → LeastMarked n Π X words
-least-marked n Π X words low size is = record {
-  size = size;
-  least = rw is (least-closed n Π X low);
-  past = λ c h. false-of-not (marked words c) (λ t. let b = rounds-below (2 * n) Π X low (2 * n) c (rw is at t) in omega arith);
+pub derived : (n : ℕ) (Π : List Rule) (X : Lits) (words : List ℕ) → HeadsBelow (2 * n) Π → length words ≡ 32 → marked words ≡ rounds (2 * n) Π X
+    → Derived n Π X words
+derived n Π X words low size is = record {
+  least-marked = λ e. record {
+    size = size;
+    least = rw is (least-closed n Π X low);
+    past = λ c h. false-of-not (marked words c) (λ t. let b = rounds-below (2 * n) Π X low (2 * n) c (rw is at t) in omega arith);
+  };
+  last-round = λ e. is;
 }

@@ -9,7 +9,7 @@ use lib.Dec.{eqb, ltb}
 use lib.ListN.{length, getD, take, drop}
 use Rattle.search.specs.Search.{Each, all}
 use Rattle.logic_programs.specs.Literals.{Lits}
-use Rattle.logic_programs.specs.AnswerSets.{Subset}
+use Rattle.logic_programs.specs.AnswerSets.{Closed, Subset, reduct, literalHeaded}
 use Rattle.logic_programs.specs.Words.{ruleSize, ruleAt, rulesOf}
 use Rattle.answer_sets.specs.Verdicts.{round}
 use Rattle.rule_tables.specs.Marks.{marked}
@@ -50,11 +50,12 @@ pub record Waiting (ws : List ℕ) (s w : ℕ) : Type 0 where
 abbrev pub EachWaiting : List ℕ → List ℕ → List ℕ → ℕ → Type 0
 EachWaiting ws starts waits n = (j : ℕ) → j < n → Waiting ws (getD starts j 0) (getD waits j 0)
 
--- the n starts that a derivation by X begins with: for every part of a closed set they have the heads of the whole program
-pub record Begun (ws : List ℕ) (X closed : Lits) (starts : List ℕ) (n : ℕ) : Type 0 where
+-- the n starts that a derivation by X begins with, where X is closed: for every part of X they have the heads of the whole program
+pub record Begun (ws : List ℕ) (X : Lits) (starts : List ℕ) (n : ℕ) : Type 0 where
   pub few : n ≤ 4096
+  pub closed : Closed (literalHeaded (reduct (rulesOf ws) X)) X
   pub waiting : (j : ℕ) → j < n → Waiting ws (getD starts j 0) 65535
-  pub enough : (Z : Lits) → Subset Z closed → (c : ℕ) → heads ws (take n starts) Z c ≡ round (rulesOf ws) X Z c
+  pub enough : (Z : Lits) → Subset Z X → (c : ℕ) → heads ws (take n starts) Z c ≡ round (rulesOf ws) X Z c
 
 -- a round over the rules that start at these words, from the set Y to new marks: the heads whose bodies hold in Y are added, and
 -- what is marked or still waits after it is as good as what was before, for every set that Y is part of

@@ -1,15 +1,16 @@
 // The least set closed under the reduct's rules with literal heads, by rounds from 2,048 clear marks.
 use crate::pending;
 use rule_tables::marks;
+use search::Found;
 ghost use mathlib.Core.Path.{_≡_};
 ghost use mathlib.Core.Option.{none};
-ghost use Prim.Native.Nat.{_*_, _≤_};
+ghost use Prim.Native.Nat.{_≤_};
 ghost use lib.ListN.{length, take};
-ghost use Rattle.logic_programs.specs.AnswerSets.{reduct, literalHeaded, Closed};
+ghost use Rattle.search.specs.Search.{first, placeOf};
 ghost use Rattle.logic_programs.specs.Words.{rulesOf, badRule};
 ghost use Rattle.rule_tables.specs.Marks.{marked};
-ghost use Rattle.answer_sets.specs.Verdicts.{rounds};
-ghost use Rattle.answer_sets.specs.Derived.{LeastMarked};
+ghost use Rattle.answer_sets.specs.Verdicts.{isBroken};
+ghost use Rattle.answer_sets.specs.Derived.{Derived};
 ghost use Rattle.answer_sets.specs.Waiting.{EachWaiting, Made};
 
 // The marks after a round, and how many rules still wait.
@@ -57,30 +58,48 @@ fn round(
     }
 }
 
-// Rounds from clear marks until one adds nothing; one more than two for each atom are always enough. The least closed set is part of
-// every closed one, so any closed set may be given to leave rules out; the set x itself is one where no rule is broken.
-pub(crate) fn derive(table: &[u16], x: &[u64], closed: &[u64], atoms: usize) -> [u64; 32]
+// The lowest broken rule, if any; else the marks of the least closed set.
+pub(crate) struct Derivation {
+    pub(crate) broken: Found,
+    pub(crate) marks: [u64; 32],
+}
+
+// Where no rule is broken, rounds from clear marks until one adds nothing; one more than two for each atom are always enough.
+pub(crate) fn derive(table: &[u16], x: &[u64], atoms: usize) -> Derivation
     requires { ⌜ atoms ≤ 1024 ⌝ }
     requires { ⌜ badRule atoms (now table) ≡ none ⌝ }
-    requires { ⌜ Closed (literalHeaded (reduct (rulesOf (now table)) (marked (now x)))) (marked (now closed)) ⌝ }
-    ensures { λ r. ⌜ marked r ≡ rounds (2 * atoms) (rulesOf (now (table .entry))) (marked (now (x .entry))) ⌝ }
-    ensures { λ r. ⌜ LeastMarked atoms (rulesOf (now (table .entry))) (marked (now (x .entry))) r ⌝ }
+    ensures { λ r. ⌜ placeOf (r .broken) ≡ first (isBroken (marked (now (x .entry)))) 0 (rulesOf (now (table .entry))) ⌝ }
+    ensures { λ r. ⌜ Derived atoms (rulesOf (now (table .entry))) (marked (now (x .entry))) (r .marks) ⌝ }
 {
     let limit = 2 * atoms + 1;
     let mut starts = pending::no_starts();
-    let mut waits = pending::no_waits();
-    let mut count = pending::pend(table, x, closed, &mut starts);
     let mut marks = marks::clear();
+    let scan = pending::scan(table, x, &mut starts);
+    let broken = scan.broken;
+    if let Found::At(rule) = broken {
+        return Derivation {
+            broken: Found::At(rule),
+            marks: marks,
+        };
+    }
+    let mut waits = pending::no_waits();
+    let mut count = scan.count;
     let mut k = 0;
     while k < limit {
         let next = round(table, marks, &mut starts, &mut waits, count);
         let new = next.marks;
         if marks::same(&new, &marks) {
-            return marks;
+            return Derivation {
+                broken: Found::Nothing,
+                marks: marks,
+            };
         }
         marks = new;
         count = next.left;
         k += 1;
     }
-    marks
+    Derivation {
+        broken: Found::Nothing,
+        marks: marks,
+    }
 }

@@ -3,7 +3,6 @@ use crate::Answer;
 use crate::derivation;
 use crate::values;
 use rule_tables::marks;
-use rule_tables::table;
 use search::Found;
 ghost use mathlib.Core.Path.{_≡_};
 ghost use mathlib.Core.Option.{none};
@@ -12,11 +11,10 @@ ghost use lib.ListN.{length};
 ghost use Rattle.search.specs.Search.{first, placeOf, range};
 ghost use Rattle.search.specs.Replies.{answered};
 ghost use Rattle.logic_programs.specs.Literals.{setOf};
-ghost use Rattle.answer_sets.specs.Verdicts.{verdict, bothValues, isBroken, isUnfounded};
-ghost use Rattle.logic_programs.specs.Words.{rulesOf, badRule, ruleAt, ruleSize};
+ghost use Rattle.answer_sets.specs.Verdicts.{verdict, bothValues, isUnfounded};
+ghost use Rattle.logic_programs.specs.Words.{rulesOf, badRule};
 ghost use Rattle.answer_sets.specs.Answers.{replyOf};
 ghost use Rattle.rule_tables.specs.Marks.{marked};
-ghost use Rattle.rule_tables.specs.Internal.{Sound};
 
 // Whether an atom has both values.
 fn both_values(x: &[u64], atom: usize) -> bool
@@ -38,35 +36,6 @@ fn first_clash(x: &[u64], atoms: usize) -> Found
         if both_values(x, atom) {
             return Found::At(atom);
         }
-    }
-    Found::Nothing
-}
-
-// Whether the rule at the front applies while its head is false or not in the set.
-fn is_broken(rest: &[u16], x: &[u64]) -> bool
-    requires { ⌜ ruleSize (now rest) ≤ length (now rest) ⌝ }
-    ensures { λ r. ⌜ r ≡ isBroken (marked (now (x .entry))) (ruleAt (now (rest .entry))) ⌝ }
-{
-    if !table::rule_applies(rest, x, x) {
-        return false;
-    }
-    !table::head_in(rest[0] as usize, x)
-}
-
-// The lowest broken rule.
-fn first_broken(table: &[u16], x: &[u64]) -> Found
-    requires { ⌜ Sound (now table) ⌝ }
-    ensures { λ r. ⌜ placeOf r ≡ first (isBroken (marked (now (x .entry)))) 0 (rulesOf (now (table .entry))) ⌝ }
-{
-    let mut rest = table;
-    let mut rule = 0;
-    while 0 < rest.len() {
-        if is_broken(rest, x) {
-            return Found::At(rule);
-        }
-        let size = table::rule_size(rest);
-        rest = &rest[size..];
-        rule += 1;
     }
     Found::Nothing
 }
@@ -107,11 +76,12 @@ pub(crate) fn judge(values: &[u8], table: &[u16]) -> Answer
     if let Found::At(atom) = first_clash(&x, atoms) {
         return Answer::Clash(atom);
     }
-    if let Found::At(rule) = first_broken(table, &x) {
+    let derived = derivation::derive(table, &x, atoms);
+    let broken = derived.broken;
+    if let Found::At(rule) = broken {
         return Answer::Broken(rule);
     }
-    // No rule is broken, so x is closed.
-    let least = derivation::derive(table, &x, &x, atoms);
+    let least = derived.marks;
     if let Found::At(code) = first_unfounded(&x, &least, 2 * atoms) {
         return Answer::Unfounded(code);
     }

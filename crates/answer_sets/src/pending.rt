@@ -2,14 +2,18 @@
 // for, or 65535 if none is known.
 use rule_tables::marks;
 use rule_tables::table;
+use search::Found;
 ghost use mathlib.Core.Path.{_≡_};
 ghost use mathlib.Core.Bool.{not, _&&_};
+ghost use mathlib.Core.Option.{none};
 ghost use Prim.Native.Nat.{_≤_};
 ghost use lib.Dec.{ltb};
 ghost use lib.ListN.{length, replicate};
-ghost use Rattle.logic_programs.specs.Words.{ruleSize};
+ghost use Rattle.search.specs.Search.{first, placeOf};
+ghost use Rattle.logic_programs.specs.Words.{ruleSize, rulesOf};
 ghost use Rattle.rule_tables.specs.Marks.{marked};
 ghost use Rattle.rule_tables.specs.Internal.{Sound};
+ghost use Rattle.answer_sets.specs.Verdicts.{isBroken};
 ghost use Rattle.answer_sets.specs.Waiting.{outside, waitsFor, Begun};
 
 // Room for the starts of 4,096 rules.
@@ -68,24 +72,42 @@ pub(crate) fn waits_for(rest: &[u16], wait: u16, marks: &[u64]) -> u16
     first_outside(&rest[middle..end], marks)
 }
 
-// Makes the reduct by x once: the starts of the rules with literal heads that it keeps, and how many they are. Rules with a plain part
-// outside a closed set are left out, since no round ever reaches their bodies.
-pub(crate) fn pend(table: &[u16], x: &[u64], closed: &[u64], starts: &mut [u32]) -> usize
+// The lowest rule that a set breaks, if any, and how many rules apply in the set before it.
+pub(crate) struct Applying {
+    pub(crate) broken: Found,
+    pub(crate) count: usize,
+}
+
+// Makes the reduct by x once: the starts of the rules that it keeps whose bodies hold in x. Where no rule is broken, x is closed and the
+// least closed set part of it, so no round ever reaches the body of another rule.
+pub(crate) fn scan(table: &[u16], x: &[u64], starts: &mut [u32]) -> Applying
     requires { ⌜ Sound (now table) ⌝ }
     requires { ⌜ length (now starts) ≡ 4096 ⌝ }
-    ensures { λ r. ⌜ Begun (now (table .entry)) (marked (now (x .entry))) (marked (now (closed .entry))) (now (starts .exit)) r ⌝ }
+    ensures { λ r. ⌜ placeOf (r .broken) ≡ first (isBroken (marked (now (x .entry)))) 0 (rulesOf (now (table .entry))) ⌝ }
+    ensures { λ r. ⌜ (first (isBroken (marked (now (x .entry)))) 0 (rulesOf (now (table .entry))) ≡ none → Begun (now (table .entry)) (marked (now (x .entry))) (now (starts .exit)) (r .count)) ⌝ }
 {
     let mut rest = table;
     let mut at: usize = 0;
+    let mut rule: usize = 0;
     let mut count: usize = 0;
     while 0 < rest.len() {
-        if table::rule_derives(rest, x, closed) {
+        if table::rule_applies(rest, x, x) {
+            if !table::head_in(rest[0] as usize, x) {
+                return Applying {
+                    broken: Found::At(rule),
+                    count: count,
+                };
+            }
             starts[count] = at as u32;
             count += 1;
         }
         let size = table::rule_size(rest);
         rest = &rest[size..];
         at += size;
+        rule += 1;
     }
-    count
+    Applying {
+        broken: Found::Nothing,
+        count: count,
+    }
 }

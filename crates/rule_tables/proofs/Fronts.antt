@@ -7,14 +7,14 @@ use mathlib.Core.Option.{Option, none, some}
 use Prim.Native.Nat.{ℕ, suc, _+_, _-_, _*_, _/_, _≤_, _<_}
 use native.Mathlib.Numerals.{add-one}
 use native.Mathlib.Omega.{arith}
-use borrow.Author.Tests.{lt-leb, le-leb, not-true, not-false, ltb-true, ltb-false, lt-ltb, le-ltb, eq-eqb, ne-eqb}
-use lib.Dec.{eqb, ltb}
+use borrow.Author.Tests.{lt-leb, le-leb, not-true, not-false, ltb-true, ltb-false, lt-ltb, le-ltb}
+use lib.Dec.{ltb}
 use lib.ListN.{length, getD, take, drop, length-drop}
 use Rattle.search.specs.Search.{all}
 use Rattle.search.proofs.Loops.{to-the-end}
 use Rattle.logic_programs.specs.Literals.{Lits}
 use Rattle.logic_programs.specs.Words.{ruleSize, ruleAt, ruleFits, headFits, partsFit}
-use Rattle.rule_tables.specs.Bodies.{applies, frontApplies, frontDerives}
+use Rattle.rule_tables.specs.Bodies.{applies, frontApplies}
 use Rattle.rule_tables.proofs.Fitting.{badRuleFrom, badRuleFrom-cons, badRuleFrom-nil, ruleFits-iff}
 
 -- a rule that runs past the end does not apply; of a whole one, its body decides
@@ -26,20 +26,6 @@ module _ (X Y : Lits) (ws : List ℕ) where
   pub whole-applies : {r : Bool} → ruleSize ws ≤ length ws → r ≡ frontApplies X Y ws → r ≡ applies X Y (ruleAt ws)
   unfolding frontApplies
   whole-applies h e = rw (le-leb (ruleSize ws) (length ws) h) at e
-
-  pub whole-derives : {r : Bool} → ruleSize ws ≤ length ws → r ≡ frontDerives X Y ws → r ≡ (not (eqb (getD ws 0 0) 65535) && applies X Y (ruleAt ws))
-  unfolding frontApplies frontDerives
-  whole-derives h e = rw (le-leb (ruleSize ws) (length ws) h) at e
-
--- it derives its head where that is a literal
-module _ (X Y : Lits) (ws : List ℕ) (w : ℕ) (is : w ≡ getD ws 0 0) where
-  pub derives-stop : w ≡ 65535 → false ≡ frontDerives X Y ws
-  unfolding frontDerives
-  derives-stop e = rw (eq-eqb (getD ws 0 0) 65535 (sym is ∙ e))
-
-  pub derives-go : {r : Bool} → (w ≡ 65535 → ⊥) → r ≡ frontApplies X Y ws → r ≡ frontDerives X Y ws
-  unfolding frontDerives
-  derives-go n e = rw (ne-eqb (getD ws 0 0) 65535 (λ q. n (is ∙ q))) e
 
 -- a rule applies: first its negated parts are looked at, then its plain ones
 module _ (X Y : Lits) (ws : List ℕ) (r : Bool) (is : r ≡ all (λ c. not (X c)) (take (3 + getD ws 1 0 - 3) (drop 3 ws))) where

@@ -3,8 +3,8 @@
 use mathlib.Core.Bool.{Bool, true, false, not, _&&_}
 use mathlib.Core.List.{List}
 use Prim.Native.Nat.{ℕ}
-use lib.Dec.{eqb, leb}
-use lib.ListN.{length, getD}
+use lib.Dec.{leb}
+use lib.ListN.{length}
 use Rattle.search.specs.Search.{all}
 use Rattle.logic_programs.specs.Literals.{Lits}
 use Rattle.logic_programs.specs.Rules.{Head, lit, falsum, Rule}
@@ -27,7 +27,3 @@ is false b = not b
 -- the rule at the front of a list of words does not run past the end, and applies
 unfoldable pub frontApplies : Lits → Lits → List ℕ → Bool
 frontApplies X Y ws = leb (ruleSize ws) (length ws) && applies X Y (ruleAt ws)
-
--- and has a literal as its head
-unfoldable pub frontDerives : Lits → Lits → List ℕ → Bool
-frontDerives X Y ws = not (eqb (getD ws 0 0) 65535) && frontApplies X Y ws

@@ -5,7 +5,7 @@ ghost use mathlib.Core.Path.{_≡_};
 ghost use Prim.Native.Nat.{_<_};
 ghost use lib.ListN.{getD};
 ghost use Rattle.search.specs.Search.{placeOf};
-ghost use Rattle.rule_tables.specs.Bodies.{headIn, frontApplies, frontDerives};
+ghost use Rattle.rule_tables.specs.Bodies.{headIn, frontApplies};
 ghost use Rattle.rule_tables.specs.Marks.{marked};
 ghost use Rattle.logic_programs.specs.Words.{ruleSize, ruleFits, headFits, headOf, partsFit, badRule};
 
@@ -100,16 +100,6 @@ pub fn rule_applies(rest: &[u16], x: &[u64], y: &[u64]) -> bool
         return false;
     }
     marks::all_are(&rest[middle..end], y, true)
-}
-
-// Whether the rule at the front applies and has a literal as its head.
-pub fn rule_derives(rest: &[u16], x: &[u64], y: &[u64]) -> bool
-    ensures { λ r. ⌜ r ≡ frontDerives (marked (now (x .entry))) (marked (now (y .entry))) (now (rest .entry)) ⌝ }
-{
-    if word(rest, 0) == 65535 {
-        return false;
-    }
-    rule_applies(rest, x, y)
 }
 
 // Whether a head is a literal of the set; false never is.

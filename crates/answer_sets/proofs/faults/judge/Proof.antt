@@ -5,10 +5,7 @@ use native.Mathlib.Omega.{arith}
 use borrow.Author.Needs.{needs}
 use Rattle.search.specs.Replies.{answered}
 use Rattle.search.proofs.Loops.{at-place, no-place}
-use Rattle.logic_programs.specs.Words.{rulesOf}
 use Rattle.rule_tables.specs.Marks.{marked}
-use Rattle.rule_tables.proofs.Walking.{accepted-sound}
-use Rattle.answer_sets.proofs.Passes.{unbroken-closed}
 use Rattle.answer_sets.proofs.Judging.{says-clash, says-broken, says-unfounded, says-passes}
 use Rattle.answer_sets.proofs.faults.judge.Statement.{statement}
 use Rattle.answer_sets.proofs.faults.judge.Tie as tie
@@ -35,16 +32,14 @@ returns c =
 enum-told : tie.Need-enum-told
 enum-told c = search needs
 
-slice-aggregate-first-broken : tie.Need-slice-aggregate-first-broken
-slice-aggregate-first-broken c = omega arith
+slice-aggregate-derive : tie.Need-slice-aggregate-derive
+slice-aggregate-derive c = omega arith
 
-first-broken-requires : tie.Need-first-broken-requires
-first-broken-requires c κs =
-    let c8 = c .before .before .before .before .before .before .before .before in
-    accepted-sound _ _ (c8 .pre .0) (c8 .pre .1)
+derive-requires : tie.Need-derive-requires
+derive-requires c κs = let c8 = c .before .before .before .before .before .before .before .before in (c8 .pre .0, c8 .pre .1)
 
-enum-known-rule : tie.Need-enum-known-rule
-enum-known-rule c = search needs
+enum-known-broken : tie.Need-enum-known-broken
+enum-known-broken c = search needs
 
 returns-2 : tie.Need-returns-2
 returns-2 c =
@@ -54,34 +49,22 @@ returns-2 c =
     let c9 = c7 .before .before in
     ap answered
     (says-broken _ _ _ (marked (c9 .marks-of .result)) (c9 .marks-of .ensures) (no-place (c7 .first-clash .ensures) (c5 .enum-told .given .1))
-    (at-place (c3 .first-broken .ensures) (c .before .rule .given .1)))
+    (at-place (c3 .derive .ensures .0) (c .before .broken .given .1)))
 
 enum-told-2 : tie.Need-enum-told-2
 enum-told-2 c = search needs
-
-slice-aggregate-derive : tie.Need-slice-aggregate-derive
-slice-aggregate-derive c = omega arith
-
-slice-aggregate-derive-2 : tie.Need-slice-aggregate-derive-2
-slice-aggregate-derive-2 c = omega arith
-
-derive-requires : tie.Need-derive-requires
-derive-requires c κs =
-    let c4 = c .before .before .before .before in
-    let c10 = c4 .before .before .before .before .before .before in
-    let c13 = c10 .before .before .before in
-    (c13 .pre .0, (c13 .pre .1, unbroken-closed (rulesOf (c13 .args .table .now)) (marked (c10 .marks-of .result)) (no-place (c4 .first-broken .ensures) (c .before .before .enum-told2 .given .1))))
 
 slice-aggregate-first-unfounded : tie.Need-slice-aggregate-first-unfounded
 slice-aggregate-first-unfounded c = omega arith
 
 slice-aggregate-first-unfounded-2 : tie.Need-slice-aggregate-first-unfounded-2
-slice-aggregate-first-unfounded-2 c = omega arith
+slice-aggregate-first-unfounded-2 c =
+    let c3 = c .before .before .before in
+    let said = c3 .before .before .derive .ensures in
+    omega (arith, said .1 .least-marked (no-place (said .0) (c3 .enum-told2 .given .1)) .size)
 
 mul-first-unfounded : tie.Need-mul-first-unfounded
-mul-first-unfounded c =
-    let c16 = c .before .before .before .before .before .before .before .before .before .before .before .before .before .before .before .before in
-    omega (arith, c16 .pre .0)
+mul-first-unfounded c = omega (arith, c .before .before .before .before .before .before .before .before .before .before .before .before .before .before .pre .0)
 
 first-unfounded-requires : tie.Need-first-unfounded-requires
 first-unfounded-requires c κs = tt
@@ -92,16 +75,15 @@ enum-known-code c = search needs
 returns-3 : tie.Need-returns-3
 returns-3 c =
     let c3 = c .before .before .before in
-    let c6 = c3 .before .before .before in
-    let c9 = c6 .before .before .before in
+    let c7 = c3 .before .before .before .before in
+    let c9 = c7 .before .before in
     let c11 = c9 .before .before in
     let c13 = c11 .before .before in
     let c15 = c13 .before .before in
-    let c17 = c15 .before .before in
+    let unbroken = no-place (c9 .derive .ensures .0) (c7 .enum-told2 .given .1) in
     ap answered
-    (says-unfounded _ _ _ (marked (c17 .marks-of .result)) (c17 .marks-of .ensures) (no-place (c15 .first-clash .ensures) (c13 .enum-told .given .1))
-    (no-place (c11 .first-broken .ensures) (c9 .enum-told2 .given .1)) (marked (c6 .derive .result)) (c6 .derive .ensures .0)
-    (at-place (c3 .first-unfounded .ensures) (c .before .code .given .1)))
+    (says-unfounded _ _ _ (marked (c15 .marks-of .result)) (c15 .marks-of .ensures) (no-place (c13 .first-clash .ensures) (c11 .enum-told .given .1)) unbroken
+    (marked (c9 .derive .result .marks)) (c9 .derive .ensures .1 .last-round unbroken) (at-place (c3 .first-unfounded .ensures) (c .before .code .given .1)))
 
 enum-told-3 : tie.Need-enum-told-3
 enum-told-3 c = search needs
@@ -109,16 +91,15 @@ enum-told-3 c = search needs
 returns-4 : tie.Need-returns-4
 returns-4 c =
     let c2 = c .before .before in
-    let c5 = c2 .before .before .before in
-    let c8 = c5 .before .before .before in
+    let c6 = c2 .before .before .before .before in
+    let c8 = c6 .before .before in
     let c10 = c8 .before .before in
     let c12 = c10 .before .before in
     let c14 = c12 .before .before in
-    let c16 = c14 .before .before in
+    let unbroken = no-place (c8 .derive .ensures .0) (c6 .enum-told2 .given .1) in
     ap answered
-    (says-passes _ _ _ (marked (c16 .marks-of .result)) (c16 .marks-of .ensures) (no-place (c14 .first-clash .ensures) (c12 .enum-told .given .1))
-    (no-place (c10 .first-broken .ensures) (c8 .enum-told2 .given .1)) (marked (c5 .derive .result)) (c5 .derive .ensures .0)
-    (no-place (c2 .first-unfounded .ensures) (c .enum-told3 .given .1)))
+    (says-passes _ _ _ (marked (c14 .marks-of .result)) (c14 .marks-of .ensures) (no-place (c12 .first-clash .ensures) (c10 .enum-told .given .1)) unbroken
+    (marked (c8 .derive .result .marks)) (c8 .derive .ensures .1 .last-round unbroken) (no-place (c2 .first-unfounded .ensures) (c .enum-told3 .given .1)))
 
 pub judge-spec : {M : Type 1} → statement M
 judge-spec =
@@ -130,14 +111,11 @@ judge-spec =
     enum-known-atom
     returns
     enum-told
-    slice-aggregate-first-broken
-    first-broken-requires
-    enum-known-rule
+    slice-aggregate-derive
+    derive-requires
+    enum-known-broken
     returns-2
     enum-told-2
-    slice-aggregate-derive
-    slice-aggregate-derive-2
-    derive-requires
     slice-aggregate-first-unfounded
     slice-aggregate-first-unfounded-2
     mul-first-unfounded
