@@ -19,24 +19,24 @@ use Rattle.answer_sets.specs.Answers.{answer}
 use Rattle.answer_sets.proofs.Least.{HeadsBelow, rounds-stay, rounds-settle}
 
 -- Y is the set X, as marks
-module _ (n : ℕ) (Π : List Rule) (X Y : Lits) (is : Y ≡ X) where
-  pub says-clash : {a : ℕ} → first (bothValues Y) 0 (range 0 n) ≡ some a → clash a ≡ verdict n Π X
+module _ (n : ℕ) (Π : List Rule) (X : Lits) where
+  pub says-clash : {a : ℕ} → first (bothValues X) 0 (range 0 n) ≡ some a → clash a ≡ verdict n Π X
   unfolding verdict
-  says-clash e = rw (← is, e)
+  says-clash e = rw e
 
-  module _ (none₁ : first (bothValues Y) 0 (range 0 n) ≡ none) where
+  module _ (none₁ : first (bothValues X) 0 (range 0 n) ≡ none) (Y : Lits) (is : Y ≡ X) where
     pub says-broken : {r : ℕ} → first (isBroken Y) 0 Π ≡ some r → broken r ≡ verdict n Π X
     unfolding verdict
-    says-broken e = rw (← is, none₁, e)
+    says-broken e = rw (none₁, ← is, e)
 
     module _ (none₂ : first (isBroken Y) 0 Π ≡ none) (L : Lits) (least : L ≡ rounds (2 * n) Π Y) where
       pub says-unfounded : {c : ℕ} → first (isUnfounded Y L) 0 (range 0 (2 * n)) ≡ some c → unfounded c ≡ verdict n Π X
       unfolding verdict
-      says-unfounded e = rw (← is, none₁, none₂, ← least, e)
+      says-unfounded e = rw (none₁, ← is, none₂, ← least, e)
 
       pub says-passes : first (isUnfounded Y L) 0 (range 0 (2 * n)) ≡ none → passes ≡ verdict n Π X
       unfolding verdict
-      says-passes e = rw (← is, none₁, none₂, ← least, e)
+      says-passes e = rw (none₁, ← is, none₂, ← least, e)
 
 module _ (vs ws : List ℕ) where
   pub says-10 : 1024 < length vs → refused 10 (length vs) ≡ answer vs ws

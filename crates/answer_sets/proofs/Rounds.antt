@@ -155,27 +155,29 @@ module _ (table : List ℕ) (Y : Lits) (before : List ℕ) (n m count : ℕ) (ne
         },
       )
 
+-- two arrays of one length, nothing waited for in the second
+pub as-many : (n : ℕ) (starts waits : List ℕ) → starts ≡ replicate n 0 → waits ≡ replicate n 65535 → waits ≡ replicate (length starts) 65535
+as-many n starts waits s w = rw (s, length-replicate {A = ℕ} n 0) w
+
 -- after k rounds: for every set between the marks and X, what is marked and the rules that wait have the heads of the whole program
 pub record Reached (table : List ℕ) (X : Lits) (starts waits : List ℕ) (count : ℕ) (marks : List ℕ) (k : ℕ) : Type 0 where
-  pub few : count ≤ 4096
-  pub starts-size : length starts ≡ 4096
-  pub waits-size : length waits ≡ 4096
+  pub starts-room : count ≤ length starts
+  pub waits-room : count ≤ length waits
   pub marks-size : length marks ≡ 32
   pub closed : Closed (literalHeaded (reduct (rulesOf table) X)) X
   pub waiting : EachWaiting table starts waits count
   pub is : marked marks ≡ rounds k (rulesOf table) X
   pub covers : (Z : Lits) → Subset (marked marks) Z → Subset Z X → (c : ℕ) → (marked marks c || heads table (take count starts) Z c) ≡ round (rulesOf table) X Z c
 
-pub reach-start : (table : List ℕ) (X : Lits) (starts waits : List ℕ) (count : ℕ) (marks : List ℕ) → Begun table X starts count → length starts ≡ 4096
-    → waits ≡ replicate 4096 65535 → marks ≡ replicate 32 0 → Reached table X starts waits count marks 0
-reach-start table X starts waits count marks begun size w m =
+pub reach-start : (table : List ℕ) (X : Lits) (starts waits : List ℕ) (count : ℕ) (marks : List ℕ) → Begun table X starts count
+    → (n : ℕ) → waits ≡ replicate n 65535 → count ≤ n → marks ≡ replicate 32 0 → Reached table X starts waits count marks 0
+reach-start table X starts waits count marks begun n w few m =
     rw (w, m) (record {
-      few = begun .few;
-      starts-size = size;
-      waits-size = length-replicate {A = ℕ} 4096 65535;
+      starts-room = begun .few;
+      waits-room = rw (length-replicate {A = ℕ} n 65535) few;
       marks-size = length-replicate {A = ℕ} 32 0;
       closed = begun .closed;
-      waiting = λ j l. rw (getD-replicate {A = ℕ} 4096 j 65535 0 (omega (arith, begun .few))) (begun .waiting j l);
+      waiting = λ j l. rw (getD-replicate {A = ℕ} n j 65535 0 (omega arith)) (begun .waiting j l);
       is = fun-ext (λ c. in-clear 32 c);
       covers = λ Z _ sub c. rw (in-clear 32 c) (begun .enough Z sub c);
     })
@@ -186,12 +188,11 @@ module _ (table : List ℕ) (X : Lits) (starts waits : List ℕ) (count : ℕ) (
   pub round-whole : marked new ≡ round (rulesOf table) X (marked marks)
   round-whole = fun-ext (λ c. made .added c ∙ inv .covers (marked marks) (λ d e. e) (rw (inv .is) (rounds-within k (rulesOf table) X X (inv .closed))) c)
 
-  pub reach-next : (starts′ waits′ : List ℕ) (left : ℕ) → after ≡ take left starts′ → left ≤ count → length starts′ ≡ 4096 → length waits′ ≡ 4096
+  pub reach-next : (starts′ waits′ : List ℕ) (left : ℕ) → after ≡ take left starts′ → left ≤ count → length starts′ ≡ length starts → length waits′ ≡ length waits
       → EachWaiting table starts′ waits′ left → Reached table X starts′ waits′ left new (k + 1)
   reach-next starts′ waits′ left e less size size′ each = record {
-    few = omega (arith, inv .few);
-    starts-size = size;
-    waits-size = size′;
+    starts-room = omega (arith, inv .starts-room);
+    waits-room = omega (arith, inv .waits-room);
     marks-size = made .size;
     closed = inv .closed;
     waiting = each;

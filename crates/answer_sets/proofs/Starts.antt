@@ -23,7 +23,7 @@ use Rattle.rule_tables.specs.Internal.{Sound}
 use Rattle.rule_tables.proofs.Fronts.{whole-applies}
 use Rattle.rule_tables.proofs.Walking.{rules-front, rules-end, rule-stop, rule-go, rule-end, sound-size, sound-head, sound-few, sound-fits, sound-rest, sound-before}
 use Rattle.answer_sets.specs.Verdicts.{round, headIs, isBroken}
-use Rattle.answer_sets.specs.Waiting.{headAt, plainAt, heads, Waiting, Begun}
+use Rattle.answer_sets.specs.Waiting.{headAt, plainAt, heads, Waiting, Begun, Roomy}
 use Rattle.answer_sets.proofs.Least.{applies-subset}
 use Rattle.answer_sets.proofs.Passes.{unbroken-closed}
 use Rattle.answer_sets.proofs.Decoding.{accepted-rule}
@@ -36,29 +36,33 @@ pub heads-append : (ws : List ℕ) (Z : Lits) (c : ℕ) (ss rs : List ℕ) → h
 heads-append ws Z c [] rs = refl
 heads-append ws Z c (s ∷ ss) rs = rw (heads-append ws Z c ss rs) (or-assoc (eqb (headAt ws s) c && all Z (plainAt ws s)) (heads ws ss Z c) (heads ws rs Z c))
 
--- before word `at` are as many rules as `rule` says, none of them broken, and `count` of them apply in X; rest is what is left. A rule
+-- the array of starts has n places; before word `at` are as many rules as `rule` says, none of them broken, and `count` of them apply in X; rest is what is left. A rule
 -- takes 131,073 words at most
-pub record Scanned (table : List ℕ) (X : Lits) (starts rest : List ℕ) (at rule count : ℕ) : Type 0 where
+pub record Scanned (table : List ℕ) (X : Lits) (n : ℕ) (starts rest : List ℕ) (at rule count : ℕ) : Type 0 where
   pub behind : rest ≡ drop at table
   pub sound : Sound rest
   pub numbered : rule ≤ sound .before
   pub few : count ≤ rule
-  pub fits : count ≤ 4096
+  pub fits : count ≤ n
   pub low : at ≤ 131073 * rule
-  pub size : length starts ≡ 4096
+  pub high : 3 * rule ≤ at
+  pub size : length starts ≡ n
+  pub roomy : Roomy table n
   pub unbroken : first (isBroken X) rule (rulesOf rest) ≡ first (isBroken X) 0 (rulesOf table)
   pub waiting : (j : ℕ) → j < count → Waiting table (getD starts j 0) 65535
   pub enough : (Z : Lits) → Subset Z X → (c : ℕ) → (heads table (take count starts) Z c || round (rulesOf rest) X Z c) ≡ round (rulesOf table) X Z c
 
-pub scan-start : (table : List ℕ) (X : Lits) (starts : List ℕ) → Sound table → length starts ≡ 4096 → Scanned table X starts table 0 0 0
-scan-start table X starts s size = record {
+pub scan-start : (table : List ℕ) (X : Lits) (starts : List ℕ) → Sound table → Roomy table (length starts) → Scanned table X (length starts) starts table 0 0 0
+scan-start table X starts s roomy = record {
   behind = refl;
   sound = s;
   numbered = omega arith;
   few = omega arith;
   fits = omega arith;
   low = omega arith;
-  size = size;
+  high = omega arith;
+  size = refl;
+  roomy = roomy;
   unbroken = refl;
   waiting = λ j l. absurd (omega arith);
   enough = λ Z sub c. refl;
@@ -68,15 +72,18 @@ literal-head : (X : Lits) (w : ℕ) → headIn (headOf w) X ≡ true → eqb w 6
 literal-head X w e = false-of-not (eqb w 65535) (λ t. false≢true (rw t at e))
 
 -- the rule at the front: sound, and so whole
-module _ (table : List ℕ) (X : Lits) (starts rest : List ℕ) (at rule count : ℕ) (inv : Scanned table X starts rest at rule count) (h : 0 < length rest) where
-  pub room : rule < 4096
-  room = omega (arith, sound-few rest h (inv .sound), inv .numbered)
+module _ (table : List ℕ) (X : Lits) (n : ℕ) (starts rest : List ℕ) (at rule count : ℕ) (inv : Scanned table X n starts rest at rule count) (h : 0 < length rest) where
+  pub below : rule < 4096
+  below = omega (arith, sound-few rest h (inv .sound), inv .numbered)
 
   pub here : ruleSize rest ≤ length rest
   here = sound-size rest h (inv .sound)
 
   pub up-to : at + length rest ≤ length table
   up-to = let size : length rest ≡ length (drop at table) = ap length (inv .behind) in omega (arith, length-drop at table)
+
+  pub room : count < n
+  room = ⊎-elim (λ all. omega (arith, below, inv .few)) (λ short. omega (arith, here, up-to, inv .few, inv .high)) (inv .roomy)
 
   on : drop (ruleSize rest) rest ≡ drop (at + ruleSize rest) table
   on = ap (λ (l : List ℕ). drop (ruleSize rest) l) (inv .behind) ∙ drop-drop (ruleSize rest) at table
@@ -102,7 +109,7 @@ module _ (table : List ℕ) (X : Lits) (starts rest : List ℕ) (at rule count :
         word i = rw (inv .behind, getD-drop at table i 0) (small (at + i))
 
     -- it does not apply in X, nor in a part of X
-    passes-by : applies X X (ruleAt rest) ≡ false → Scanned table X starts (drop (ruleSize rest) rest) (at + ruleSize rest) (rule + 1) count
+    passes-by : applies X X (ruleAt rest) ≡ false → Scanned table X n starts (drop (ruleSize rest) rest) (at + ruleSize rest) (rule + 1) count
     passes-by a = record {
       behind = on;
       sound = sound-rest rest h (inv .sound);
@@ -110,7 +117,9 @@ module _ (table : List ℕ) (X : Lits) (starts rest : List ℕ) (at rule count :
       few = omega (arith, inv .few);
       fits = inv .fits;
       low = step;
+      high = omega (arith, inv .high);
       size = inv .size;
+      roomy = inv .roomy;
       unbroken = rule-go (isBroken X) rule rest h (inv .unbroken) (rw a);
       waiting = inv .waiting;
       enough = λ Z sub c.
@@ -120,21 +129,23 @@ module _ (table : List ℕ) (X : Lits) (starts rest : List ℕ) (at rule count :
 
     -- it applies in X, which has its head: its start is stored
     keeps : applies X X (ruleAt rest) ≡ true → headIn (headOf (getD rest 0 0)) X ≡ true
-        → Scanned table X (set starts count at) (drop (ruleSize rest) rest) (at + ruleSize rest) (rule + 1) (count + 1)
+        → Scanned table X n (set starts count at) (drop (ruleSize rest) rest) (at + ruleSize rest) (rule + 1) (count + 1)
     keeps a i = record {
       behind = on;
       sound = sound-rest rest h (inv .sound);
       numbered = omega (arith, sound-before rest h (inv .sound), inv .numbered);
       few = omega (arith, inv .few);
-      fits = omega (arith, room, inv .few);
+      fits = omega (arith, room);
       low = step;
+      high = omega (arith, inv .high);
       size = length-set starts count at ∙ inv .size;
+      roomy = inv .roomy;
       unbroken = rule-go (isBroken X) rule rest h (inv .unbroken) (rw (a, i));
       waiting = below-more (λ j. Waiting table (getD (set starts count at) j 0) 65535) count
           (λ j l. rw (getD-set-other starts count j at 0 (λ q. omega arith)) (inv .waiting j l))
-          (rw (getD-set-same starts count at 0 (omega (arith, room, inv .few, inv .size))) starting);
+          (rw (getD-set-same starts count at 0 (omega (arith, room, inv .size))) starting);
       enough = λ Z sub c.
-          rw (add-one count, take-suc-set starts count at (omega (arith, room, inv .few, inv .size)), heads-append table Z c (take count starts) (at ∷ []), ← inv .behind)
+          rw (add-one count, take-suc-set starts count at (omega (arith, room, inv .size)), heads-append table Z c (take count starts) (at ∷ []), ← inv .behind)
           (joined (heads table (take count starts) Z c) (eqb (getD rest 0 0) c && all Z (ruleAt rest .plain)) (round (rulesOf (drop (ruleSize rest) rest)) X Z c)
           ∙ (rw (literal-head X (getD rest 0 0) i, kept) at (rest-enough Z sub c)));
     }
@@ -158,7 +169,7 @@ module _ (table : List ℕ) (X : Lits) (starts rest : List ℕ) (at rule count :
     pub scan-turn : {a : Bool} → a ≡ frontApplies X X rest → (starts′ : List ℕ) (count′ : ℕ)
         → ((a ≡ true) × ((i : Bool) × (i ≡ headIn (headOf (getD rest 0 0)) X) × (not i ≡ false)) × (starts′ ≡ set starts count at) × (count′ ≡ count + 1))
         ⊎ ((a ≡ false) × (starts′ ≡ starts) × (count′ ≡ count))
-        → Scanned table X starts′ (drop (ruleSize rest) rest) (at + ruleSize rest) (rule + 1) count′
+        → Scanned table X n starts′ (drop (ruleSize rest) rest) (at + ruleSize rest) (rule + 1) count′
     scan-turn is starts′ count′ came =
         let e = whole-applies X X rest here is in
         ⊎-elim
@@ -166,13 +177,13 @@ module _ (table : List ℕ) (X : Lits) (starts rest : List ℕ) (at rule count :
         (λ w. rw (w .1, w .2) (passes-by (sym e ∙ w .0)))
         came
 
-module _ (table : List ℕ) (X : Lits) (starts rest : List ℕ) (at rule count : ℕ) (inv : Scanned table X starts rest at rule count) (h : length rest ≤ 0) where
+module _ (table : List ℕ) (X : Lits) (n : ℕ) (starts rest : List ℕ) (at rule count : ℕ) (inv : Scanned table X n starts rest at rule count) (h : length rest ≤ 0) where
   pub scan-unbroken : none ≡ first (isBroken X) 0 (rulesOf table)
   scan-unbroken = rule-end (isBroken X) rule rest h (inv .unbroken)
 
   pub scan-done : Begun table X starts count
   scan-done = record {
-    few = inv .fits;
+    few = omega (arith, inv .fits, inv .size);
     closed = unbroken-closed (rulesOf table) X (sym scan-unbroken);
     waiting = inv .waiting;
     enough = λ Z sub c. sym (or-false _) ∙ (rw (rules-end rest h) at (inv .enough Z sub c));

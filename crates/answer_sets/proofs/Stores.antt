@@ -1,72 +1,163 @@
--- The marks of value bytes, filled in order, code by code.
+-- The marks of value bytes, filled atom by atom: two bits for each, which are the value's own; and atoms with both values.
 -- Assumes nothing.
-use mathlib.Core.Path.{_≡_, refl, sym, _∙_, fun-ext}
-use mathlib.Core.Bool.{Bool, true, false, _&&_, _||_}
+use mathlib.Core.Path.{_≡_, refl, sym, _∙_, ap, fun-ext}
+use mathlib.Core.Bool.{Bool, true, false, cond, _&&_, _||_, or-false}
 use mathlib.Core.List.{List}
-use mathlib.Core.Logic.{_⊎_, ⊎-elim, _≢_}
-use Prim.Native.Nat.{ℕ, _+_, _*_, _/_, _%_, _≤_, _<_}
+use mathlib.Core.Logic.{_≢_}
+use Prim.Native.Nat.{ℕ, zero, suc, _+_, _-_, _*_, _/_, _%_, _^_, _≤_, _<_}
+use native.Mathlib.Nat.{mul-assoc, div-eq-of-lt, pow-suc}
 use native.Mathlib.Omega.{arith}
-use borrow.Author.Tests.{ltb-true, ltb-false, lt-ltb, le-ltb, eqb-true, eqb-false}
-use lib.Dec.{eqb, ltb}
+use borrow.Author.Tests.{ltb-true, ltb-false, lt-ltb, le-ltb, eqb-true, eqb-false, ne-eqb}
+use lib.Bits.{bitOr, or-comm}
+use lib.Dec.{eqb, ltb, lit<}
 use lib.ListN.{length, getD, set, replicate, length-set}
-use Rattle.search.proofs.Tests.{true-or-false}
-use Rattle.logic_programs.specs.Literals.{Lits, setOf}
-use Rattle.rule_tables.specs.Marks.{marked}
-use Rattle.rule_tables.proofs.Bits.{withMark, in-clear, in-stored, length-with}
+use lib.Pow.{pow-add, pow-mono, shl-exact, shl-shr, shr-shr}
+use lib.Seq.{getD-set-same, getD-set-other}
+use Rattle.logic_programs.specs.Literals.{setOf, holdsTrue, holdsFalse}
+use Rattle.rule_tables.specs.Marks.{bit, marked}
+use Rattle.answer_sets.specs.Verdicts.{bothValues}
+use Rattle.rule_tables.proofs.Bits.{bit-or, in-clear}
 use Rattle.rule_tables.proofs.Lookups.{setOf-past}
 
-pub fill-start : (X : Lits) (marks : List ℕ) → marks ≡ replicate 32 0 → (c : ℕ) → marked marks c ≡ (ltb c 0 && X c)
-fill-start X marks e c = rw (e, in-clear 32 c, le-ltb c 0 (omega arith))
+-- bits of a number that is shifted up
 
--- code is marked where it is in X, and the others stay as they are
-module _ (X : Lits) (marks : List ℕ) (code : ℕ) (fits : code < 2048) (size : length marks ≡ 32) (inv : (c : ℕ) → marked marks c ≡ (ltb c code && X c)) where
-  below : (c : ℕ) (b : Bool) → ltb c code ≡ b → code ≢ c → ltb c (code + 1) ≡ b
-  below c true e n = lt-ltb c (code + 1) (omega (arith, ltb-true c code e))
-  below c false e n = le-ltb c (code + 1) (omega (arith, ltb-false c code e))
-
-  fill-one : (v : Bool) → v ≡ X code → (out : List ℕ) → ((c : ℕ) → marked out c ≡ ((eqb code c && v) || marked marks c))
-      → (c : ℕ) → marked out c ≡ (ltb c (code + 1) && X c)
-  fill-one v is out stored c = stored c ∙ ⊎-elim same other (true-or-false (eqb code c))
-    where
-      alone : (a : Bool) → ((true && a) || false) ≡ a
-      alone true = refl
-      alone false = refl
-
-      same : eqb code c ≡ true → ((eqb code c && v) || marked marks c) ≡ (ltb c (code + 1) && X c)
-      same e =
-          let q : code ≡ c = eqb-true code c e in
-          rw (e, inv c, ← q, le-ltb code code (omega arith), lt-ltb code (code + 1) (omega arith)) (alone v ∙ is)
-
-      other : eqb code c ≡ false → ((eqb code c && v) || marked marks c) ≡ (ltb c (code + 1) && X c)
-      other e = rw (e, inv c, below c (ltb c code) refl (eqb-false code c e))
-
-  pub fill-step : (v : Bool) → v ≡ X code → (out : List ℕ) → ((v ≡ true) × (out ≡ withMark marks code)) ⊎ ((v ≡ false) × (out ≡ marks))
-      → (length out ≡ 32) × ((c : ℕ) → marked out c ≡ (ltb c (code + 1) && X c))
-  fill-step v is out came = ⊎-elim stored left came
-    where
-      yes : (a b : Bool) → (a || b) ≡ ((a && true) || b)
-      yes true b = refl
-      yes false b = refl
-
-      no : (a b : Bool) → b ≡ ((a && false) || b)
-      no true b = refl
-      no false b = refl
-
-      stored : (v ≡ true) × (out ≡ withMark marks code) → (length out ≡ 32) × ((c : ℕ) → marked out c ≡ (ltb c (code + 1) && X c))
-      stored w = (
-        rw (w .1) (length-with marks code ∙ size),
-        fill-one v is out (λ c. rw (w .1, w .0, in-stored marks code (omega arith) c) (yes (eqb code c) (marked marks c))),
-      )
-
-      left : (v ≡ false) × (out ≡ marks) → (length out ≡ 32) × ((c : ℕ) → marked out c ≡ (ltb c (code + 1) && X c))
-      left w = (rw (w .1) size, fill-one v is out (λ c. rw (w .1, w .0) (no (eqb code c) (marked marks c))))
-
-pub fill-done : (vs : List ℕ) (code : ℕ) (marks : List ℕ) → 2 * length vs ≤ code
-    → ((c : ℕ) → marked marks c ≡ (ltb c code && setOf vs c)) → marked marks ≡ setOf vs
-fill-done vs code marks h inv = fun-ext (λ c. inv c ∙ whole c (ltb c code) refl)
+bit-below : (v j k : ℕ) → k < j → bit (v * 2 ^ j) k ≡ false
+bit-below v j k h =
+    let m = j - suc k in
+    let e : j ≡ suc m + k = omega arith in
+    rw (e, pow-add 2 (suc m) k, ← mul-assoc v (2 ^ suc m) (2 ^ k), shl-shr (v * 2 ^ suc m) k, even m)
   where
-    whole : (c : ℕ) (b : Bool) → ltb c code ≡ b → (ltb c code && setOf vs c) ≡ setOf vs c
+    even : (m : ℕ) → v * 2 ^ suc m % 2 ≡ 0
+    even m = rw (pow-suc 2 m, ← mul-assoc v (2 ^ m) 2) (omega arith)
+
+bit-from : (v j i : ℕ) → bit (v * 2 ^ j) (j + i) ≡ bit v i
+bit-from v j i = rw (← shr-shr (v * 2 ^ j) j i, shl-shr v j)
+
+-- of a value
+module _ (v : ℕ) (low : v < 4) where
+  lower-bit : bit v 0 ≡ holdsTrue v
+  unfolding holdsTrue
+  lower-bit = go v low
+    where
+      go : (u : ℕ) → u < 4 → bit u 0 ≡ (eqb u 1 || eqb u 3)
+      go zero h = refl
+      go (suc zero) h = refl
+      go (suc (suc zero)) h = refl
+      go (suc (suc (suc zero))) h = refl
+      go (suc (suc (suc (suc u)))) h = absurd (omega arith)
+
+  upper-bit : bit v 1 ≡ holdsFalse v
+  unfolding holdsFalse
+  upper-bit = go v low
+    where
+      go : (u : ℕ) → u < 4 → bit u 1 ≡ (eqb u 2 || eqb u 3)
+      go zero h = refl
+      go (suc zero) h = refl
+      go (suc (suc zero)) h = refl
+      go (suc (suc (suc zero))) h = refl
+      go (suc (suc (suc (suc u)))) h = absurd (omega arith)
+
+  no-bit : (i : ℕ) → bit v (2 + i) ≡ false
+  no-bit i = let small : v < 2 ^ (2 + i) = omega (arith, pow-mono {i = 2} {j = 2 + i} (omega arith)) in rw (div-eq-of-lt small)
+
+-- the words with the bits of atom a's value v, as the machine stores them
+abbrev pub withValue : List ℕ → ℕ → ℕ → List ℕ
+withValue ws a v = set ws (a / 32) (bitOr (getD ws (a / 32) 0) ((v * 2 ^ (2 * (a % 32))) % 2 ^ 64))
+
+abbrev valued : ℕ → ℕ → Bool
+valued v c = cond (eqb (c % 2) 0) (holdsTrue v) (holdsFalse v)
+
+module _ (ws : List ℕ) (a v : ℕ) (low : v < 4) (c : ℕ) where
+  abbrev j : ℕ
+  j = 2 * (a % 32)
+
+  -- in the word of atom a
+  own-bit : c / 64 ≡ a / 32 → bit (v * 2 ^ j) (c % 64) ≡ (eqb (c / 2) a && valued v c)
+  own-bit q = go (eqb (c / 2) a) refl
+    where
+      at : (i : ℕ) → c % 64 ≡ j + i → bit (v * 2 ^ j) (c % 64) ≡ bit v i
+      at i e = rw e (bit-from v j i)
+
+      same : (b : Bool) → eqb (c % 2) 0 ≡ b → c / 2 ≡ a → bit (v * 2 ^ j) (c % 64) ≡ cond b (holdsTrue v) (holdsFalse v)
+      same true t e = let z : c % 2 ≡ 0 = eqb-true (c % 2) 0 t in at 0 (omega arith) ∙ lower-bit v low
+      same false f e = let z : c % 2 ≢ 0 = eqb-false (c % 2) 0 f in at 1 (omega arith) ∙ upper-bit v low
+
+      other : c / 2 ≢ a → (b : Bool) → ltb (c % 64) j ≡ b → bit (v * 2 ^ j) (c % 64) ≡ false
+      other n true t = bit-below v j (c % 64) (ltb-true (c % 64) j t)
+      other n false f = let h = ltb-false (c % 64) j f in at (2 + (c % 64 - j - 2)) (omega arith) ∙ no-bit v low (c % 64 - j - 2)
+
+      go : (b : Bool) → eqb (c / 2) a ≡ b → bit (v * 2 ^ j) (c % 64) ≡ (eqb (c / 2) a && valued v c)
+      go true t = rw t (same (eqb (c % 2) 0) refl (eqb-true (c / 2) a t))
+      go false f = rw f (other (eqb-false (c / 2) a f) (ltb (c % 64) j) refl)
+
+  in-valued : a / 32 < length ws → marked (withValue ws a v) c ≡ ((eqb (c / 2) a && valued v c) || marked ws c)
+  unfolding marked
+  in-valued h = go (eqb (c / 64) (a / 32)) refl
+    where
+      exact : (v * 2 ^ j) % 2 ^ 64 ≡ v * 2 ^ j
+      exact = shl-exact {a = v} 2 j 64 low (omega arith)
+
+      go : (b : Bool) → eqb (c / 64) (a / 32) ≡ b → marked (withValue ws a v) c ≡ ((eqb (c / 2) a && valued v c) || marked ws c)
+      go true t =
+          let q : c / 64 ≡ a / 32 = eqb-true (c / 64) (a / 32) t in
+          let w = getD ws (a / 32) 0 in
+          rw (
+            q,
+            getD-set-same ws (a / 32) (bitOr w ((v * 2 ^ j) % 2 ^ 64)) 0 h,
+            exact,
+            or-comm w (v * 2 ^ j),
+            bit-or (v * 2 ^ j) w (c % 64),
+            own-bit q,
+          )
+      go false f =
+          let n : c / 64 ≢ a / 32 = eqb-false (c / 64) (a / 32) f in
+          rw (
+            getD-set-other ws (a / 32) (c / 64) (bitOr (getD ws (a / 32) 0) ((v * 2 ^ j) % 2 ^ 64)) 0 n,
+            ne-eqb (c / 2) a (λ r. n (omega arith)),
+          )
+
+pub fill-start : (vs marks : List ℕ) → marks ≡ replicate 32 0 → (c : ℕ) → marked marks c ≡ (ltb c 0 && setOf vs c)
+fill-start vs marks e c = rw (e, in-clear 32 c, le-ltb c 0 (omega arith))
+
+-- the literals of the next atom are marked, and the others stay as they are
+pub fill-step : (vs marks : List ℕ) (a : ℕ) → getD vs a 0 < 4 → a / 32 < length marks → ((c : ℕ) → marked marks c ≡ (ltb c (2 * a) && setOf vs c))
+    → (c : ℕ) → marked (withValue marks a (getD vs a 0)) c ≡ (ltb c (2 * (a + 1)) && setOf vs c)
+unfolding setOf
+fill-step vs marks a low h inv c = in-valued marks a (getD vs a 0) low c h ∙ go (eqb (c / 2) a) refl
+  where
+    below : (b : Bool) → ltb c (2 * a) ≡ b → c / 2 ≢ a → ltb c (2 * (a + 1)) ≡ b
+    below true e n = lt-ltb c (2 * (a + 1)) (omega (arith, ltb-true c (2 * a) e))
+    below false e n = le-ltb c (2 * (a + 1)) (omega (arith, ltb-false c (2 * a) e))
+
+    go : (b : Bool) → eqb (c / 2) a ≡ b → ((eqb (c / 2) a && valued (getD vs a 0) c) || marked marks c) ≡ (ltb c (2 * (a + 1)) && setOf vs c)
+    go true t =
+        let q : c / 2 ≡ a = eqb-true (c / 2) a t in
+        rw (t, inv c, le-ltb c (2 * a) (omega arith), lt-ltb c (2 * (a + 1)) (omega arith), q) (or-false (valued (getD vs a 0) c))
+    go false f = rw (f, inv c, below (ltb c (2 * a)) refl (eqb-false (c / 2) a f))
+
+pub fill-done : (vs : List ℕ) (a : ℕ) (marks : List ℕ) → length vs ≤ a
+    → ((c : ℕ) → marked marks c ≡ (ltb c (2 * a) && setOf vs c)) → marked marks ≡ setOf vs
+fill-done vs a marks h inv = fun-ext (λ c. inv c ∙ whole c (ltb c (2 * a)) refl)
+  where
+    whole : (c : ℕ) (b : Bool) → ltb c (2 * a) ≡ b → (ltb c (2 * a) && setOf vs c) ≡ setOf vs c
     whole c true e = rw e
     whole c false e =
-        let past : length vs ≤ c / 2 = omega (arith, ltb-false c code e) in
+        let past : length vs ≤ c / 2 = omega (arith, ltb-false c (2 * a) e) in
         rw (e, setOf-past vs c past)
+
+-- an atom has both values where its byte is 3
+pub both-values : (vs : List ℕ) (a : ℕ) → bothValues (setOf vs) a ≡ eqb (getD vs a 0) 3
+unfolding setOf holdsTrue holdsFalse
+both-values vs a =
+    let even : 2 * a % 2 ≡ 0 = omega arith in
+    let own : 2 * a / 2 ≡ a = omega arith in
+    let odd : (2 * a + 1) % 2 ≡ 1 = omega arith in
+    let too : (2 * a + 1) / 2 ≡ a = omega arith in
+    rw (even, own, odd, too) (three (getD vs a 0))
+  where
+    three : (v : ℕ) → ((eqb v 1 || eqb v 3) && (eqb v 2 || eqb v 3)) ≡ eqb v 3
+    three zero = refl
+    three (suc zero) = refl
+    three (suc (suc zero)) = refl
+    three (suc (suc (suc zero))) = refl
+    three (suc (suc (suc (suc v)))) = rw (ne-eqb (suc (suc (suc (suc v)))) 1 (λ e. omega arith), ne-eqb (suc (suc (suc (suc v)))) 3 (λ e. omega arith))

@@ -2,9 +2,10 @@
 -- reader may pass it over.
 -- Assumes nothing.
 use mathlib.Core.Path.{_≡_}
+use mathlib.Core.Logic.{_⊎_}
 use mathlib.Core.Bool.{Bool, true, false, not, cond, _&&_, _||_}
 use mathlib.Core.List.{List, [], _∷_}
-use Prim.Native.Nat.{ℕ, _+_, _≤_, _<_}
+use Prim.Native.Nat.{ℕ, _+_, _*_, _≤_, _<_}
 use lib.Dec.{eqb, ltb}
 use lib.ListN.{length, getD, take, drop}
 use Rattle.search.specs.Search.{Each, all}
@@ -50,9 +51,13 @@ pub record Waiting (ws : List ℕ) (s w : ℕ) : Type 0 where
 abbrev pub EachWaiting : List ℕ → List ℕ → List ℕ → ℕ → Type 0
 EachWaiting ws starts waits n = (j : ℕ) → j < n → Waiting ws (getD starts j 0) (getD waits j 0)
 
+-- n places are enough for every rule of an accepted table: there are 4,096 at most, of three words at least
+abbrev pub Roomy : List ℕ → ℕ → Type 0
+Roomy ws n = (4096 ≤ n) ⊎ (length ws ≤ 3 * n)
+
 -- the n starts that a derivation by X begins with, where X is closed: for every part of X they have the heads of the whole program
 pub record Begun (ws : List ℕ) (X : Lits) (starts : List ℕ) (n : ℕ) : Type 0 where
-  pub few : n ≤ 4096
+  pub few : n ≤ length starts
   pub closed : Closed (literalHeaded (reduct (rulesOf ws) X)) X
   pub waiting : (j : ℕ) → j < n → Waiting ws (getD starts j 0) 65535
   pub enough : (Z : Lits) → Subset Z X → (c : ℕ) → heads ws (take n starts) Z c ≡ round (rulesOf ws) X Z c

@@ -5,13 +5,13 @@ use search::Found;
 ghost use mathlib.Core.Path.{_≡_};
 ghost use mathlib.Core.Option.{none};
 ghost use Prim.Native.Nat.{_≤_};
-ghost use lib.ListN.{length, take};
+ghost use lib.ListN.{length, take, replicate};
 ghost use Rattle.search.specs.Search.{first, placeOf};
 ghost use Rattle.logic_programs.specs.Words.{rulesOf, badRule};
 ghost use Rattle.rule_tables.specs.Marks.{marked};
 ghost use Rattle.answer_sets.specs.Verdicts.{isBroken};
 ghost use Rattle.answer_sets.specs.Derived.{Derived};
-ghost use Rattle.answer_sets.specs.Waiting.{EachWaiting, Made};
+ghost use Rattle.answer_sets.specs.Waiting.{EachWaiting, Made, Roomy};
 
 // The marks after a round, and how many rules still wait.
 struct Outcome {
@@ -64,17 +64,25 @@ pub(crate) struct Derivation {
     pub(crate) marks: [u64; 32],
 }
 
-// Where no rule is broken, rounds from clear marks until one adds nothing; one more than two for each atom are always enough.
-pub(crate) fn derive(table: &[u16], x: &[u64], atoms: usize) -> Derivation
+// Where no rule is broken, rounds from clear marks until one adds nothing; one more than two for each atom are always enough. The two
+// arrays have room for every rule.
+fn derive_in(
+    table: &[u16],
+    x: &[u64],
+    atoms: usize,
+    starts: &mut [u32],
+    waits: &mut [u16],
+) -> Derivation
     requires { ⌜ atoms ≤ 1024 ⌝ }
     requires { ⌜ badRule atoms (now table) ≡ none ⌝ }
+    requires { ⌜ Roomy (now table) (length (now starts)) ⌝ }
+    requires { ⌜ now waits ≡ replicate (length (now starts)) 65535 ⌝ }
     ensures { λ r. ⌜ placeOf (r .broken) ≡ first (isBroken (marked (now (x .entry)))) 0 (rulesOf (now (table .entry))) ⌝ }
     ensures { λ r. ⌜ Derived atoms (rulesOf (now (table .entry))) (marked (now (x .entry))) (r .marks) ⌝ }
 {
     let limit = 2 * atoms + 1;
-    let mut starts = pending::no_starts();
     let mut marks = marks::clear();
-    let scan = pending::scan(table, x, &mut starts);
+    let scan = pending::scan(table, x, starts);
     let broken = scan.broken;
     if let Found::At(rule) = broken {
         return Derivation {
@@ -82,11 +90,10 @@ pub(crate) fn derive(table: &[u16], x: &[u64], atoms: usize) -> Derivation
             marks: marks,
         };
     }
-    let mut waits = pending::no_waits();
     let mut count = scan.count;
     let mut k = 0;
     while k < limit {
-        let next = round(table, marks, &mut starts, &mut waits, count);
+        let next = round(table, marks, starts, waits, count);
         let new = next.marks;
         if marks::same(&new, &marks) {
             return Derivation {
@@ -102,4 +109,22 @@ pub(crate) fn derive(table: &[u16], x: &[u64], atoms: usize) -> Derivation
         broken: Found::Nothing,
         marks: marks,
     }
+}
+
+// The lowest broken rule or the least closed set. A rule takes three words at least, so a short table needs little room; most recipes of
+// an editor are short.
+pub(crate) fn derive(table: &[u16], x: &[u64], atoms: usize) -> Derivation
+    requires { ⌜ atoms ≤ 1024 ⌝ }
+    requires { ⌜ badRule atoms (now table) ≡ none ⌝ }
+    ensures { λ r. ⌜ placeOf (r .broken) ≡ first (isBroken (marked (now (x .entry)))) 0 (rulesOf (now (table .entry))) ⌝ }
+    ensures { λ r. ⌜ Derived atoms (rulesOf (now (table .entry))) (marked (now (x .entry))) (r .marks) ⌝ }
+{
+    if table.len() <= 768 {
+        let mut starts = pending::few_starts();
+        let mut waits = pending::few_waits();
+        return derive_in(table, x, atoms, &mut starts, &mut waits);
+    }
+    let mut starts = pending::all_starts();
+    let mut waits = pending::all_waits();
+    derive_in(table, x, atoms, &mut starts, &mut waits)
 }

@@ -10,30 +10,19 @@ ghost use Prim.Native.Nat.{_*_, _≤_};
 ghost use lib.ListN.{length};
 ghost use Rattle.search.specs.Search.{first, placeOf, range};
 ghost use Rattle.search.specs.Replies.{answered};
-ghost use Rattle.logic_programs.specs.Literals.{setOf};
+ghost use Rattle.logic_programs.specs.Literals.{setOf, badValue};
 ghost use Rattle.answer_sets.specs.Verdicts.{verdict, bothValues, isUnfounded};
 ghost use Rattle.logic_programs.specs.Words.{rulesOf, badRule};
 ghost use Rattle.answer_sets.specs.Answers.{replyOf};
 ghost use Rattle.rule_tables.specs.Marks.{marked};
 
-// Whether an atom has both values.
-fn both_values(x: &[u64], atom: usize) -> bool
-    requires { ⌜ atom ≤ 1024 ⌝ }
-    ensures { λ r. ⌜ r ≡ bothValues (marked (now (x .entry))) atom ⌝ }
-{
-    if !marks::has(x, 2 * atom) {
-        return false;
-    }
-    marks::has(x, 2 * atom + 1)
-}
-
 // The lowest atom with both values.
-fn first_clash(x: &[u64], atoms: usize) -> Found
-    requires { ⌜ atoms ≤ 1024 ⌝ }
-    ensures { λ r. ⌜ placeOf r ≡ first (bothValues (marked (now (x .entry)))) 0 (range 0 atoms) ⌝ }
+fn first_clash(values: &[u8]) -> Found
+    ensures { λ r. ⌜ placeOf r ≡ first (bothValues (setOf (now (values .entry)))) 0 (range 0 (length (now (values .entry)))) ⌝ }
 {
+    let atoms = values.len();
     for atom in 0..atoms {
-        if both_values(x, atom) {
+        if values[atom] == 3 {
             return Found::At(atom);
         }
     }
@@ -68,14 +57,15 @@ fn first_unfounded(x: &[u64], least: &[u64], codes: usize) -> Found
 // The first verdict that holds.
 pub(crate) fn judge(values: &[u8], table: &[u16]) -> Answer
     requires { ⌜ length (now values) ≤ 1024 ⌝ }
+    requires { ⌜ badValue (now values) ≡ none ⌝ }
     requires { ⌜ badRule (length (now values)) (now table) ≡ none ⌝ }
     ensures { λ r. ⌜ replyOf r ≡ answered (verdict (length (now (values .entry))) (rulesOf (now (table .entry))) (setOf (now (values .entry)))) ⌝ }
 {
     let atoms = values.len();
-    let x = values::marks_of(values);
-    if let Found::At(atom) = first_clash(&x, atoms) {
+    if let Found::At(atom) = first_clash(values) {
         return Answer::Clash(atom);
     }
+    let x = values::marks_of(values);
     let derived = derivation::derive(table, &x, atoms);
     let broken = derived.broken;
     if let Found::At(rule) = broken {

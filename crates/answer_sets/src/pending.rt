@@ -14,17 +14,29 @@ ghost use Rattle.logic_programs.specs.Words.{ruleSize, rulesOf};
 ghost use Rattle.rule_tables.specs.Marks.{marked};
 ghost use Rattle.rule_tables.specs.Internal.{Sound};
 ghost use Rattle.answer_sets.specs.Verdicts.{isBroken};
-ghost use Rattle.answer_sets.specs.Waiting.{outside, waitsFor, Begun};
+ghost use Rattle.answer_sets.specs.Waiting.{outside, waitsFor, Begun, Roomy};
 
-// Room for the starts of 4,096 rules.
-pub(crate) fn no_starts() -> [u32; 4096]
+// Room for the starts of 256 rules, and for those of 4,096.
+pub(crate) fn few_starts() -> [u32; 256]
+    ensures { λ r. ⌜ r ≡ replicate 256 0 ⌝ }
+{
+    [0; 256]
+}
+
+pub(crate) fn all_starts() -> [u32; 4096]
     ensures { λ r. ⌜ r ≡ replicate 4096 0 ⌝ }
 {
     [0; 4096]
 }
 
-// Nothing waited for, 4,096 times.
-pub(crate) fn no_waits() -> [u16; 4096]
+// Nothing waited for, as many times.
+pub(crate) fn few_waits() -> [u16; 256]
+    ensures { λ r. ⌜ r ≡ replicate 256 65535 ⌝ }
+{
+    [65535; 256]
+}
+
+pub(crate) fn all_waits() -> [u16; 4096]
     ensures { λ r. ⌜ r ≡ replicate 4096 65535 ⌝ }
 {
     [65535; 4096]
@@ -82,7 +94,7 @@ pub(crate) struct Applying {
 // least closed set part of it, so no round ever reaches the body of another rule.
 pub(crate) fn scan(table: &[u16], x: &[u64], starts: &mut [u32]) -> Applying
     requires { ⌜ Sound (now table) ⌝ }
-    requires { ⌜ length (now starts) ≡ 4096 ⌝ }
+    requires { ⌜ Roomy (now table) (length (now starts)) ⌝ }
     ensures { λ r. ⌜ placeOf (r .broken) ≡ first (isBroken (marked (now (x .entry)))) 0 (rulesOf (now (table .entry))) ⌝ }
     ensures { λ r. ⌜ (first (isBroken (marked (now (x .entry)))) 0 (rulesOf (now (table .entry))) ≡ none → Begun (now (table .entry)) (marked (now (x .entry))) (now (starts .exit)) (r .count)) ⌝ }
 {

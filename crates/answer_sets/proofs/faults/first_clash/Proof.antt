@@ -2,32 +2,36 @@
 -- Assumes nothing.
 use native.Mathlib.Nat.{sub-zero}
 use native.Mathlib.Omega.{arith}
-use mathlib.Core.Path.{_≡_, sym, _∙_}
+use mathlib.Core.Path.{_≡_, _∙_}
 use Prim.Native.Nat.{_≤_, _-_}
+use borrow.Author.Tests.{eq-eqb, ne-eqb}
+use lib.ListN.{length}
 use Rattle.search.specs.Search.{first, range}
-use Rattle.rule_tables.specs.Marks.{marked}
 use Rattle.search.proofs.Loops.{range-stop, range-go, range-done}
+use Rattle.logic_programs.specs.Literals.{setOf}
 use Rattle.answer_sets.specs.Verdicts.{bothValues}
+use Rattle.answer_sets.proofs.Stores.{both-values}
 use Rattle.answer_sets.proofs.faults.first_clash.Statement.{statement}
 use Rattle.answer_sets.proofs.faults.first_clash.Tie as tie
 
 abbrev Inv-loop : tie.InvT-loop
-Inv-loop x atoms atom₀ atom = (atom ≤ atoms) × (first (bothValues (marked x)) atom (range atom (atoms - atom)) ≡ first (bothValues (marked x)) 0 (range 0 atoms))
+Inv-loop values atoms atom₀ atom =
+    (atom ≤ atoms) × (first (bothValues (setOf values)) atom (range atom (atoms - atom)) ≡ first (bothValues (setOf values)) 0 (range 0 (length values)))
 
 abbrev μ-loop : tie.MeasureT-loop
-μ-loop x atoms atom₀ atom = atoms - atom
+μ-loop values atoms atom₀ atom = atoms - atom
 
 loop-holds : tie.Need-loop-holds Inv-loop μ-loop
 loop-holds c = (omega arith, simp sub-zero)
 
-both-values-requires : tie.Need-both-values-requires Inv-loop μ-loop
-both-values-requires c κs = omega arith
+shared-slice-read-if1 : tie.Need-shared-slice-read-if1 Inv-loop μ-loop
+shared-slice-read-if1 c = omega arith
 
 returns : tie.Need-returns Inv-loop μ-loop
 returns c =
     let c2 = c .before .before in
     let c3 = c2 .before in
-    range-stop _ _ _ (c2 .loop-test .taken) (c3 .loop .inv .1) (sym (c .before .both-values .ensures) ∙ c .if1 .taken)
+    range-stop _ _ _ (c2 .loop-test .taken) (c3 .loop .inv .1) (both-values _ (c3 .loop .atom) ∙ eq-eqb _ _ (c .if1 .taken))
 
 add-atom : tie.Need-add-atom Inv-loop μ-loop
 add-atom c = omega arith
@@ -39,7 +43,7 @@ loop-again : tie.Need-loop-again Inv-loop μ-loop
 loop-again c =
     let c2 = c .before .before in
     let c3 = c2 .before in
-    (omega arith, range-go _ _ _ (c2 .loop-test .taken) (c3 .loop .inv .1) (sym (c .before .both-values .ensures) ∙ c .if1 .left))
+    (omega arith, range-go _ _ _ (c2 .loop-test .taken) (c3 .loop .inv .1) (both-values _ (c3 .loop .atom) ∙ ne-eqb _ _ (c .if1 .left)))
 
 returns-2 : tie.Need-returns-2 Inv-loop μ-loop
 returns-2 c = range-done _ _ _ (c .loop-test .left) (c .before .loop .inv .1)
@@ -51,7 +55,7 @@ first-clash-spec =
     Inv-loop
     μ-loop
     loop-holds
-    both-values-requires
+    shared-slice-read-if1
     returns
     add-atom
     loop-less

@@ -10,12 +10,6 @@ use Rattle.answer_sets.proofs.Judging.{says-clash, says-broken, says-un
 use Rattle.answer_sets.proofs.faults.judge.Statement.{statement}
 use Rattle.answer_sets.proofs.faults.judge.Tie as tie
 
-marks-of-requires : tie.Need-marks-of-requires
-marks-of-requires c κs = search needs
-
-slice-aggregate-first-clash : tie.Need-slice-aggregate-first-clash
-slice-aggregate-first-clash c = omega arith
-
 first-clash-requires : tie.Need-first-clash-requires
 first-clash-requires c κs = search needs
 
@@ -23,20 +17,19 @@ enum-known-atom : tie.Need-enum-known-atom
 enum-known-atom c = search needs
 
 returns : tie.Need-returns
-returns c =
-    let c3 = c .before .before .before in
-    let c5 = c3 .before .before in
-    ap answered
-    (says-clash _ _ _ (marked (c5 .marks-of .result)) (c5 .marks-of .ensures) (at-place (c3 .first-clash .ensures) (c .before .atom .given .1)))
+returns c = ap answered (says-clash _ _ _ (at-place (c .before .before .before .first-clash .ensures) (c .before .atom .given .1)))
 
 enum-told : tie.Need-enum-told
 enum-told c = search needs
+
+marks-of-requires : tie.Need-marks-of-requires
+marks-of-requires c κs = let c5 = c .before .before .before .before .before in (c5 .pre .0, c5 .pre .1 .0)
 
 slice-aggregate-derive : tie.Need-slice-aggregate-derive
 slice-aggregate-derive c = omega arith
 
 derive-requires : tie.Need-derive-requires
-derive-requires c κs = let c8 = c .before .before .before .before .before .before .before .before in (c8 .pre .0, c8 .pre .1)
+derive-requires c κs = let c7 = c .before .before .before .before .before .before .before in (c7 .pre .0, c7 .pre .1 .1)
 
 enum-known-broken : tie.Need-enum-known-broken
 enum-known-broken c = search needs
@@ -45,10 +38,9 @@ returns-2 : tie.Need-returns-2
 returns-2 c =
     let c3 = c .before .before .before in
     let c5 = c3 .before .before in
-    let c7 = c5 .before .before in
-    let c9 = c7 .before .before in
+    let c6 = c5 .before in
     ap answered
-    (says-broken _ _ _ (marked (c9 .marks-of .result)) (c9 .marks-of .ensures) (no-place (c7 .first-clash .ensures) (c5 .enum-told .given .1))
+    (says-broken _ _ _ (no-place (c6 .before .before .first-clash .ensures) (c6 .enum-told .given .1)) (marked (c5 .marks-of .result)) (c5 .marks-of .ensures)
     (at-place (c3 .derive .ensures .0) (c .before .broken .given .1)))
 
 enum-told-2 : tie.Need-enum-told-2
@@ -64,7 +56,7 @@ slice-aggregate-first-unfounded-2 c =
     omega (arith, said .1 .least-marked (no-place (said .0) (c3 .enum-told2 .given .1)) .size)
 
 mul-first-unfounded : tie.Need-mul-first-unfounded
-mul-first-unfounded c = omega (arith, c .before .before .before .before .before .before .before .before .before .before .before .before .before .before .pre .0)
+mul-first-unfounded c = omega (arith, c .before .before .before .before .before .before .before .before .before .before .before .before .before .pre .0)
 
 first-unfounded-requires : tie.Need-first-unfounded-requires
 first-unfounded-requires c κs = tt
@@ -78,12 +70,11 @@ returns-3 c =
     let c7 = c3 .before .before .before .before in
     let c9 = c7 .before .before in
     let c11 = c9 .before .before in
-    let c13 = c11 .before .before in
-    let c15 = c13 .before .before in
+    let c12 = c11 .before in
     let unbroken = no-place (c9 .derive .ensures .0) (c7 .enum-told2 .given .1) in
     ap answered
-    (says-unfounded _ _ _ (marked (c15 .marks-of .result)) (c15 .marks-of .ensures) (no-place (c13 .first-clash .ensures) (c11 .enum-told .given .1)) unbroken
-    (marked (c9 .derive .result .marks)) (c9 .derive .ensures .1 .last-round unbroken) (at-place (c3 .first-unfounded .ensures) (c .before .code .given .1)))
+    (says-unfounded _ _ _ (no-place (c12 .before .before .first-clash .ensures) (c12 .enum-told .given .1)) (marked (c11 .marks-of .result)) (c11 .marks-of .ensures)
+    unbroken (marked (c9 .derive .result .marks)) (c9 .derive .ensures .1 .last-round unbroken) (at-place (c3 .first-unfounded .ensures) (c .before .code .given .1)))
 
 enum-told-3 : tie.Need-enum-told-3
 enum-told-3 c = search needs
@@ -94,23 +85,21 @@ returns-4 c =
     let c6 = c2 .before .before .before .before in
     let c8 = c6 .before .before in
     let c10 = c8 .before .before in
-    let c12 = c10 .before .before in
-    let c14 = c12 .before .before in
+    let c11 = c10 .before in
     let unbroken = no-place (c8 .derive .ensures .0) (c6 .enum-told2 .given .1) in
     ap answered
-    (says-passes _ _ _ (marked (c14 .marks-of .result)) (c14 .marks-of .ensures) (no-place (c12 .first-clash .ensures) (c10 .enum-told .given .1)) unbroken
-    (marked (c8 .derive .result .marks)) (c8 .derive .ensures .1 .last-round unbroken) (no-place (c2 .first-unfounded .ensures) (c .enum-told3 .given .1)))
+    (says-passes _ _ _ (no-place (c11 .before .before .first-clash .ensures) (c11 .enum-told .given .1)) (marked (c10 .marks-of .result)) (c10 .marks-of .ensures)
+    unbroken (marked (c8 .derive .result .marks)) (c8 .derive .ensures .1 .last-round unbroken) (no-place (c2 .first-unfounded .ensures) (c .enum-told3 .given .1)))
 
 pub judge-spec : {M : Type 1} → statement M
 judge-spec =
     tie.close
     (tie.spec
-    marks-of-requires
-    slice-aggregate-first-clash
     first-clash-requires
     enum-known-atom
     returns
     enum-told
+    marks-of-requires
     slice-aggregate-derive
     derive-requires
     enum-known-broken
