@@ -2,3 +2,4 @@
 pub mod Marks
 pub mod Bodies
 pub mod Internal
+pub mod MarkExamples
