@@ -1,13 +1,13 @@
 -- The first literal outside a set, and what a rule waits for.
 -- Assumes nothing.
-use mathlib.Core.Path.{_≡_, refl, sym, _∙_}
-use mathlib.Core.Bool.{Bool, true, false, not, cond, _&&_, and-false, false≢true}
+use mathlib.Core.Path.{_≡_, refl}
+use mathlib.Core.Bool.{Bool, true, false, not, cond, _&&_, and-false}
 use mathlib.Core.List.{List, [], _∷_}
 use mathlib.Core.Logic.{_≢_}
 use Prim.Native.Nat.{ℕ, _+_, _-_, _≤_, _<_}
 use native.Mathlib.Numerals.{add-one}
 use native.Mathlib.Omega.{arith}
-use borrow.Author.Tests.{ltb-true, le-ltb, lt-ltb}
+use borrow.Author.Tests.{ltb-true}
 use lib.Dec.{ltb}
 use lib.ListN.{length, getD, take, drop, length-drop, drop-of-length-le}
 use lib.Seq.{drop-cons}
@@ -15,7 +15,7 @@ use Rattle.search.specs.Search.{Each, all}
 use Rattle.search.proofs.Tests.{and-iff, not-iff}
 use Rattle.search.proofs.Loops.{to-the-end}
 use Rattle.logic_programs.specs.Literals.{Lits}
-use Rattle.logic_programs.specs.Words.{ruleSize, ruleAt}
+use Rattle.logic_programs.specs.Words.{ruleSize}
 use Rattle.answer_sets.specs.Waiting.{outside, waitsFor, headAt, plainAt, Waiting}
 
 -- the search for it, element by element

@@ -1,6 +1,6 @@
 -- The marks of value bytes, filled atom by atom: two bits for each, which are the value's own; and atoms with both values.
 -- Assumes nothing.
-use mathlib.Core.Path.{_≡_, refl, sym, _∙_, ap, fun-ext}
+use mathlib.Core.Path.{_≡_, refl, _∙_, fun-ext}
 use mathlib.Core.Bool.{Bool, true, false, cond, _&&_, _||_, or-false}
 use mathlib.Core.List.{List}
 use mathlib.Core.Logic.{_≢_}
@@ -9,8 +9,8 @@ use native.Mathlib.Nat.{mul-assoc, div-eq-of-lt, pow-suc}
 use native.Mathlib.Omega.{arith}
 use borrow.Author.Tests.{ltb-true, ltb-false, lt-ltb, le-ltb, eqb-true, eqb-false, ne-eqb}
 use lib.Bits.{bitOr, or-comm}
-use lib.Dec.{eqb, ltb, lit<}
-use lib.ListN.{length, getD, set, replicate, length-set}
+use lib.Dec.{eqb, ltb}
+use lib.ListN.{length, getD, set, replicate}
 use lib.Pow.{pow-add, pow-mono, shl-exact, shl-shr, shr-shr}
 use lib.Seq.{getD-set-same, getD-set-other}
 use Rattle.logic_programs.specs.Literals.{setOf, holdsTrue, holdsFalse}
