@@ -33,28 +33,17 @@ bit-below v j k h =
 bit-from : (v j i : ℕ) → bit (v * 2 ^ j) (j + i) ≡ bit v i
 bit-from v j i = rw (← shr-shr (v * 2 ^ j) j i, shl-shr v j)
 
--- of a value
+-- of a value: the lower bit says whether it holds true, the upper one whether it holds false, and there are no others
 module _ (v : ℕ) (low : v < 4) where
-  lower-bit : bit v 0 ≡ holdsTrue v
-  unfolding holdsTrue
-  lower-bit = go v low
+  two-bits : (bit v 0 ≡ holdsTrue v) × (bit v 1 ≡ holdsFalse v)
+  unfolding holdsTrue holdsFalse
+  two-bits = go v low
     where
-      go : (u : ℕ) → u < 4 → bit u 0 ≡ (eqb u 1 || eqb u 3)
-      go zero h = refl
-      go (suc zero) h = refl
-      go (suc (suc zero)) h = refl
-      go (suc (suc (suc zero))) h = refl
-      go (suc (suc (suc (suc u)))) h = absurd (omega arith)
-
-  upper-bit : bit v 1 ≡ holdsFalse v
-  unfolding holdsFalse
-  upper-bit = go v low
-    where
-      go : (u : ℕ) → u < 4 → bit u 1 ≡ (eqb u 2 || eqb u 3)
-      go zero h = refl
-      go (suc zero) h = refl
-      go (suc (suc zero)) h = refl
-      go (suc (suc (suc zero))) h = refl
+      go : (u : ℕ) → u < 4 → (bit u 0 ≡ (eqb u 1 || eqb u 3)) × (bit u 1 ≡ (eqb u 2 || eqb u 3))
+      go zero h = (refl, refl)
+      go (suc zero) h = (refl, refl)
+      go (suc (suc zero)) h = (refl, refl)
+      go (suc (suc (suc zero))) h = (refl, refl)
       go (suc (suc (suc (suc u)))) h = absurd (omega arith)
 
   no-bit : (i : ℕ) → bit v (2 + i) ≡ false
@@ -79,8 +68,8 @@ module _ (ws : List ℕ) (a v : ℕ) (low : v < 4) (c : ℕ) where
       at i e = rw e (bit-from v j i)
 
       same : (b : Bool) → eqb (c % 2) 0 ≡ b → c / 2 ≡ a → bit (v * 2 ^ j) (c % 64) ≡ cond b (holdsTrue v) (holdsFalse v)
-      same true t e = let z : c % 2 ≡ 0 = eqb-true (c % 2) 0 t in at 0 (omega arith) ∙ lower-bit v low
-      same false f e = let z : c % 2 ≢ 0 = eqb-false (c % 2) 0 f in at 1 (omega arith) ∙ upper-bit v low
+      same true t e = let z : c % 2 ≡ 0 = eqb-true (c % 2) 0 t in at 0 (omega arith) ∙ two-bits v low .0
+      same false f e = let z : c % 2 ≢ 0 = eqb-false (c % 2) 0 f in at 1 (omega arith) ∙ two-bits v low .1
 
       other : c / 2 ≢ a → (b : Bool) → ltb (c % 64) j ≡ b → bit (v * 2 ^ j) (c % 64) ≡ false
       other n true t = bit-below v j (c % 64) (ltb-true (c % 64) j t)
