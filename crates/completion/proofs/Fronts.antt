@@ -1,26 +1,25 @@
 -- The rule at the front of a table: its body, its head's mark, and its levels; and the marks of the heads, rule by rule.
 -- Assumes nothing.
 use mathlib.Core.Path.{_≡_, refl, sym, _∙_}
-use mathlib.Core.Bool.{Bool, true, false, not, _&&_, _||_, and-false, Bool·beq}
+use mathlib.Core.Bool.{Bool, true, false, cond, not, _&&_, _||_, and-false, Bool·beq}
 use mathlib.Core.List.{List}
 use mathlib.Core.Logic.{_⊎_, inl, inr}
 use mathlib.Core.Option.{none, some}
-use Prim.Native.Nat.{ℕ, _+_, _-_, _/_, _≤_, _<_}
+use Prim.Native.Nat.{ℕ, _+_, _-_, _≤_, _<_}
 use native.Mathlib.Omega.{arith}
 use borrow.Author.Tests.{lt-leb, le-leb, lt-ltb, le-ltb, not-true, not-false, eqb-true, eqb-false, eq-eqb, ne-eqb}
 use lib.Dec.{eqb}
-use lib.ListN.{length, getD, take, drop}
+use lib.ListN.{length, getD, take, drop, set, length-set}
 use Rattle.search.specs.Search.{all}
+use Rattle.search.proofs.Stored.{getD-set}
 use Rattle.logic_programs.specs.Literals.{Lits}
 use Rattle.logic_programs.specs.Rules.{lit, falsum}
 use Rattle.logic_programs.specs.Words.{headOf, ruleSize, ruleAt, rulesOf}
-use Rattle.rule_tables.specs.Marks.{marked}
 use Rattle.rule_tables.specs.Internal.{Sound}
-use Rattle.rule_tables.proofs.Bits.{withMark, in-stored, length-with}
 use Rattle.rule_tables.proofs.Walking.{rules-front, sound-size, sound-head}
 use Rattle.literal_completion.specs.Findings.{bodyHolds, sameHead, differ}
 use Rattle.literal_completion.specs.LevelLists.{isBelow, levelOf, standsAbove}
-use Rattle.completion.specs.Internal.{readAs, frontHolds, markOf, headOfMark, heldAt, failingFalse}
+use Rattle.completion.specs.Internal.{marked, readAs, frontHolds, markOf, headOfMark, heldAt, failingFalse}
 
 -- a body: first its negated parts are looked at, then its plain ones
 module _ (X : Lits) (ws : List ℕ) where
@@ -82,7 +81,7 @@ module _ (ws : List ℕ) (h : 0 < length ws) (s : Sound ws) where
       go false f = rw f (same-mark (getD ws 0 0) k (eqb-false _ _ f) (sound-head ws h s (eqb-false _ _ f)))
 
   -- what is marked, or will be by the rules that are left
-  module _ (X : Lits) (held : List ℕ) (k : ℕ) where
+  module _ (X : Lits) (held : List Bool) (k : ℕ) where
     held-front : (marked held k || heldAt (rulesOf ws) X k)
         ≡ (marked held k || ((sameHead (headOf (getD ws 0 0)) (headOfMark k) && bodyHolds X (ruleAt ws)) || heldAt (rulesOf (drop (ruleSize ws) ws)) X k))
     held-front = rw (rules-front ws h)
@@ -91,25 +90,25 @@ module _ (ws : List ℕ) (h : 0 < length ws) (s : Sound ws) where
         → (marked held k || heldAt (rulesOf (drop (ruleSize ws) ws)) X k) ≡ R
     held-idle inv e = rw (held-front, e, and-false (sameHead (headOf (getD ws 0 0)) (headOfMark k))) at inv
 
-    held-mark : {R : Bool} → (marked held k || heldAt (rulesOf ws) X k) ≡ R → bodyHolds X (ruleAt ws) ≡ true → markOf (getD ws 0 0) / 64 < length held
-        → (marked (withMark held (markOf (getD ws 0 0))) k || heldAt (rulesOf (drop (ruleSize ws) ws)) X k) ≡ R
+    held-mark : {R : Bool} → (marked held k || heldAt (rulesOf ws) X k) ≡ R → bodyHolds X (ruleAt ws) ≡ true → markOf (getD ws 0 0) < length held
+        → (marked (set held (markOf (getD ws 0 0)) true) k || heldAt (rulesOf (drop (ruleSize ws) ws)) X k) ≡ R
     held-mark inv e below =
-        rw (in-stored held (markOf (getD ws 0 0)) below k, mark-head k)
+        rw (getD-set held (markOf (getD ws 0 0)) true false below k, mark-head k)
         (joined (sameHead (headOf (getD ws 0 0)) (headOfMark k)) (marked held k) _ ∙ (rw (held-front, e) at inv))
       where
-        joined : (q m rest : Bool) → ((q || m) || rest) ≡ (m || ((q && true) || rest))
+        joined : (q m rest : Bool) → (cond q true m || rest) ≡ (m || ((q && true) || rest))
         joined true true rest = refl
         joined true false rest = refl
         joined false true rest = refl
         joined false false rest = refl
 
   -- a turn: the mark of the rule's head is set, or nothing is
-  pub held-turn : (X : Lits) (old new : List ℕ) (r : Bool) (m : ℕ) → r ≡ frontHolds X ws → m ≡ markOf (getD ws 0 0)
-      → ((r ≡ true) × (new ≡ withMark old m)) ⊎ ((r ≡ false) × (new ≡ old)) → length old ≡ 33 → {R : Lits}
+  pub held-turn : (X : Lits) (old new : List Bool) (r : Bool) (m : ℕ) → r ≡ frontHolds X ws → m ≡ markOf (getD ws 0 0)
+      → ((r ≡ true) × (new ≡ set old m true)) ⊎ ((r ≡ false) × (new ≡ old)) → length old ≡ 2049 → {R : Lits}
       → ((k : ℕ) → (marked old k || heldAt (rulesOf ws) X k) ≡ R k)
-      → (length new ≡ 33) × ((k : ℕ) → (marked new k || heldAt (rulesOf (drop (ruleSize ws) ws)) X k) ≡ R k)
+      → (length new ≡ 2049) × ((k : ℕ) → (marked new k || heldAt (rulesOf (drop (ruleSize ws) ws)) X k) ≡ R k)
   held-turn X old new r m is at-mark (inl w) size inv = (
-    rw (w .1) (length-with old m ∙ size),
+    rw (w .1) (length-set old m true ∙ size),
     λ k. rw (w .1, at-mark) (held-mark X old k (inv k) (sym (whole-holds X ws (sound-size ws h s) is) ∙ w .0) (omega (arith, mark-below m at-mark))),
   )
   held-turn X old new r m is at-mark (inr w) size inv = (

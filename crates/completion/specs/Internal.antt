@@ -5,7 +5,7 @@ use mathlib.Core.List.{List}
 use mathlib.Core.Option.{Option, none, some}
 use Prim.Native.Nat.{ℕ}
 use lib.Dec.{eqb, leb}
-use lib.ListN.{length}
+use lib.ListN.{length, getD}
 use Rattle.search.specs.Replies.{Reply, refused, answered}
 use Rattle.logic_programs.specs.Literals.{Lits, complement}
 use Rattle.logic_programs.specs.Rules.{Head, lit, falsum, Rule}
@@ -38,6 +38,10 @@ markOf w = cond (eqb w 65535) 2048 w
 
 abbrev pub headOfMark : ℕ → Head
 headOfMark k = cond (eqb k 2048) falsum (lit k)
+
+-- the heads that a list of marks stands for
+abbrev pub marked : List Bool → Lits
+marked held k = getD held k false
 
 abbrev pub heldAt : List Rule → Lits → Lits
 heldAt Π X k = someBody Π X (headOfMark k)

@@ -1,18 +1,17 @@
-// The heads that have a body that holds, as marks, 64 to a word: one for each literal code, and one in a last word for false.
-use rule_tables::marks;
+// The heads that have a body that holds, as marks: one for each literal code, and one behind them for false.
 use rule_tables::table;
 use rule_tables::values;
 use search::Found;
 ghost use mathlib.Core.Path.{_≡_};
+ghost use mathlib.Core.Bool.{false};
 ghost use Prim.Native.Nat.{_*_, _≤_, _<_};
 ghost use lib.ListN.{length, replicate};
 ghost use Rattle.search.specs.Search.{all, first, range, placeOf};
 ghost use Rattle.logic_programs.specs.Literals.{setOf};
 ghost use Rattle.logic_programs.specs.Words.{rulesOf};
-ghost use Rattle.rule_tables.specs.Marks.{marked};
 ghost use Rattle.rule_tables.specs.Internal.{Sound};
 ghost use Rattle.literal_completion.specs.Findings.{differ};
-ghost use Rattle.completion.specs.Internal.{readAs, frontHolds, markOf, heldAt, failingFalse};
+ghost use Rattle.completion.specs.Internal.{readAs, frontHolds, markOf, marked, heldAt, failingFalse};
 
 // The literal that a part of a body asks for: a plain part itself, a negated part's complement.
 fn read_as(part: usize, negated: bool) -> usize
@@ -58,14 +57,14 @@ fn body_holds(rest: &[u16], values: &[u8]) -> bool
     parts_hold(&rest[middle..end], values, false)
 }
 
-// 33 words, all clear: 2,048 marks of literals in 32, and the mark of false, which is the lowest bit of the last.
-fn no_heads() -> [u64; 33]
-    ensures { λ r. ⌜ r ≡ replicate 33 0 ⌝ }
+// 2,049 marks, all clear.
+fn no_heads() -> [bool; 2049]
+    ensures { λ r. ⌜ r ≡ replicate 2049 false ⌝ }
 {
-    [0; 33]
+    [false; 2049]
 }
 
-// The mark of a head word: a literal's is at its code, that of false is the next after them.
+// The mark of a head word: a literal's is at its code, that of false is the last.
 fn mark_of(head: usize) -> usize
     ensures { λ r. ⌜ r ≡ markOf head ⌝ }
 {
@@ -75,8 +74,19 @@ fn mark_of(head: usize) -> usize
     head
 }
 
-// The heads of the rules whose bodies hold.
-pub(crate) fn held_heads(table: &[u16], values: &[u8]) -> [u64; 33]
+// Whether a mark is set; past the last none is.
+fn is_held(held: &[bool], mark: usize) -> bool
+    ensures { λ r. ⌜ r ≡ marked (now (held .entry)) mark ⌝ }
+{
+    if mark < held.len() {
+        return held[mark];
+    }
+    false
+}
+
+// The heads of the rules whose bodies hold. A mark is a byte here: it is set once for each rule and asked once, and setting a bit would
+// have to wait for the word that the rule before it changed.
+pub(crate) fn held_heads(table: &[u16], values: &[u8]) -> [bool; 2049]
     requires { ⌜ Sound (now table) ⌝ }
     ensures { λ r. ⌜ marked r ≡ heldAt (rulesOf (now (table .entry))) (setOf (now (values .entry))) ⌝ }
 {
@@ -85,7 +95,7 @@ pub(crate) fn held_heads(table: &[u16], values: &[u8]) -> [u64; 33]
     while 0 < rest.len() {
         let mark = mark_of(rest[0] as usize);
         if body_holds(rest, values) {
-            held[mark / 64] |= 1u64 << (mark % 64);
+            held[mark] = true;
         }
         let size = table::rule_size(rest);
         rest = &rest[size..];
@@ -94,14 +104,14 @@ pub(crate) fn held_heads(table: &[u16], values: &[u8]) -> [u64; 33]
 }
 
 // Whether a literal is in the set while no body for it holds, or the other way round.
-fn literal_fails(values: &[u8], held: &[u64], code: usize) -> bool
+fn literal_fails(values: &[u8], held: &[bool], code: usize) -> bool
     ensures { λ r. ⌜ r ≡ differ (setOf (now (values .entry)) code) (marked (now (held .entry)) code) ⌝ }
 {
-    values::has(values, code) != marks::has(held, code)
+    values::has(values, code) != is_held(held, code)
 }
 
 // The lowest literal whose formula fails.
-pub(crate) fn first_failing(values: &[u8], held: &[u64]) -> Found
+pub(crate) fn first_failing(values: &[u8], held: &[bool]) -> Found
     requires { ⌜ length (now values) ≤ 1024 ⌝ }
     ensures { λ r. ⌜ placeOf r ≡ first (λ c. differ (setOf (now (values .entry)) c) (marked (now (held .entry)) c)) 0 (range 0 (2 * length (now (values .entry)))) ⌝ }
 {
@@ -115,10 +125,10 @@ pub(crate) fn first_failing(values: &[u8], held: &[u64]) -> Found
 }
 
 // The head word of false, if the formula of false fails.
-pub(crate) fn false_failing(held: &[u64]) -> Found
+pub(crate) fn false_failing(held: &[bool]) -> Found
     ensures { λ r. ⌜ placeOf r ≡ failingFalse (marked (now (held .entry))) ⌝ }
 {
-    if marks::has(held, 2048) {
+    if is_held(held, 2048) {
         return Found::At(65535);
     }
     Found::Nothing

@@ -4,8 +4,8 @@ use mathlib.Core.Path.{ap}
 use Rattle.search.specs.Replies.{answered}
 use Rattle.search.proofs.Loops.{at-place, no-place}
 use Rattle.logic_programs.proofs.Values.{lowest-none-or-both}
-use Rattle.rule_tables.specs.Marks.{marked}
 use Rattle.rule_tables.proofs.Walking.{accepted-sound}
+use Rattle.completion.specs.Internal.{marked}
 use Rattle.completion.proofs.Judging.{says-missing, says-clash, says-fails, says-false, says-holds}
 use borrow.Author.Needs.{needs}
 use Rattle.completion.proofs.judge.Statement.{statement}

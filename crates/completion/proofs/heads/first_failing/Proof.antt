@@ -8,8 +8,8 @@ use lib.ListN.{length}
 use Rattle.search.specs.Search.{first, range}
 use Rattle.search.proofs.Loops.{range-stop, range-go, range-done}
 use Rattle.logic_programs.specs.Literals.{setOf}
-use Rattle.rule_tables.specs.Marks.{marked}
 use Rattle.literal_completion.specs.Findings.{differ}
+use Rattle.completion.specs.Internal.{marked}
 use Rattle.completion.proofs.heads.first_failing.Statement.{statement}
 use Rattle.completion.proofs.heads.first_failing.Tie as tie
 

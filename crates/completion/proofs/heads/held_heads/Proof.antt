@@ -3,24 +3,23 @@
 use mathlib.Core.Logic.{⊎-elim, inl, inr}
 use native.Mathlib.Omega.{arith}
 use mathlib.Core.Path.{_≡_, sym, _∙_, fun-ext}
-use mathlib.Core.Bool.{_||_, or-false}
+use mathlib.Core.Bool.{false, _||_, or-false}
 use Prim.Native.Nat.{ℕ, _≤_}
-use lib.ListN.{length}
+use lib.ListN.{length, length-replicate}
+use Rattle.search.proofs.Stored.{getD-replicate}
 use Rattle.logic_programs.specs.Literals.{setOf}
 use Rattle.logic_programs.specs.Words.{rulesOf}
-use Rattle.rule_tables.specs.Marks.{marked}
 use Rattle.rule_tables.specs.Internal.{Sound}
-use Rattle.rule_tables.proofs.Bits.{in-clear}
 use Rattle.rule_tables.proofs.Fronts.{left-behind, shorter}
 use Rattle.rule_tables.proofs.Walking.{sound-size, sound-rest, rules-end}
-use Rattle.completion.specs.Internal.{heldAt}
+use Rattle.completion.specs.Internal.{marked, heldAt}
 use Rattle.completion.proofs.Fronts.{mark-below, held-turn}
 use Rattle.completion.proofs.heads.held_heads.Statement.{statement}
 use Rattle.completion.proofs.heads.held_heads.Tie as tie
 
 abbrev Inv-loop : tie.InvT-loop
 Inv-loop table values held₀ rest₀ held rest =
-    (length rest ≤ length table) × Sound rest × (length held ≡ 33) ×
+    (length rest ≤ length table) × Sound rest × (length held ≡ 2049) ×
     ((k : ℕ) → (marked held k || heldAt (rulesOf rest) (setOf values) k) ≡ heldAt (rulesOf table) (setOf values) k)
 
 abbrev μ-loop : tie.MeasureT-loop
@@ -32,7 +31,7 @@ no-heads-requires c κs = tt
 loop-holds : tie.Need-loop-holds Inv-loop μ-loop
 loop-holds c =
     let c3 = c .before .before .before in
-    (omega arith, c3 .pre, omega arith, λ k. rw (c .no-heads .ensures, in-clear 33 k))
+    (omega arith, c3 .pre, rw (c .no-heads .ensures) (length-replicate 2049 false), λ k. rw (c .no-heads .ensures, getD-replicate 2049 k false))
 
 shared-slice-read-mark-of : tie.Need-shared-slice-read-mark-of Inv-loop μ-loop
 shared-slice-read-mark-of c = c .before .loop-test .taken
@@ -46,26 +45,11 @@ mark-of-requires c κs = tt
 body-holds-requires : tie.Need-body-holds-requires Inv-loop μ-loop
 body-holds-requires c κs = tt
 
-shl-held : tie.Need-shl-held Inv-loop μ-loop
-shl-held c = omega arith
-
-mul-held : tie.Need-mul-held Inv-loop μ-loop
-mul-held c =
-    let c4 = c .before .before .before .before in
-    let c5 = c4 .before in
-    omega (arith, mark-below (c5 .loop .rest .now) (c4 .loop-test .taken) (c5 .loop .inv .1) _ (c .before .before .mark-of .ensures))
-
-array-read-held : tie.Need-array-read-held Inv-loop μ-loop
-array-read-held c =
-    let c4 = c .before .before .before .before in
-    let c5 = c4 .before in
-    omega (arith, mark-below (c5 .loop .rest .now) (c4 .loop-test .taken) (c5 .loop .inv .1) _ (c .before .before .mark-of .ensures))
-
 array-write-held : tie.Need-array-write-held Inv-loop μ-loop
 array-write-held c =
     let c4 = c .before .before .before .before in
     let c5 = c4 .before in
-    omega (arith, mark-below (c5 .loop .rest .now) (c4 .loop-test .taken) (c5 .loop .inv .1) _ (c .before .before .mark-of .ensures))
+    mark-below (c5 .loop .rest .now) (c4 .loop-test .taken) (c5 .loop .inv .1) _ (c .before .before .mark-of .ensures)
 
 rule-size-requires : tie.Need-rule-size-requires Inv-loop μ-loop
 rule-size-requires c κs = tt
@@ -128,9 +112,6 @@ held-heads-spec =
     cast-mark-of
     mark-of-requires
     body-holds-requires
-    shl-held
-    mul-held
-    array-read-held
     array-write-held
     rule-size-requires
     mul-rest
