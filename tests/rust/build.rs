@@ -15,7 +15,7 @@ fn main() {
         default.to_string_lossy().into_owned()
     });
     println!("cargo:rustc-link-search=native={directory}");
-    for name in ["libhuntyghai.a", "libcausal_times.a"] {
+    for name in ["libhuntyghai.a", "libbench_causal_reading.a"] {
         let archive = Path::new(&directory).join(name);
         if archive.exists() {
             println!("cargo:rerun-if-changed={}", archive.display());

@@ -1,5 +1,5 @@
 #!/usr/bin/env python3
-"""make.py READING: writes the stored inputs of crates/vectors, each a recipe text or a damaged one, and their outputs.
+"""make.py READING: writes the stored inputs of crates/test_vectors, each a recipe text or a damaged one, and their outputs.
 
 READING is the program `reading` of tests/rust, an independent reading of the contract: the stored outputs are what it says, so
 that the checker is held against a second reading and never against itself. The inputs: every verdict and causal verdict, every
@@ -19,7 +19,7 @@ import short_laws
 import two_faults
 from recipes import FULL, PASSING, RECIPE, TOP, history, inertia, largest, still, swapped
 
-CRATE = TOP / "crates" / "vectors"
+CRATE = TOP / "crates" / "test_vectors"
 
 
 def verdicts():

@@ -2,11 +2,11 @@
 -- 63; every other answer has a code above those.
 -- Assumes nothing.
 use Prim.Native.Nat.{ℕ, _+_, _*_, _%_}
-use Rattle.search.specs.Replies.{Reply, refused, answered}
+use Rattle.basics.specs.Replies.{Reply, refused, answered}
 use Rattle.answer_sets.specs.Verdicts.{Verdict, clash, broken, unfounded, passes}
 use Rattle.translation.specs.Translated.{Written, written}
-use Rattle.history.specs.Checks.{Finding, missing, judged}
-use Rattle.causal.specs.Verdicts.{Causal, contradicted, uncaused, path}
+use Rattle.history_check.specs.Checks.{Finding, missing, judged}
+use Rattle.causal_reading.specs.Verdicts.{Causal, contradicted, uncaused, path}
 
 -- a value keeps its low 56 bits; no memory has a longer length
 unfoldable pub coded : ℕ → ℕ → ℕ

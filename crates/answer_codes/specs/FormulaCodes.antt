@@ -2,7 +2,7 @@
 -- Assumes nothing.
 use Prim.Native.Nat.{ℕ}
 use Rattle.logic_programs.specs.Words.{headWord}
-use Rattle.literal_completion.specs.Findings.{Finding, missing, clash, fails, holds}
+use Rattle.completion_theory.specs.Findings.{Finding, missing, clash, fails, holds}
 use Rattle.answer_codes.specs.Codes.{coded}
 
 -- holds 72, fails 73 with the head word; missing and clash are those of the history check

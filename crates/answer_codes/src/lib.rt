@@ -1,7 +1,7 @@
 // Answers as numbers. Codes 1 to 63 are the refusals of that number; every other answer has a code above them.
 use answer_sets::Answer;
-use causal::Reading;
-use history::Checked;
+use causal_reading::Reading;
+use history_check::Checked;
 use history_reader::HistoryAnswer;
 use translation::Translated;
 ghost use mathlib.Core.Path.{_≡_};
@@ -9,8 +9,8 @@ ghost use Prim.Native.Nat.{_<_};
 ghost use Rattle.answer_sets.specs.Answers;
 ghost use Rattle.completion.specs.Answers as completed;
 ghost use Rattle.translation.specs.Translated.{outcomeOf};
-ghost use Rattle.history.specs.Checks;
-ghost use Rattle.causal.specs.Readings;
+ghost use Rattle.history_check.specs.Checks;
+ghost use Rattle.causal_reading.specs.Readings;
 ghost use Rattle.history_reader.specs.Histories.{historyReplyOf};
 ghost use Rattle.answer_codes.specs.Codes.{coded, pair, replyCode, verdictCode, findingCode, causalCode, writtenCode, readCode};
 ghost use Rattle.answer_codes.specs.FormulaCodes.{formulaCode};

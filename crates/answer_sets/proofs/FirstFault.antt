@@ -7,15 +7,15 @@ use mathlib.Core.List.{List}
 use mathlib.Core.Option.{Option, none, some}
 use Prim.Native.Nat.{ℕ, _+_, _*_}
 use lib.ListN.{length, getD}
-use Rattle.search.specs.Search.{first, range, Lowest, Nowhere}
-use Rattle.search.specs.Replies.{orElse}
+use Rattle.basics.specs.Search.{first, range, Lowest, Nowhere}
+use Rattle.basics.specs.Replies.{orElse}
 use Rattle.logic_programs.specs.Literals.{Lits}
 use Rattle.logic_programs.specs.Rules.{Head, lit, falsum, Rule}
 use Rattle.logic_programs.specs.AnswerSets.{reduct, HeadIn, literalHeaded, IsLeastClosed}
 use Rattle.rule_tables.specs.Bodies.{applies, headIn}
 use Rattle.answer_sets.specs.Verdicts.{Verdict, clash, broken, unfounded, passes, rounds, bothValues, isBroken, isUnfounded, verdict}
 use Rattle.answer_sets.specs.Demand2.{Clashing, BrokenRule, BrokenAt, Unfounded, noRule}
-use Rattle.search.proofs.Tests.{not-both, false-of-not, and-iff, not-iff, iff-and₃, first-lowest, first-nowhere, range-lowest, range-nowhere}
+use Rattle.basics.proofs.Tests.{not-both, false-of-not, and-iff, not-iff, iff-and₃, first-lowest, first-nowhere, range-lowest, range-nowhere}
 use Rattle.answer_sets.proofs.Least.{HeadsBelow, applies-iff, least-closed}
 
 -- The faults' tests

@@ -9,8 +9,8 @@ use native.Mathlib.Numerals.{add-one}
 use native.Mathlib.Omega.{arith}
 use borrow.Author.Tests.{lt-ltb, le-ltb}
 use lib.ListN.{length}
-use Rattle.search.specs.Search.{first, range}
-use Rattle.search.specs.Replies.{refused, answered}
+use Rattle.basics.specs.Search.{first, range}
+use Rattle.basics.specs.Replies.{refused, answered}
 use Rattle.logic_programs.specs.Literals.{Lits, setOf, badValue}
 use Rattle.logic_programs.specs.Rules.{Rule}
 use Rattle.answer_sets.specs.Verdicts.{clash, broken, unfounded, passes, round, rounds, bothValues, isBroken, isUnfounded, verdict}

@@ -9,13 +9,13 @@ use native.Mathlib.Omega.{arith}
 use native.Mathlib.Nat.{add-zero, add-suc}
 use lib.Dec.{ltb}
 use borrow.Author.Tests.{ltb-true, ltb-false, lt-ltb, eqb-true, eq-eqb}
-use Rattle.search.specs.Search.{Each, all}
+use Rattle.basics.specs.Search.{Each, all}
 use Rattle.logic_programs.specs.Literals.{Lits}
 use Rattle.logic_programs.specs.Rules.{Head, lit, falsum, Rule}
 use Rattle.logic_programs.specs.AnswerSets.{PositiveRule, meets, reduct, Within, HeadIn, Closed, Subset, literalHeaded, IsLeastClosed}
 use Rattle.rule_tables.specs.Bodies.{applies}
 use Rattle.answer_sets.specs.Verdicts.{headIs, round, rounds}
-use Rattle.search.proofs.Tests.{true-or-false, not-both, false-of-not, true-of-not, and-iff, and-or-iff, not-iff, each-map}
+use Rattle.basics.proofs.Tests.{true-or-false, not-both, false-of-not, true-of-not, and-iff, and-or-iff, not-iff, each-map}
 use Rattle.answer_sets.proofs.Sets.{all-within, all-not-meets, within-subset}
 
 -- every literal head is below N

@@ -11,9 +11,9 @@ use borrow.Author.Tests.{ltb-true}
 use lib.Dec.{ltb}
 use lib.ListN.{length, getD, take, drop, length-drop, drop-of-length-le}
 use lib.Seq.{drop-cons}
-use Rattle.search.specs.Search.{Each, all}
-use Rattle.search.proofs.Tests.{and-iff, not-iff}
-use Rattle.search.proofs.Loops.{to-the-end}
+use Rattle.basics.specs.Search.{Each, all}
+use Rattle.basics.proofs.Tests.{and-iff, not-iff}
+use Rattle.basics.proofs.Loops.{to-the-end}
 use Rattle.logic_programs.specs.Literals.{Lits}
 use Rattle.logic_programs.specs.Words.{ruleSize}
 use Rattle.answer_sets.specs.Waiting.{outside, waitsFor, headAt, plainAt, Waiting}

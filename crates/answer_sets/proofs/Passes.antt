@@ -8,14 +8,14 @@ use mathlib.Core.Option.{none}
 use Prim.Native.Nat.{ℕ, _*_, _<_}
 use native.Mathlib.Omega.{arith}
 use lib.ListN.{length, getD}
-use Rattle.search.specs.Search.{Each, Nowhere, first}
+use Rattle.basics.specs.Search.{Each, Nowhere, first}
 use Rattle.logic_programs.specs.Literals.{Lits}
 use Rattle.logic_programs.specs.Rules.{Head, lit, falsum, Rule}
 use Rattle.logic_programs.specs.AnswerSets.{reduct, HeadIn, Closed, Subset, AnswerSet, literalHeaded, IsLeastClosed}
 use Rattle.rule_tables.specs.Bodies.{applies}
 use Rattle.answer_sets.specs.Verdicts.{passes, rounds, isBroken, verdict}
 use Rattle.answer_sets.specs.Demand2.{Clashing, BrokenRule, BrokenAt, Unfounded, noRule}
-use Rattle.search.proofs.Tests.{not-both, false-of-not, true-of-not, each-map₂, each-at}
+use Rattle.basics.proofs.Tests.{not-both, false-of-not, true-of-not, each-map₂, each-at}
 use Rattle.answer_sets.proofs.Least.{HeadsBelow, Below, LiteralIn, applies-iff, applies-subset, reduct-closed, literal-closed, closed-literal, least-closed}
 use Rattle.answer_sets.proofs.FirstFault.{no-broken, faultless-iff}
 

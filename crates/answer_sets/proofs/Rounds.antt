@@ -12,9 +12,9 @@ use borrow.Author.Tests.{eqb-true}
 use lib.Dec.{eqb}
 use lib.ListN.{length, getD, take, drop, set, replicate, length-set, length-take, length-replicate, getD-replicate, drop-of-length-le}
 use lib.Seq.{drop-cons, getD-take, take-suc-set, take-set-lt, drop-set-lt, append-snoc, getD-set-same, getD-set-other}
-use Rattle.search.specs.Search.{all}
-use Rattle.search.proofs.Loops.{to-the-end}
-use Rattle.search.proofs.Tests.{false-of-not}
+use Rattle.basics.specs.Search.{all}
+use Rattle.basics.proofs.Loops.{to-the-end}
+use Rattle.basics.proofs.Tests.{false-of-not}
 use Rattle.logic_programs.specs.Literals.{Lits}
 use Rattle.logic_programs.specs.Rules.{Rule}
 use Rattle.logic_programs.specs.AnswerSets.{Subset, Closed, reduct, literalHeaded}

@@ -5,8 +5,8 @@ use mathlib.Core.Logic.{_↔_}
 use mathlib.Core.Bool.{Bool, true, false, not, _&&_, _||_}
 use mathlib.Core.List.{List, [], _∷_}
 use Prim.Native.Nat.{ℕ}
-use Rattle.search.specs.Search.{all}
-use Rattle.search.proofs.Tests.{all-each}
+use Rattle.basics.specs.Search.{all}
+use Rattle.basics.proofs.Tests.{all-each}
 use Rattle.logic_programs.specs.Literals.{Lits}
 use Rattle.logic_programs.specs.AnswerSets.{meets, Within, Subset}
 

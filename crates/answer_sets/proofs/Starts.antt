@@ -13,8 +13,8 @@ use borrow.Author.Tests.{eqb-false, not-true, not-false}
 use lib.Dec.{eqb}
 use lib.ListN.{length, getD, take, drop, set, length-set, length-drop}
 use lib.Seq.{take-suc-set, drop-drop, getD-drop, getD-set-same, getD-set-other}
-use Rattle.search.specs.Search.{all, first}
-use Rattle.search.proofs.Tests.{not-both, false-of-not, and-iff, each-map}
+use Rattle.basics.specs.Search.{all, first}
+use Rattle.basics.proofs.Tests.{not-both, false-of-not, and-iff, each-map}
 use Rattle.logic_programs.specs.Literals.{Lits}
 use Rattle.logic_programs.specs.AnswerSets.{Subset}
 use Rattle.logic_programs.specs.Words.{ruleSize, ruleAt, headOf, rulesOf}

@@ -11,15 +11,15 @@ use native.Mathlib.Omega.{arith}
 use lib.Dec.{eqb, ltb}
 use lib.ListN.{length, getD, List·getD-eq-default}
 use borrow.Author.Tests.{ltb-true, ltb-false}
-use Rattle.search.specs.Search.{Lowest, Nowhere}
-use Rattle.search.specs.Replies.{Reply, answered}
+use Rattle.basics.specs.Search.{Lowest, Nowhere}
+use Rattle.basics.specs.Replies.{Reply, answered}
 use Rattle.logic_programs.specs.Literals.{setOf, holdsTrue, holdsFalse}
 use Rattle.logic_programs.specs.AnswerSets.{reduct, AnswerSet, literalHeaded, IsLeastClosed}
 use Rattle.answer_sets.specs.Verdicts.{Verdict, clash, broken, unfounded, passes, rounds, verdict}
 use Rattle.logic_programs.specs.Words.{rulesOf}
 use Rattle.answer_sets.specs.Answers.{tooManyValues, answer}
 use Rattle.answer_sets.specs.Demand2.{Accepted, Clashing, BrokenAt, Unfounded, Judged, Demand2}
-use Rattle.search.proofs.Tests.{true-or-false, not-both}
+use Rattle.basics.proofs.Tests.{true-or-false, not-both}
 use Rattle.answer_sets.proofs.Least.{HeadsBelow, Below, least-closed}
 use Rattle.answer_sets.proofs.FirstFault.{clash-iff, broken-iff, unfounded-iff}
 use Rattle.answer_sets.proofs.Passes.{passes-iff}

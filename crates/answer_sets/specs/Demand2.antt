@@ -7,8 +7,8 @@ use mathlib.Core.List.{List, []}
 use mathlib.Core.Option.{none}
 use Prim.Native.Nat.{ℕ, _+_, _*_}
 use lib.ListN.{length, getD}
-use Rattle.search.specs.Search.{Lowest, Nowhere}
-use Rattle.search.specs.Replies.{Reply, answered}
+use Rattle.basics.specs.Search.{Lowest, Nowhere}
+use Rattle.basics.specs.Replies.{Reply, answered}
 use Rattle.logic_programs.specs.Literals.{Lits, setOf, badValue}
 use Rattle.logic_programs.specs.Rules.{falsum, Rule}
 use Rattle.logic_programs.specs.AnswerSets.{meets, reduct, Within, HeadIn, AnswerSet, literalHeaded, IsLeastClosed}

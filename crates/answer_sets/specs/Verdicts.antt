@@ -5,8 +5,8 @@ use mathlib.Core.Bool.{Bool, false, not, _&&_, _||_}
 use mathlib.Core.List.{List, [], _∷_}
 use Prim.Native.Nat.{ℕ, zero, suc, _+_, _*_}
 use lib.Dec.{eqb}
-use Rattle.search.specs.Search.{first, range}
-use Rattle.search.specs.Replies.{orElse}
+use Rattle.basics.specs.Search.{first, range}
+use Rattle.basics.specs.Replies.{orElse}
 use Rattle.logic_programs.specs.Literals.{Lits}
 use Rattle.logic_programs.specs.Rules.{Head, lit, falsum, Rule}
 use Rattle.rule_tables.specs.Bodies.{applies, headIn}

@@ -8,7 +8,7 @@ use mathlib.Core.List.{List, [], _∷_}
 use Prim.Native.Nat.{ℕ, _+_, _*_, _≤_, _<_}
 use lib.Dec.{eqb, ltb}
 use lib.ListN.{length, getD, take, drop}
-use Rattle.search.specs.Search.{Each, all}
+use Rattle.basics.specs.Search.{Each, all}
 use Rattle.logic_programs.specs.Literals.{Lits}
 use Rattle.logic_programs.specs.AnswerSets.{Closed, Subset, reduct, literalHeaded}
 use Rattle.logic_programs.specs.Words.{ruleSize, ruleAt, rulesOf}

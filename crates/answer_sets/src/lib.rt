@@ -4,7 +4,7 @@ mod faults;
 mod pending;
 mod values;
 
-use search::Found;
+use basics::Found;
 ghost use mathlib.Core.Path.{_≡_};
 ghost use Rattle.answer_sets.specs.Answers.{replyOf, answer};
 ghost use Rattle.answer_sets.specs.Demand2.{Demand2};

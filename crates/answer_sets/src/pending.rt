@@ -2,14 +2,14 @@
 // for, or 65535 if none is known.
 use rule_tables::marks;
 use rule_tables::table;
-use search::Found;
+use basics::Found;
 ghost use mathlib.Core.Path.{_≡_};
 ghost use mathlib.Core.Bool.{not, _&&_};
 ghost use mathlib.Core.Option.{none};
 ghost use Prim.Native.Nat.{_≤_};
 ghost use lib.Dec.{ltb};
 ghost use lib.ListN.{length, replicate};
-ghost use Rattle.search.specs.Search.{first, placeOf};
+ghost use Rattle.basics.specs.Search.{first, placeOf};
 ghost use Rattle.logic_programs.specs.Words.{ruleSize, rulesOf};
 ghost use Rattle.rule_tables.specs.Marks.{marked};
 ghost use Rattle.rule_tables.specs.Internal.{Sound};

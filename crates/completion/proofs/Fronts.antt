@@ -10,15 +10,15 @@ use native.Mathlib.Omega.{arith}
 use borrow.Author.Tests.{lt-leb, le-leb, lt-ltb, le-ltb, not-true, not-false, eqb-true, eqb-false, eq-eqb, ne-eqb}
 use lib.Dec.{eqb}
 use lib.ListN.{length, getD, take, drop, set, length-set}
-use Rattle.search.specs.Search.{all}
-use Rattle.search.proofs.Stored.{getD-set}
+use Rattle.basics.specs.Search.{all}
+use Rattle.basics.proofs.Stored.{getD-set}
 use Rattle.logic_programs.specs.Literals.{Lits}
 use Rattle.logic_programs.specs.Rules.{lit, falsum}
 use Rattle.logic_programs.specs.Words.{headOf, ruleSize, ruleAt, rulesOf}
 use Rattle.rule_tables.specs.Internal.{Sound}
 use Rattle.rule_tables.proofs.Walking.{rules-front, sound-size, sound-head}
-use Rattle.literal_completion.specs.Findings.{bodyHolds, sameHead, differ}
-use Rattle.literal_completion.specs.LevelLists.{isBelow, levelOf, standsAbove}
+use Rattle.completion_theory.specs.Findings.{bodyHolds, sameHead, differ}
+use Rattle.completion_theory.specs.LevelLists.{isBelow, levelOf, standsAbove}
 use Rattle.completion.specs.Internal.{marked, readAs, frontHolds, markOf, headOfMark, heldAt, failingFalse}
 
 -- a body: first its negated parts are looked at, then its plain ones

@@ -8,14 +8,14 @@ use Prim.Native.Nat.{ℕ, suc, _*_, _≤_, _<_}
 use native.Mathlib.Omega.{arith}
 use borrow.Author.Tests.{ne-eqb}
 use lib.ListN.{length, getD}
-use Rattle.search.specs.Search.{Each, first, range}
-use Rattle.search.proofs.Tests.{range-lowest}
-use Rattle.search.proofs.Lists.{each-range}
+use Rattle.basics.specs.Search.{Each, first, range}
+use Rattle.basics.proofs.Tests.{range-lowest}
+use Rattle.basics.proofs.Lists.{each-range}
 use Rattle.logic_programs.specs.Literals.{Lits, setOf, noneOrBoth}
 use Rattle.logic_programs.specs.Rules.{lit, falsum, Rule}
 use Rattle.logic_programs.specs.Words.{headOf, rulesOf}
-use Rattle.literal_completion.specs.Findings.{missing, clash, fails, holds, someBody, differ, literalFails, judged, finding}
-use Rattle.literal_completion.specs.LevelLists.{wrongCount, standsAbove, badLevels}
+use Rattle.completion_theory.specs.Findings.{missing, clash, fails, holds, someBody, differ, literalFails, judged, finding}
+use Rattle.completion_theory.specs.LevelLists.{wrongCount, standsAbove, badLevels}
 use Rattle.completion.specs.Internal.{heldAt, failingFalse}
 
 -- a search by another test that says the same of each element

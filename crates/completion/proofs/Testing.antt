@@ -7,7 +7,7 @@ use Prim.Native.Nat.{ℕ, _≤_, _<_}
 use native.Mathlib.Omega.{arith}
 use borrow.Author.Tests.{lt-ltb, le-ltb}
 use lib.ListN.{length}
-use Rattle.search.specs.Replies.{Reply, refused, answered, orRefuse}
+use Rattle.basics.specs.Replies.{Reply, refused, answered, orRefuse}
 use Rattle.logic_programs.specs.Literals.{badValue}
 use Rattle.logic_programs.specs.Words.{badRule}
 use Rattle.rule_tables.specs.Internal.{Sound}
@@ -15,10 +15,10 @@ use Rattle.rule_tables.proofs.Walking.{accepted-sound}
 use Rattle.answer_sets.specs.Answers.{tooManyValues}
 use Rattle.answer_sets.specs.Demand2.{Accepted}
 use Rattle.answer_sets.proofs.Theorems.{few-values}
-use Rattle.literal_completion.specs.Findings.{Finding, finding}
-use Rattle.literal_completion.specs.LevelLists.{badLevels}
-use Rattle.literal_completion.specs.Answers.{afterTests, answer, answerByLevels}
-use Rattle.literal_completion.proofs.Theorems.{comes-next}
+use Rattle.completion_theory.specs.Findings.{Finding, finding}
+use Rattle.completion_theory.specs.LevelLists.{badLevels}
+use Rattle.completion_theory.specs.Answers.{afterTests, answer, answerByLevels}
+use Rattle.completion_theory.proofs.Theorems.{comes-next}
 use Rattle.completion.specs.Internal.{tested}
 
 module _ (vs ws : List ℕ) where

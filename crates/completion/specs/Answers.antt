@@ -1,8 +1,8 @@
 -- What the code's answers stand for.
 -- Assumes nothing.
-use Rattle.search.specs.Replies.{Reply, refused, answered}
+use Rattle.basics.specs.Replies.{Reply, refused, answered}
 use Rattle.logic_programs.specs.Words.{headOf}
-use Rattle.literal_completion.specs.Findings.{Finding, missing, clash, fails, holds}
+use Rattle.completion_theory.specs.Findings.{Finding, missing, clash, fails, holds}
 use Rattle.completion.specs.declared.Answer.{Answer}
 use Rattle.completion.specs.declared.Answer.the-variants.{Refused, Missing, Clash, Fails, Holds}
 

@@ -6,12 +6,12 @@ use mathlib.Core.Option.{Option, none, some}
 use Prim.Native.Nat.{ℕ}
 use lib.Dec.{eqb, leb}
 use lib.ListN.{length, getD}
-use Rattle.search.specs.Replies.{Reply, refused, answered}
+use Rattle.basics.specs.Replies.{Reply, refused, answered}
 use Rattle.logic_programs.specs.Literals.{Lits, complement}
 use Rattle.logic_programs.specs.Rules.{Head, lit, falsum, Rule}
 use Rattle.logic_programs.specs.Words.{ruleSize, ruleAt}
-use Rattle.literal_completion.specs.Findings.{bodyHolds, someBody}
-use Rattle.literal_completion.specs.Answers.{afterTests}
+use Rattle.completion_theory.specs.Findings.{bodyHolds, someBody}
+use Rattle.completion_theory.specs.Answers.{afterTests}
 use Rattle.completion.specs.declared.Tested.{Tested}
 use Rattle.completion.specs.declared.Tested.the-variants.{Refused, Accepted}
 

@@ -1,16 +1,16 @@
 // The heads that have a body that holds, as marks: one for each literal code, and one behind them for false.
 use rule_tables::table;
 use rule_tables::values;
-use search::Found;
+use basics::Found;
 ghost use mathlib.Core.Path.{_≡_};
 ghost use mathlib.Core.Bool.{false};
 ghost use Prim.Native.Nat.{_*_, _≤_, _<_};
 ghost use lib.ListN.{length, replicate};
-ghost use Rattle.search.specs.Search.{all, first, range, placeOf};
+ghost use Rattle.basics.specs.Search.{all, first, range, placeOf};
 ghost use Rattle.logic_programs.specs.Literals.{setOf};
 ghost use Rattle.logic_programs.specs.Words.{rulesOf};
 ghost use Rattle.rule_tables.specs.Internal.{Sound};
-ghost use Rattle.literal_completion.specs.Findings.{differ};
+ghost use Rattle.completion_theory.specs.Findings.{differ};
 ghost use Rattle.completion.specs.Internal.{readAs, frontHolds, markOf, marked, heldAt, failingFalse};
 
 // The literal that a part of a body asks for: a plain part itself, a negated part's complement.

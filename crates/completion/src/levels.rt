@@ -1,14 +1,14 @@
 // A level for each literal code, and refusal 13: each literal head is to stand above the plain parts of its rule.
 use rule_tables::table;
-use search::Found;
+use basics::Found;
 ghost use mathlib.Core.Path.{_≡_};
 ghost use mathlib.Core.Bool.{not};
 ghost use Prim.Native.Nat.{_≤_};
 ghost use lib.ListN.{length};
-ghost use Rattle.search.specs.Search.{all, first, placeOf};
+ghost use Rattle.basics.specs.Search.{all, first, placeOf};
 ghost use Rattle.logic_programs.specs.Words.{ruleAt, ruleSize, rulesOf};
 ghost use Rattle.rule_tables.specs.Internal.{Sound};
-ghost use Rattle.literal_completion.specs.LevelLists.{isBelow, standsAbove, wrongCount, badLevels};
+ghost use Rattle.completion_theory.specs.LevelLists.{isBelow, standsAbove, wrongCount, badLevels};
 
 // Whether the level of each part is below another level.
 fn parts_below(parts: &[u16], levels: &[u16], top: usize) -> bool

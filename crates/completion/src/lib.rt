@@ -4,18 +4,18 @@
 mod heads;
 mod levels;
 
-use search::Found;
+use basics::Found;
 ghost use mathlib.Core.Path.{_≡_};
 ghost use mathlib.Core.Option.{none};
 ghost use Prim.Native.Nat.{_≤_};
 ghost use lib.ListN.{length};
-ghost use Rattle.search.specs.Replies.{answered};
+ghost use Rattle.basics.specs.Replies.{answered};
 ghost use Rattle.logic_programs.specs.Words.{badRule};
-ghost use Rattle.literal_completion.specs.Findings.{finding};
-ghost use Rattle.literal_completion.specs.Answers.{answer, answerByLevels};
+ghost use Rattle.completion_theory.specs.Findings.{finding};
+ghost use Rattle.completion_theory.specs.Answers.{answer, answerByLevels};
 ghost use Rattle.completion.specs.Answers.{replyOf};
 ghost use Rattle.completion.specs.Internal.{testedOf, tested};
-ghost use Rattle.literal_completion.specs.Meaning.{SaysFormulas, SaysLevels};
+ghost use Rattle.completion_theory.specs.Meaning.{SaysFormulas, SaysLevels};
 
 // A refusal's number and place; or missing or clash with the lowest atom that has no value or both; or the head word of the first
 // formula that fails, which is a literal's code, or 65535 for false, which comes last.

@@ -3,7 +3,7 @@
 // value for each; with levels, how many there are and the levels; and the words of the table.
 use completion::Answer;
 use libc::STDOUT_FILENO;
-use search::Found;
+use basics::Found;
 
 // Bytes as they are.
 fn write_word(word: &[u8]) {

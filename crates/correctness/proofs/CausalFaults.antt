@@ -10,20 +10,20 @@ use native.Mathlib.Omega.{arith}
 use lib.Dec.{ltb}
 use lib.ListN.{length, getD}
 use borrow.Author.Tests.{ltb-true, ltb-false}
-use Rattle.search.specs.Search.{first, range, Lowest, Nowhere}
-use Rattle.search.specs.Replies.{Reply, answered, orElse}
-use Rattle.search.proofs.Tests.{true-or-false, not-both, false-of-not, and-iff, not-iff, first-lowest, first-nowhere, range-lowest, range-nowhere}
-use Rattle.description.specs.declared.Law.{Law}
-use Rattle.description.specs.declared.Description.{Description}
-use Rattle.description.specs.Laws.{isStatic, ifList, noLaw, lawsOf}
-use Rattle.description.specs.Meaning.{Interpretation, holds, satisfiesHead, stateAt, actionAt}
-use Rattle.causal.specs.declared.Reading.{Reading}
-use Rattle.causes.specs.Applying.{appliesAtStart, appliesInStep, literalIn, someCause, contradicts}
-use Rattle.causal.specs.Verdicts.{Causal, contradicted, uncaused, path, stepsFrom, causalVerdict}
-use Rattle.causal.specs.Readings as causal
+use Rattle.basics.specs.Search.{first, range, Lowest, Nowhere}
+use Rattle.basics.specs.Replies.{Reply, answered, orElse}
+use Rattle.basics.proofs.Tests.{true-or-false, not-both, false-of-not, and-iff, not-iff, first-lowest, first-nowhere, range-lowest, range-nowhere}
+use Rattle.action_language.specs.declared.Law.{Law}
+use Rattle.action_language.specs.declared.Description.{Description}
+use Rattle.action_language.specs.Laws.{isStatic, ifList, noLaw, lawsOf}
+use Rattle.action_language.specs.Meaning.{Interpretation, holds, satisfiesHead, stateAt, actionAt}
+use Rattle.causal_reading.specs.declared.Reading.{Reading}
+use Rattle.causal_steps.specs.Applying.{appliesAtStart, appliesInStep, literalIn, someCause, contradicts}
+use Rattle.causal_reading.specs.Verdicts.{Causal, contradicted, uncaused, path, stepsFrom, causalVerdict}
+use Rattle.causal_reading.specs.Readings as causal
 use Rattle.correctness.specs.Demand3.{Complete}
 use Rattle.correctness.specs.CausalFaults.{Unsatisfied, Contradicting, NotCaused, ContradictedAt, UncausedAt, NoFaultBefore, FaultNamed, NamesFault}
-use Rattle.causes.proofs.CausedHeads.{causing-applies, cause-iff-caused}
+use Rattle.causal_steps.proofs.CausedHeads.{causing-applies, cause-iff-caused}
 use Rattle.correctness.proofs.Explained.{satisfied-literal, literal-holds}
 use Rattle.correctness.proofs.Reading.{orElse-path, contradicted-no-path, uncaused-no-path, inStep}
 use Rattle.correctness.proofs.Demand3.{read-verdict}

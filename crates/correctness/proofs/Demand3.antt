@@ -13,10 +13,10 @@ use borrow.Author.Tests.{eqb-true, eq-eqb, le-ltb}
 use lib.Dec.{eqb, ltb}
 use lib.ListN.{length, take, drop}
 use lib.Seq.{take-append-seam}
-use Rattle.search.specs.Search.{Each, first}
-use Rattle.search.specs.Replies.{Reply, refused, answered}
-use Rattle.search.proofs.Tests.{or-iff, each-map}
-use Rattle.search.proofs.Lists.{each-iff, none-iff}
+use Rattle.basics.specs.Search.{Each, first}
+use Rattle.basics.specs.Replies.{Reply, refused, answered}
+use Rattle.basics.proofs.Tests.{or-iff, each-map}
+use Rattle.basics.proofs.Lists.{each-iff, none-iff}
 use Rattle.logic_programs.specs.Literals.{OneValue, setOf}
 use Rattle.logic_programs.proofs.Values.{all-one-value}
 use Rattle.logic_programs.specs.AnswerSets.{AnswerSet}
@@ -26,24 +26,24 @@ use Rattle.answer_sets.specs.Answers as engine
 use Rattle.answer_sets.specs.Demand2.{Accepted, Demand2}
 use Rattle.answer_sets.proofs.Decoding.{rules-words, codes-coded}
 use Rattle.answer_sets.proofs.Theorems.{demand-2}
-use Rattle.description.specs.declared.Law.{Law}
-use Rattle.description.specs.declared.Description.{Description}
-use Rattle.description.specs.Laws.{lawsOf}
-use Rattle.description.specs.Atoms.{atomCount}
-use Rattle.description.specs.Acceptance.{badRecord, badHorizon}
-use Rattle.description.proofs.Laws.{accepted-law}
+use Rattle.action_language.specs.declared.Law.{Law}
+use Rattle.action_language.specs.declared.Description.{Description}
+use Rattle.action_language.specs.Laws.{lawsOf}
+use Rattle.action_language.specs.Atoms.{atomCount}
+use Rattle.action_language.specs.Acceptance.{badRecord, badHorizon}
+use Rattle.action_language.proofs.Laws.{accepted-law}
 use Rattle.translation.specs.Translated.{written, rulesFor, tableFor, outcome, tableAfter}
 use Rattle.translation.proofs.Outcomes.{accepted-written, accepted-short, written-left}
 use Rattle.translation_bounds.proofs.Bounds.{codes-below}
 use Rattle.translation_bounds.proofs.Tables.{few-atoms, table-accepted}
-use Rattle.history.specs.declared.Checked.{Checked}
-use Rattle.history.specs.Checks as history
-use Rattle.causal.specs.declared.Reading.{Reading}
-use Rattle.causal.specs.Verdicts.{path, causalVerdict}
-use Rattle.causal.specs.Readings as causal
-use Rattle.literal_completion.specs.Findings.{holds}
-use Rattle.literal_completion.specs.Answers as completion
-use Rattle.literal_completion.proofs.Theorems.{holds-answer-set}
+use Rattle.history_check.specs.declared.Checked.{Checked}
+use Rattle.history_check.specs.Checks as history
+use Rattle.causal_reading.specs.declared.Reading.{Reading}
+use Rattle.causal_reading.specs.Verdicts.{path, causalVerdict}
+use Rattle.causal_reading.specs.Readings as causal
+use Rattle.completion_theory.specs.Findings.{holds}
+use Rattle.completion_theory.specs.Answers as completion
+use Rattle.completion_theory.proofs.Theorems.{holds-answer-set}
 use Rattle.correctness.specs.Demand3.{Complete, PathOf, FiveReadings, Demand3}
 use Rattle.correctness.specs.Promises.{TranslatesExactly, PassesExactly, PathExactly}
 use Rattle.correctness.proofs.Reading.{causal-iff}

@@ -9,15 +9,15 @@ use Prim.Native.Nat.{ℕ, _+_, _*_, _/_, _<_}
 use native.Mathlib.Omega.{arith}
 use lib.Dec.{eqb}
 use borrow.Author.Tests.{eqb-true, eq-eqb}
-use Rattle.search.proofs.Tests.{not-both, false-of-not, true-of-not, not-iff, each-map₂}
-use Rattle.description.specs.declared.Head.{Head}
-use Rattle.description.specs.declared.Head.the-variants.{Lit, False}
-use Rattle.description.specs.declared.Law.{Law}
-use Rattle.description.specs.Meaning.{Interpretation, satisfies, satisfiesHead, caused, SatisfiesAll, Explained}
-use Rattle.search.proofs.Parity.{even-or-odd}
-use Rattle.description.proofs.Literals.{satisfies-even, satisfies-odd}
-use Rattle.causes.specs.Applying.{appliesInStep, literalIn, headIs, someCause}
-use Rattle.causes.proofs.CausedHeads.{cause-heads, heads-cause, caused-iff}
+use Rattle.basics.proofs.Tests.{not-both, false-of-not, true-of-not, not-iff, each-map₂}
+use Rattle.action_language.specs.declared.Head.{Head}
+use Rattle.action_language.specs.declared.Head.the-variants.{Lit, False}
+use Rattle.action_language.specs.declared.Law.{Law}
+use Rattle.action_language.specs.Meaning.{Interpretation, satisfies, satisfiesHead, caused, SatisfiesAll, Explained}
+use Rattle.basics.proofs.Parity.{even-or-odd}
+use Rattle.action_language.proofs.Literals.{satisfies-even, satisfies-odd}
+use Rattle.causal_steps.specs.Applying.{appliesInStep, literalIn, headIs, someCause}
+use Rattle.causal_steps.proofs.CausedHeads.{cause-heads, heads-cause, caused-iff}
 
 -- The literal of a fluent that holds
 

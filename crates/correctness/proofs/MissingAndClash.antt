@@ -10,19 +10,19 @@ use native.Mathlib.Omega.{arith}
 use borrow.Author.Tests.{eqb-true, eqb-false}
 use lib.Dec.{eqb}
 use lib.ListN.{length, getD}
-use Rattle.search.specs.Search.{first, Lowest}
-use Rattle.search.specs.Replies.{Reply, refused, answered, orElse}
-use Rattle.search.proofs.Tests.{or-iff}
+use Rattle.basics.specs.Search.{first, Lowest}
+use Rattle.basics.specs.Replies.{Reply, refused, answered, orElse}
+use Rattle.basics.proofs.Tests.{or-iff}
 use Rattle.logic_programs.specs.Literals.{setOf, holdsTrue, holdsFalse, noneOrBoth}
 use Rattle.logic_programs.proofs.Values.{lowest-none-or-both, nowhere-none-or-both}
 use Rattle.answer_sets.specs.Verdicts.{Verdict, clash}
 use Rattle.answer_sets.specs.Answers as engine
 use Rattle.answer_sets.specs.Demand2.{Accepted, Clashing, Demand2}
 use Rattle.answer_sets.proofs.Theorems.{demand-2}
-use Rattle.literal_completion.specs.Meaning.{NoValue, BothValues, NoneOrBoth}
-use Rattle.literal_completion.proofs.Tightness.{even-in, odd-in}
-use Rattle.literal_completion.proofs.Theorems.{says}
-use Rattle.history.specs.Checks as history
+use Rattle.completion_theory.specs.Meaning.{NoValue, BothValues, NoneOrBoth}
+use Rattle.completion_theory.proofs.Tightness.{even-in, odd-in}
+use Rattle.completion_theory.proofs.Theorems.{says}
+use Rattle.history_check.specs.Checks as history
 use Rattle.correctness.specs.MissingAndClash.{MissingAndClash}
 
 -- a value that makes its atom true and false is 3

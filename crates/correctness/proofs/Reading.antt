@@ -9,18 +9,18 @@ use Prim.Native.Nat.{ℕ, zero, suc, _+_, _≤_, _<_}
 use native.Mathlib.Omega.{arith}
 use lib.Dec.{ltb}
 use borrow.Author.Tests.{ltb-true, ltb-false}
-use Rattle.search.specs.Search.{first, range}
-use Rattle.search.proofs.Tests.{true-or-false, not-both, true-of-not, not-iff, each-map, range-nowhere}
-use Rattle.search.proofs.Lists.{each-iff, none-iff}
-use Rattle.description.specs.declared.Kind.{Kind}
-use Rattle.description.specs.declared.Kind.the-variants.{Static, Dynamic}
-use Rattle.description.specs.declared.Law.{Law}
-use Rattle.description.specs.Laws.{isStatic, ifList, afterList}
-use Rattle.description.specs.Meaning.{Interpretation, holds, satisfiesHead, together, Explained, SatisfiesStatic, State, stateAt, actionAt, Path}
-use Rattle.search.specs.Replies.{orElse}
-use Rattle.causes.specs.Applying.{appliesAtStart, appliesInStep, literalIn, someCause, contradicts}
-use Rattle.causal.specs.Verdicts.{Causal, contradicted, uncaused, path, stepVerdict, stepsFrom, causalVerdict}
-use Rattle.causes.proofs.CausedHeads.{Heads, caused-iff}
+use Rattle.basics.specs.Search.{first, range}
+use Rattle.basics.proofs.Tests.{true-or-false, not-both, true-of-not, not-iff, each-map, range-nowhere}
+use Rattle.basics.proofs.Lists.{each-iff, none-iff}
+use Rattle.action_language.specs.declared.Kind.{Kind}
+use Rattle.action_language.specs.declared.Kind.the-variants.{Static, Dynamic}
+use Rattle.action_language.specs.declared.Law.{Law}
+use Rattle.action_language.specs.Laws.{isStatic, ifList, afterList}
+use Rattle.action_language.specs.Meaning.{Interpretation, holds, satisfiesHead, together, Explained, SatisfiesStatic, State, stateAt, actionAt, Path}
+use Rattle.basics.specs.Replies.{orElse}
+use Rattle.causal_steps.specs.Applying.{appliesAtStart, appliesInStep, literalIn, someCause, contradicts}
+use Rattle.causal_reading.specs.Verdicts.{Causal, contradicted, uncaused, path, stepVerdict, stepsFrom, causalVerdict}
+use Rattle.causal_steps.proofs.CausedHeads.{Heads, caused-iff}
 use Rattle.correctness.proofs.Explained.{explained-iff}
 
 -- What a reading finds, law by law

@@ -11,9 +11,9 @@ use native.Mathlib.Nat.{mul-le-mul-right}
 use lib.Dec.{ltb}
 use lib.ListN.{length}
 use borrow.Author.Tests.{ltb-true, ltb-false, eq-eqb}
-use Rattle.search.specs.Search.{Each}
-use Rattle.search.proofs.Tests.{true-or-false, not-both, each-map, each-map₂}
-use Rattle.search.proofs.Lists.{each-iff-given, each-mapped}
+use Rattle.basics.specs.Search.{Each}
+use Rattle.basics.proofs.Tests.{true-or-false, not-both, each-map, each-map₂}
+use Rattle.basics.proofs.Lists.{each-iff-given, each-mapped}
 use Rattle.logic_programs.specs.Literals.{OneValue, Lits, setOf}
 use Rattle.logic_programs.specs.Rules.{Head, lit, falsum, Rule}
 use Rattle.logic_programs.specs.AnswerSets.{reduct, HeadIn, Closed, Consistent, AnswerSet}
@@ -21,22 +21,22 @@ use Rattle.logic_programs.proofs.Complements.{complement-even}
 use Rattle.tight_programs.specs.TightPrograms.{Support, Supported, LowerParts, Tight}
 use Rattle.tight_programs.proofs.Supported.{bodyIn, closed-rules, rules-support, support-cases, proposition-4}
 use Rattle.answer_sets.proofs.Theorems.{setOf-below}
-use Rattle.description.specs.declared.Head as described
-use Rattle.description.specs.declared.Head.the-variants.{Lit, False}
-use Rattle.description.specs.declared.Kind.{Kind}
-use Rattle.description.specs.declared.Kind.the-variants.{Static, Dynamic}
-use Rattle.description.specs.declared.Law.{Law}
-use Rattle.description.specs.Laws.{ifList, afterList}
-use Rattle.description.specs.Atoms.{actionAtom, atomCount}
-use Rattle.description.specs.Acceptance.{lawFits}
-use Rattle.description.specs.Meaning.{Interpretation, satisfies, holds, satisfiesHead, stateAt, Path}
-use Rattle.search.proofs.Parity.{even-or-odd}
-use Rattle.description.proofs.Fits.{CodesBelow, HeadBelow, AfterBelow, Fits, law-fits}
+use Rattle.action_language.specs.declared.Head as described
+use Rattle.action_language.specs.declared.Head.the-variants.{Lit, False}
+use Rattle.action_language.specs.declared.Kind.{Kind}
+use Rattle.action_language.specs.declared.Kind.the-variants.{Static, Dynamic}
+use Rattle.action_language.specs.declared.Law.{Law}
+use Rattle.action_language.specs.Laws.{ifList, afterList}
+use Rattle.action_language.specs.Atoms.{actionAtom, atomCount}
+use Rattle.action_language.specs.Acceptance.{lawFits}
+use Rattle.action_language.specs.Meaning.{Interpretation, satisfies, holds, satisfiesHead, stateAt, Path}
+use Rattle.basics.proofs.Parity.{even-or-odd}
+use Rattle.action_language.proofs.Fits.{CodesBelow, HeadBelow, AfterBelow, Fits, law-fits}
 use Rattle.rule_words.specs.RuleForms.{atTime, headAt, literalsAt, staticRule}
 use Rattle.translation.specs.Rules.{translation}
 use Rattle.translation_bounds.proofs.RuleByRule.{stepRule, AtStart, AtChoice, EachRule, each-rule}
-use Rattle.causes.specs.Applying.{appliesAtStart, literalIn, headIs, someCause}
-use Rattle.causes.proofs.CausedHeads.{cause-heads, heads-cause}
+use Rattle.causal_steps.specs.Applying.{appliesAtStart, literalIn, headIs, someCause}
+use Rattle.causal_steps.proofs.CausedHeads.{cause-heads, heads-cause}
 use Rattle.correctness.proofs.Explained.{satisfied-literal, literal-holds, literal-below}
 use Rattle.correctness.proofs.Reading.{Obeyed, Supplied, inStep, path-iff}
 use Rattle.correctness.proofs.Values.{fluent-in, complement-in, if-holds, after-holds}

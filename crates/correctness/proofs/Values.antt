@@ -11,18 +11,18 @@ use native.Mathlib.Nat.{mul-le-mul-right}
 use lib.Dec.{eqb, ltb}
 use lib.ListN.{length, getD}
 use borrow.Author.Tests.{ltb-false}
-use Rattle.search.specs.Search.{Each, all}
-use Rattle.search.proofs.Tests.{true-or-false, each-map, each-at}
-use Rattle.search.proofs.Lists.{all-mapped}
+use Rattle.basics.specs.Search.{Each, all}
+use Rattle.basics.proofs.Tests.{true-or-false, each-map, each-at}
+use Rattle.basics.proofs.Lists.{all-mapped}
 use Rattle.logic_programs.specs.Literals.{OneValue, complement, holdsTrue, holdsFalse, setOf}
 use Rattle.logic_programs.specs.AnswerSets.{meets}
 use Rattle.answer_sets.proofs.Sets.{all-not-meets}
 use Rattle.logic_programs.proofs.Complements.{complement-even, complement-odd, complement-below}
-use Rattle.description.specs.Atoms.{atomCount}
-use Rattle.description.specs.Meaning.{Interpretation, satisfies, holds, together, stateAt, actionAt}
-use Rattle.search.proofs.Parity.{by-parity}
-use Rattle.description.proofs.Literals.{satisfies-even, satisfies-odd}
-use Rattle.description.proofs.Fits.{CodesBelow}
+use Rattle.action_language.specs.Atoms.{atomCount}
+use Rattle.action_language.specs.Meaning.{Interpretation, satisfies, holds, together, stateAt, actionAt}
+use Rattle.basics.proofs.Parity.{by-parity}
+use Rattle.action_language.proofs.Literals.{satisfies-even, satisfies-odd}
+use Rattle.action_language.proofs.Fits.{CodesBelow}
 use Rattle.rule_words.specs.RuleForms.{atTime, complementsAt, literalsAt}
 
 -- the atoms with value true

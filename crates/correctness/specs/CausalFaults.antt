@@ -7,16 +7,16 @@ use mathlib.Core.Bool.{true, false}
 use mathlib.Core.List.{List, List·Memᴰ}
 use Prim.Native.Nat.{ℕ, zero, suc, _/_, _≤_, _<_}
 use lib.ListN.{length, getD}
-use Rattle.search.specs.Search.{Lowest, Nowhere}
-use Rattle.search.specs.Replies.{Reply, answered}
-use Rattle.description.specs.declared.Head.the-variants.{Lit}
-use Rattle.description.specs.declared.Law.{Law}
-use Rattle.description.specs.declared.Description.{Description}
-use Rattle.description.specs.Laws.{isStatic, ifList, noLaw, lawsOf}
-use Rattle.description.specs.Meaning.{Interpretation, satisfies, holds, satisfiesHead, causing, caused, stateAt, actionAt}
-use Rattle.causal.specs.declared.Reading.{Reading}
-use Rattle.causal.specs.Verdicts.{Causal, contradicted, uncaused}
-use Rattle.causal.specs.Readings as causal
+use Rattle.basics.specs.Search.{Lowest, Nowhere}
+use Rattle.basics.specs.Replies.{Reply, answered}
+use Rattle.action_language.specs.declared.Head.the-variants.{Lit}
+use Rattle.action_language.specs.declared.Law.{Law}
+use Rattle.action_language.specs.declared.Description.{Description}
+use Rattle.action_language.specs.Laws.{isStatic, ifList, noLaw, lawsOf}
+use Rattle.action_language.specs.Meaning.{Interpretation, satisfies, holds, satisfiesHead, causing, caused, stateAt, actionAt}
+use Rattle.causal_reading.specs.declared.Reading.{Reading}
+use Rattle.causal_reading.specs.Verdicts.{Causal, contradicted, uncaused}
+use Rattle.causal_reading.specs.Readings as causal
 use Rattle.correctness.specs.Demand3.{Complete}
 
 -- a static law's if-list holds in s while its head does not

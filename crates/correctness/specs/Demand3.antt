@@ -8,24 +8,24 @@ use mathlib.Core.List.{List}
 use mathlib.Core.Option.{none}
 use Prim.Native.Nat.{ℕ, _≤_, _<_}
 use lib.ListN.{length, take}
-use Rattle.search.specs.Search.{Each}
-use Rattle.search.specs.Replies.{refused, answered}
+use Rattle.basics.specs.Search.{Each}
+use Rattle.basics.specs.Replies.{refused, answered}
 use Rattle.logic_programs.specs.Literals.{OneValue, setOf}
 use Rattle.logic_programs.specs.AnswerSets.{AnswerSet}
 use Rattle.answer_sets.specs.Verdicts.{passes}
 use Rattle.answer_sets.specs.Answers as engine
-use Rattle.literal_completion.specs.Findings.{holds}
-use Rattle.literal_completion.specs.Answers as completion
-use Rattle.description.specs.declared.Law.{Law}
-use Rattle.description.specs.declared.Description.{Description}
-use Rattle.description.specs.Laws.{lawsOf}
-use Rattle.description.specs.Atoms.{atomCount}
-use Rattle.description.specs.Acceptance.{badRecord, badHorizon}
-use Rattle.description.specs.Meaning.{Path}
+use Rattle.completion_theory.specs.Findings.{holds}
+use Rattle.completion_theory.specs.Answers as completion
+use Rattle.action_language.specs.declared.Law.{Law}
+use Rattle.action_language.specs.declared.Description.{Description}
+use Rattle.action_language.specs.Laws.{lawsOf}
+use Rattle.action_language.specs.Atoms.{atomCount}
+use Rattle.action_language.specs.Acceptance.{badRecord, badHorizon}
+use Rattle.action_language.specs.Meaning.{Path}
 use Rattle.translation.specs.Translated.{rulesFor, tableFor, tableAfter}
-use Rattle.history.specs.Checks as history
-use Rattle.causal.specs.Verdicts.{path}
-use Rattle.causal.specs.Readings as causal
+use Rattle.history_check.specs.Checks as history
+use Rattle.causal_reading.specs.Verdicts.{path}
+use Rattle.causal_reading.specs.Readings as causal
 
 -- the description is accepted: neither its records, of which some number is lent, nor its horizon are refused; and the set has
 -- one value for each atom: as many bytes as atoms, each 1 or 2

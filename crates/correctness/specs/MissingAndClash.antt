@@ -6,14 +6,14 @@ use mathlib.Core.Logic.{_↔_}
 use mathlib.Core.List.{List}
 use Prim.Native.Nat.{ℕ}
 use lib.ListN.{length}
-use Rattle.search.specs.Search.{Lowest}
-use Rattle.search.specs.Replies.{answered}
+use Rattle.basics.specs.Search.{Lowest}
+use Rattle.basics.specs.Replies.{answered}
 use Rattle.answer_sets.specs.Verdicts.{clash}
 use Rattle.answer_sets.specs.Demand2.{Accepted}
-use Rattle.literal_completion.specs.Findings as formulas
-use Rattle.literal_completion.specs.Answers as completion
-use Rattle.literal_completion.specs.Meaning.{NoValue, BothValues, NoneOrBoth}
-use Rattle.history.specs.Checks as history
+use Rattle.completion_theory.specs.Findings as formulas
+use Rattle.completion_theory.specs.Answers as completion
+use Rattle.completion_theory.specs.Meaning.{NoValue, BothValues, NoneOrBoth}
+use Rattle.history_check.specs.Checks as history
 
 pub record SameFirst (vs ws : List ℕ) : Type 0 where
   -- what the history check says

@@ -6,19 +6,19 @@ use mathlib.Core.Logic.{_↔_}
 use mathlib.Core.List.{List}
 use Prim.Native.Nat.{ℕ, _≤_}
 use lib.ListN.{length, take}
-use Rattle.search.specs.Replies.{answered}
+use Rattle.basics.specs.Replies.{answered}
 use Rattle.answer_sets.specs.Verdicts.{passes}
 use Rattle.answer_sets.specs.Answers as engine
-use Rattle.literal_completion.specs.Findings.{holds}
-use Rattle.literal_completion.specs.Answers as completion
-use Rattle.description.specs.declared.Law.{Law}
-use Rattle.description.specs.declared.Description.{Description}
+use Rattle.completion_theory.specs.Findings.{holds}
+use Rattle.completion_theory.specs.Answers as completion
+use Rattle.action_language.specs.declared.Law.{Law}
+use Rattle.action_language.specs.declared.Description.{Description}
 use Rattle.translation.specs.Translated.{tableFor}
-use Rattle.history.specs.declared.Checked.{Checked}
-use Rattle.history.specs.Checks as history
-use Rattle.causal.specs.declared.Reading.{Reading}
-use Rattle.causal.specs.Verdicts.{path}
-use Rattle.causal.specs.Readings as causal
+use Rattle.history_check.specs.declared.Checked.{Checked}
+use Rattle.history_check.specs.Checks as history
+use Rattle.causal_reading.specs.declared.Reading.{Reading}
+use Rattle.causal_reading.specs.Verdicts.{path}
+use Rattle.causal_reading.specs.Readings as causal
 use Rattle.correctness.specs.Demand3.{Complete, PathOf}
 
 -- of a translation that found the old table and left the new one: on the words in front the engine passes a set exactly if it

@@ -8,17 +8,17 @@ use Prim.Native.Nat.{ℕ, _+_, _-_, _*_, _/_, _<_}
 use native.Mathlib.Omega.{arith}
 use lib.Dec.{ltb}
 use borrow.Author.Tests.{ltb-true, ltb-false}
-use Rattle.search.proofs.Tests.{true-or-false, each-map₂}
-use Rattle.description.specs.declared.Head.{Head}
-use Rattle.description.specs.declared.Head.the-variants.{Lit, False}
-use Rattle.description.specs.declared.Kind.{Kind}
-use Rattle.description.specs.declared.Kind.the-variants.{Static, Dynamic}
-use Rattle.description.specs.declared.Law.{Law}
-use Rattle.description.specs.Laws.{ifList, afterList}
-use Rattle.description.specs.Meaning.{Interpretation, satisfies, holds, satisfiesHead, together, causing, caused, SatisfiesAll, Same, Explained, SatisfiesStatic, State}
-use Rattle.description.proofs.Laws.{AllFit}
-use Rattle.description.proofs.Fits.{CodesBelow, HeadBelow, AfterBelow, Fits, law-fits}
-use Rattle.causes.proofs.CausedHeads.{caused-iff}
+use Rattle.basics.proofs.Tests.{true-or-false, each-map₂}
+use Rattle.action_language.specs.declared.Head.{Head}
+use Rattle.action_language.specs.declared.Head.the-variants.{Lit, False}
+use Rattle.action_language.specs.declared.Kind.{Kind}
+use Rattle.action_language.specs.declared.Kind.the-variants.{Static, Dynamic}
+use Rattle.action_language.specs.declared.Law.{Law}
+use Rattle.action_language.specs.Laws.{ifList, afterList}
+use Rattle.action_language.specs.Meaning.{Interpretation, satisfies, holds, satisfiesHead, together, causing, caused, SatisfiesAll, Same, Explained, SatisfiesStatic, State}
+use Rattle.action_language.proofs.Laws.{AllFit}
+use Rattle.action_language.proofs.Fits.{CodesBelow, HeadBelow, AfterBelow, Fits, law-fits}
+use Rattle.causal_steps.proofs.CausedHeads.{caused-iff}
 
 -- Literals, lists and heads
 

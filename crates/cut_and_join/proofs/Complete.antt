@@ -9,23 +9,23 @@ use Prim.Native.Nat.{ℕ, _+_, _-_, _≤_, _<_}
 use native.Mathlib.Omega.{arith}
 use lib.Dec.{eqb}
 use lib.ListN.{length, getD}
-use Rattle.search.specs.Search.{Each, first}
-use Rattle.search.specs.Replies.{Reply, refused, answered, orElse}
-use Rattle.search.proofs.Replies.{orRefuse-answered}
+use Rattle.basics.specs.Search.{Each, first}
+use Rattle.basics.specs.Replies.{Reply, refused, answered, orElse}
+use Rattle.basics.proofs.Replies.{orRefuse-answered}
 use Rattle.logic_programs.specs.Literals.{OneValue, noneOrBoth, badValue}
 use Rattle.logic_programs.proofs.Values.{one-value-iff}
 use Rattle.answer_sets.specs.Verdicts.{clash, passes}
 use Rattle.answer_sets.specs.Answers as engine
-use Rattle.description.specs.declared.Law.{Law}
-use Rattle.description.specs.declared.Description.{Description}
-use Rattle.description.specs.Atoms.{atomCount, wrongLength}
-use Rattle.description.specs.Acceptance.{badRecord, badHorizon}
-use Rattle.description.proofs.Laws.{accepted-horizon, horizon-taken, right-length}
+use Rattle.action_language.specs.declared.Law.{Law}
+use Rattle.action_language.specs.declared.Description.{Description}
+use Rattle.action_language.specs.Atoms.{atomCount, wrongLength}
+use Rattle.action_language.specs.Acceptance.{badRecord, badHorizon}
+use Rattle.action_language.proofs.Laws.{accepted-horizon, horizon-taken, right-length}
 use Rattle.translation.specs.Translated.{Written, written, tableFor, outcome}
 use Rattle.translation.proofs.Outcomes.{written-accepted}
-use Rattle.history.specs.Checks as history
-use Rattle.causal.specs.Verdicts.{path}
-use Rattle.causal.specs.Readings as causal
+use Rattle.history_check.specs.Checks as history
+use Rattle.causal_reading.specs.Verdicts.{path}
+use Rattle.causal_reading.specs.Readings as causal
 use Rattle.correctness.specs.Demand3.{Complete}
 use Rattle.correctness.proofs.Demand3.{one-value-each}
 use Rattle.cut_and_join.specs.Halves.{withHorizon, firstSteps, laterSteps, joined}

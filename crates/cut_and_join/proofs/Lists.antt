@@ -8,9 +8,9 @@ use native.Mathlib.Omega.{arith}
 use native.Mathlib.Nat.{add-mul, zero-add, zero-mul}
 use lib.ListN.{length, take, drop, getD, length-append, length-take, length-drop, take-append-drop}
 use lib.Seq.{getD-take, getD-drop, drop-drop, take-add, take-append-seam, drop-append-seam, drop-append-le}
-use Rattle.search.specs.Search.{Each}
-use Rattle.search.proofs.Tests.{each-append}
-use Rattle.description.specs.Atoms.{atomCount}
+use Rattle.basics.specs.Search.{Each}
+use Rattle.basics.proofs.Tests.{each-append}
+use Rattle.action_language.specs.Atoms.{atomCount}
 use Rattle.cut_and_join.specs.Halves.{firstSteps, laterSteps, lastState, firstState, joined}
 use Rattle.cut_and_join.specs.CutAndJoin.{EachUndoesTheOther}
 use Rattle.cut_and_join.proofs.Within.{Within}

@@ -7,12 +7,12 @@ use Prim.Native.Nat.{ℕ, _+_, _-_, _≤_, _<_}
 use native.Mathlib.Omega.{arith}
 use native.Mathlib.Nat.{mul-le-mul-right}
 use lib.ListN.{length}
-use Rattle.description.specs.declared.Kind.{Kind}
-use Rattle.description.specs.declared.Kind.the-variants.{Static, Dynamic}
-use Rattle.description.specs.declared.Law.{Law}
-use Rattle.description.specs.declared.Description.{Description}
-use Rattle.description.specs.Laws.{lawsOf, ifList, afterList}
-use Rattle.description.proofs.Laws.{AllFit, accepted-law}
+use Rattle.action_language.specs.declared.Kind.{Kind}
+use Rattle.action_language.specs.declared.Kind.the-variants.{Static, Dynamic}
+use Rattle.action_language.specs.declared.Law.{Law}
+use Rattle.action_language.specs.declared.Description.{Description}
+use Rattle.action_language.specs.Laws.{lawsOf, ifList, afterList}
+use Rattle.action_language.proofs.Laws.{AllFit, accepted-law}
 use Rattle.translation.specs.Translated.{tableFor}
 use Rattle.translation.proofs.Counts.{sumLaws, lawWordsOf, word-count}
 use Rattle.correctness.specs.Demand3.{Complete, PathOf}

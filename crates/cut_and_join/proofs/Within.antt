@@ -11,11 +11,11 @@ use native.Mathlib.Nat.{mul-le-mul-right, add-mul, zero-add}
 use lib.Dec.{eqb, ltb}
 use lib.ListN.{getD}
 use borrow.Author.Tests.{ltb-true, ltb-false}
-use Rattle.search.proofs.Tests.{true-or-false}
-use Rattle.description.specs.declared.Law.{Law}
-use Rattle.description.specs.Atoms.{atomCount}
-use Rattle.description.specs.Meaning.{Same, Explained, State, stateAt, actionAt, Path}
-use Rattle.description.proofs.Laws.{AllFit}
+use Rattle.basics.proofs.Tests.{true-or-false}
+use Rattle.action_language.specs.declared.Law.{Law}
+use Rattle.action_language.specs.Atoms.{atomCount}
+use Rattle.action_language.specs.Meaning.{Same, Explained, State, stateAt, actionAt, Path}
+use Rattle.action_language.proofs.Laws.{AllFit}
 use Rattle.correctness.proofs.Reading.{path-states}
 use Rattle.cut_and_join.proofs.Agreeing.{agree-state, agree-explained}
 

@@ -6,15 +6,15 @@ use mathlib.Core.Path.{_≡_}
 use mathlib.Core.List.{List}
 use Prim.Native.Nat.{ℕ, _+_, _-_, _≤_, _<_}
 use lib.ListN.{length}
-use Rattle.search.specs.Replies.{answered}
+use Rattle.basics.specs.Replies.{answered}
 use Rattle.answer_sets.specs.Verdicts.{passes}
-use Rattle.description.specs.declared.Law.{Law}
-use Rattle.description.specs.declared.Description.{Description}
-use Rattle.description.specs.Atoms.{atomCount}
+use Rattle.action_language.specs.declared.Law.{Law}
+use Rattle.action_language.specs.declared.Description.{Description}
+use Rattle.action_language.specs.Atoms.{atomCount}
 use Rattle.translation.specs.Translated.{tableFor}
-use Rattle.history.specs.Checks as history
-use Rattle.causal.specs.Verdicts.{path}
-use Rattle.causal.specs.Readings as causal
+use Rattle.history_check.specs.Checks as history
+use Rattle.causal_reading.specs.Verdicts.{path}
+use Rattle.causal_reading.specs.Readings as causal
 use Rattle.correctness.specs.Demand3.{Complete}
 use Rattle.cut_and_join.specs.Halves.{withHorizon, firstSteps, laterSteps, lastState, firstState, joined}
 use Rattle.cut_and_join.specs.Passing.{Reading, byPath, byAnswerSet, byEngine, byFormulas, byHistory, byCauses, Passed}

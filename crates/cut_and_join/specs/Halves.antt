@@ -4,7 +4,7 @@
 use mathlib.Core.List.{List, _++_}
 use Prim.Native.Nat.{ℕ, _+_, _-_, _*_}
 use lib.ListN.{length, take, drop}
-use Rattle.description.specs.declared.Description.{Description}
+use Rattle.action_language.specs.declared.Description.{Description}
 
 -- the same description for another number of steps
 abbrev pub withHorizon : Description → ℕ → Description

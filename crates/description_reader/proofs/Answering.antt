@@ -6,9 +6,9 @@ use Prim.Native.Nat.{ℕ, _-_, _≤_, _<_}
 use native.Mathlib.Omega.{arith}
 use borrow.Author.Tests.{eq-eqb, ne-eqb}
 use lib.ListN.{length, take, drop, length-take, length-drop, take-append-drop}
-use Rattle.description.specs.declared.Law.{Law}
+use Rattle.action_language.specs.declared.Law.{Law}
 use Rattle.description_reader.specs.declared.descriptions.Ending.{Ending}
-use Rattle.search.specs.Replies.{refused, answered}
+use Rattle.basics.specs.Replies.{refused, answered}
 use Rattle.description_reader.specs.Descriptions.{read, descriptionOf}
 use Rattle.description_reader.specs.Answers.{behind, replied, lawsLeft}
 use Rattle.description_reader.specs.Internal.{draftOf, takenOf, Ended}

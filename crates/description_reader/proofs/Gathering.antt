@@ -15,7 +15,7 @@ use Rattle.text.specs.Names.{literal}
 use Rattle.text.specs.Lists.{Listed, refused, codes, added, listFrom}
 use Rattle.text.specs.Internal.{itemAt, nextAt, itemsAt}
 use Rattle.text.proofs.Items.{items-next, items-end}
-use Rattle.description.specs.Laws.{padded}
+use Rattle.action_language.specs.Laws.{padded}
 use Rattle.description_reader.specs.declared.codes.Codes.{Codes}
 use Rattle.description_reader.specs.Internal.{listedOf, oneMore}
 

@@ -11,17 +11,17 @@ use borrow.Author.Tests.{lt-ltb, le-ltb, ltb-true, ltb-false}
 use lib.Dec.{ltb}
 use lib.ListN.{length, take, drop, set, replicate, length-take, length-append, length-replicate}
 use lib.Seq.{drop-set-lt, drop-drop}
-use Rattle.search.proofs.Tests.{or-iff}
-use Rattle.description.specs.declared.Kind.{Kind}
-use Rattle.description.specs.declared.Kind.the-variants.{Static, Dynamic}
-use Rattle.description.specs.declared.Law.{Law}
+use Rattle.basics.proofs.Tests.{or-iff}
+use Rattle.action_language.specs.declared.Kind.{Kind}
+use Rattle.action_language.specs.declared.Kind.the-variants.{Static, Dynamic}
+use Rattle.action_language.specs.declared.Law.{Law}
 use Rattle.description_reader.specs.declared.codes.Codes.{Codes}
 use Rattle.description_reader.specs.declared.Run.{Run}
 use Rattle.description_reader.specs.declared.states.Due as code
 use Rattle.description_reader.specs.declared.states.Due.the-variants as code-due
 use Rattle.description_reader.specs.declared.states.Reading.{Reading}
 use Rattle.description_reader.specs.LineSteps.{Due, horizonDue, firstFluentDue, fluentDue, actionDue, lawDue, ifDue, afterDue, byDue, allowed, withAfter}
-use Rattle.description.specs.Laws.{lawOf}
+use Rattle.action_language.specs.Laws.{lawOf}
 use Rattle.text.specs.Lines.{ifKey, afterKey, byKey}
 use Rattle.text.specs.Names.{literal}
 use Rattle.text.specs.Lists.{Listed, codes}

@@ -10,15 +10,15 @@ use native.Mathlib.Numerals.{add-one}
 use borrow.Author.Tests.{le-ltb, ltb-true, ltb-false, eqb-true, eq-eqb, ne-eqb}
 use lib.Dec.{eqb, ltb}
 use lib.ListN.{length, take, drop, length-drop}
-use Rattle.search.specs.Search.{first}
-use Rattle.search.proofs.Tests.{and-iff, not-both}
-use Rattle.description.specs.declared.Law.{Law}
+use Rattle.basics.specs.Search.{first}
+use Rattle.basics.proofs.Tests.{and-iff, not-both}
+use Rattle.action_language.specs.declared.Law.{Law}
 use Rattle.text.specs.Bytes.{newline, equalsSign, Cut, cutAt, cut}
 use Rattle.text.specs.Lines.{noKey, Line, keyed, valued, ended, keyNumber, firstLine}
 use Rattle.description_reader.specs.LineSteps.{Due, horizonDue, firstFluentDue, fluentDue, actionDue, lawDue, ifDue, afterDue, byDue, Draft, startsLaw, allowed, roomFor, anyList}
 use Rattle.description_reader.specs.LineSteps as step
 use Rattle.description_reader.specs.LineSteps.{Step, next, finish, lineStep}
-use Rattle.search.specs.Replies.{Reply, refused}
+use Rattle.basics.specs.Replies.{Reply, refused}
 use Rattle.description_reader.specs.Descriptions.{Taken, afterStep, afterFirst, linesFrom, described}
 use Rattle.text.specs.declared.lines.LineAt.{LineAt}
 use Rattle.description_reader.specs.declared.states.Reading.{Reading}

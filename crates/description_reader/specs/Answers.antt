@@ -3,9 +3,9 @@
 use mathlib.Core.List.{List, _++_}
 use Prim.Native.Nat.{ℕ, _-_}
 use lib.ListN.{length, drop}
-use Rattle.search.specs.Replies.{Reply, refused, answered, leftAfter}
-use Rattle.description.specs.declared.Law.{Law}
-use Rattle.description.specs.declared.Description.{Description}
+use Rattle.basics.specs.Replies.{Reply, refused, answered, leftAfter}
+use Rattle.action_language.specs.declared.Law.{Law}
+use Rattle.action_language.specs.declared.Description.{Description}
 use Rattle.description_reader.specs.Descriptions.{Taken, read, descriptionOf}
 use Rattle.description_reader.specs.declared.Answer.{Answer}
 use Rattle.description_reader.specs.declared.Answer.the-variants.{Refused, Read}

@@ -7,7 +7,7 @@ use mathlib.Core.Option.{Option}
 use Prim.Native.Nat.{ℕ, _+_, _≤_, _<_}
 use lib.Dec.{eqb, ltb}
 use lib.ListN.{length, take, drop, replicate}
-use Rattle.description.specs.declared.Law.{Law}
+use Rattle.action_language.specs.declared.Law.{Law}
 use Rattle.description_reader.specs.declared.Run.{Run}
 use Rattle.description_reader.specs.declared.states.Reading.{Reading}
 use Rattle.description_reader.specs.declared.states.State.{State}
@@ -25,12 +25,12 @@ use Rattle.description_reader.specs.LineSteps as step
 use Rattle.description_reader.specs.LineSteps.{Step, next, finish, horizonLine, fluentLine, actionLine, lawLine, ifLine, afterLine, literalLine, wholeByList, nonexecutableLine, endLine, lawIn}
 use Rattle.line_values.specs.HorizonText.{horizonOf}
 use Rattle.line_values.specs.ShortLaws.{defaultLaw, inertialLaw, causesLaw}
-use Rattle.description.specs.declared.Kind.{Kind}
-use Rattle.description.specs.declared.Kind.the-variants.{Static, Dynamic}
-use Rattle.description.specs.Laws.{padded, lawOf, noLaw}
+use Rattle.action_language.specs.declared.Kind.{Kind}
+use Rattle.action_language.specs.declared.Kind.the-variants.{Static, Dynamic}
+use Rattle.action_language.specs.Laws.{padded, lawOf, noLaw}
 use Rattle.description_reader.specs.declared.steps.HeadAt.{HeadAt}
 use Rattle.description_reader.specs.declared.steps.HeadAt.the-variants.{Refused, Read}
-use Rattle.search.specs.Replies.{Reply, refused, answered}
+use Rattle.basics.specs.Replies.{Reply, refused, answered}
 use Rattle.description_reader.specs.Descriptions.{Taken, read}
 
 -- a list's codes so far, or its refusal

@@ -6,12 +6,12 @@ use mathlib.Core.Option.{Option, none, some}
 use Prim.Native.Nat.{ℕ, suc, _+_, min}
 use lib.Dec.{eqb, ltb}
 use lib.ListN.{length}
-use Rattle.description.specs.declared.Head.{Head}
-use Rattle.description.specs.declared.Head.the-variants.{Lit, False}
-use Rattle.description.specs.declared.Kind.{Kind}
-use Rattle.description.specs.declared.Kind.the-variants.{Static, Dynamic}
-use Rattle.description.specs.declared.Law.{Law}
-use Rattle.description.specs.Laws.{padded, lawOf, noLaw}
+use Rattle.action_language.specs.declared.Head.{Head}
+use Rattle.action_language.specs.declared.Head.the-variants.{Lit, False}
+use Rattle.action_language.specs.declared.Kind.{Kind}
+use Rattle.action_language.specs.declared.Kind.the-variants.{Static, Dynamic}
+use Rattle.action_language.specs.declared.Law.{Law}
+use Rattle.action_language.specs.Laws.{padded, lawOf, noLaw}
 use Rattle.text.specs.Lines.{horizonKey, fluentKey, actionKey, staticKey, dynamicKey, ifKey, afterKey, endKey}
 use Rattle.text.specs.Lines.{defaultKey, inertialKey, causesKey, byKey, nonexecutableKey}
 use Rattle.spelling.specs.Spelling.{sameName, falseBytes}

@@ -1,9 +1,9 @@
 // The codes of a law's list, gathered item by item.
 use line_values::orders;
-use search::Found;
+use basics::Found;
 ghost use mathlib.Core.Path.{_≡_};
 ghost use lib.ListN.{take};
-ghost use Rattle.search.specs.Search.{placeOf};
+ghost use Rattle.basics.specs.Search.{placeOf};
 ghost use Rattle.text.specs.Internal.{CodeFits};
 ghost use Rattle.description_reader.specs.Internal.{noCodes, Padded, listedOf, oneMore};
 

@@ -4,8 +4,8 @@ pub mod descriptions;
 pub mod states;
 mod steps;
 
-use description::Description;
-use description::Law;
+use action_language::Description;
+use action_language::Law;
 ghost use mathlib.Core.Path.{_≡_};
 ghost use Rattle.description_reader.specs.Descriptions.{described};
 ghost use Rattle.description_reader.specs.Answers.{replyOf, replied, recordOf, lawsLeft};

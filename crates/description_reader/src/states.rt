@@ -1,12 +1,12 @@
 // What the description reader knows as it goes, which keys are allowed where, and whether there is room for a law.
 use crate::Run;
-use description::Law;
+use action_language::Law;
 use text::lines;
 use text::names::Names;
 ghost use mathlib.Core.Path.{_≡_};
 ghost use Prim.Native.Nat.{min};
 ghost use lib.Dec.{ltb};
-ghost use Rattle.description.specs.declared.Law.{Law};
+ghost use Rattle.action_language.specs.declared.Law.{Law};
 ghost use Rattle.description_reader.specs.LineSteps.{lawDue, startsLaw, allowed};
 ghost use Rattle.description_reader.specs.Internal.{dueOf};
 

@@ -10,12 +10,12 @@ use native.Mathlib.Omega.{arith}
 use borrow.Author.Tests.{eqb-true, eq-eqb, ltb-true, ltb-false}
 use lib.Dec.{eqb, ltb}
 use lib.ListN.{length, getD}
-use Rattle.search.specs.Search.{first, Lowest, Nowhere}
-use Rattle.search.specs.Replies.{Reply, refused, answered, orElse, orRefuse}
-use Rattle.search.proofs.Tests.{true-or-false, first-lowest, first-nowhere}
+use Rattle.basics.specs.Search.{first, Lowest, Nowhere}
+use Rattle.basics.specs.Replies.{Reply, refused, answered, orElse, orRefuse}
+use Rattle.basics.proofs.Tests.{true-or-false, first-lowest, first-nowhere}
 use Rattle.logic_programs.specs.Literals.{noneOrBoth}
 use Rattle.logic_programs.proofs.Values.{lowest-none-or-both, nowhere-none-or-both}
-use Rattle.literal_completion.specs.Meaning.{NoValue, BothValues}
+use Rattle.completion_theory.specs.Meaning.{NoValue, BothValues}
 use Rattle.former_answers.specs.Changes.{BothBelowNone, Answers, Changed}
 
 -- the lowest atom with a value

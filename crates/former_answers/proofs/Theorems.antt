@@ -7,25 +7,25 @@ use Prim.Native.Nat.{ℕ}
 use native.Mathlib.Omega.{arith}
 use lib.Dec.{eqb}
 use lib.ListN.{length}
-use Rattle.search.specs.Search.{first, Lowest}
-use Rattle.search.specs.Replies.{Reply, refused, answered, orElse}
+use Rattle.basics.specs.Search.{first, Lowest}
+use Rattle.basics.specs.Replies.{Reply, refused, answered, orElse}
 use Rattle.logic_programs.specs.Literals.{setOf, badValue}
 use Rattle.logic_programs.specs.Words.{rulesOf, badRule}
 use Rattle.answer_sets.specs.Verdicts.{Verdict, clash, verdict}
 use Rattle.answer_sets.specs.Answers as engine
-use Rattle.description.specs.declared.Law.{Law}
-use Rattle.description.specs.declared.Description.{Description}
-use Rattle.description.specs.Atoms.{wrongLength}
-use Rattle.description.proofs.Laws.{right-length}
+use Rattle.action_language.specs.declared.Law.{Law}
+use Rattle.action_language.specs.declared.Description.{Description}
+use Rattle.action_language.specs.Atoms.{wrongLength}
+use Rattle.action_language.proofs.Laws.{right-length}
 use Rattle.translation.specs.Translated as translated
 use Rattle.translation.specs.Translated.{Written, written}
 use Rattle.translation_bounds.proofs.Tables.{engine-accepts, engine-judges}
-use Rattle.literal_completion.specs.Findings as formulas
-use Rattle.literal_completion.specs.LevelLists.{badLevels}
-use Rattle.literal_completion.specs.Answers as completion
-use Rattle.literal_completion.specs.Meaning.{BothValues}
-use Rattle.history.specs.Checks as history
-use Rattle.history.proofs.Judging.{finding-answered}
+use Rattle.completion_theory.specs.Findings as formulas
+use Rattle.completion_theory.specs.LevelLists.{badLevels}
+use Rattle.completion_theory.specs.Answers as completion
+use Rattle.completion_theory.specs.Meaning.{BothValues}
+use Rattle.history_check.specs.Checks as history
+use Rattle.history_check.proofs.Judging.{finding-answered}
 use Rattle.correctness.proofs.MissingAndClash.{engine-clash}
 use Rattle.former_answers.specs.Former.{formerFinding, formerChecked, formerFormulas}
 use Rattle.former_answers.specs.Changes.{Changed, HistoryChanged, FormulasChanged, LevelsChanged}

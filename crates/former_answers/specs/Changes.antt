@@ -6,15 +6,15 @@ use mathlib.Core.Logic.{_↔_}
 use mathlib.Core.List.{List}
 use Prim.Native.Nat.{ℕ, _<_}
 use lib.ListN.{length}
-use Rattle.search.specs.Search.{Lowest}
-use Rattle.search.specs.Replies.{Reply, refused, answered}
+use Rattle.basics.specs.Search.{Lowest}
+use Rattle.basics.specs.Replies.{Reply, refused, answered}
 use Rattle.answer_sets.specs.Verdicts.{clash}
-use Rattle.description.specs.declared.Law.{Law}
-use Rattle.description.specs.declared.Description.{Description}
-use Rattle.literal_completion.specs.Findings as formulas
-use Rattle.literal_completion.specs.Answers as completion
-use Rattle.literal_completion.specs.Meaning.{NoValue, BothValues}
-use Rattle.history.specs.Checks as history
+use Rattle.action_language.specs.declared.Law.{Law}
+use Rattle.action_language.specs.declared.Description.{Description}
+use Rattle.completion_theory.specs.Findings as formulas
+use Rattle.completion_theory.specs.Answers as completion
+use Rattle.completion_theory.specs.Meaning.{NoValue, BothValues}
+use Rattle.history_check.specs.Checks as history
 use Rattle.former_answers.specs.Former.{formerChecked, formerAnswer, formerAnswerByLevels}
 
 -- some atom with both values lies below the first atom with none

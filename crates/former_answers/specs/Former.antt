@@ -5,18 +5,18 @@ use mathlib.Core.List.{List}
 use Prim.Native.Nat.{ℕ}
 use lib.Dec.{eqb}
 use lib.ListN.{length}
-use Rattle.search.specs.Search.{first}
-use Rattle.search.specs.Replies.{Reply, answered, orElse, orRefuse}
+use Rattle.basics.specs.Search.{first}
+use Rattle.basics.specs.Replies.{Reply, answered, orElse, orRefuse}
 use Rattle.logic_programs.specs.Literals.{setOf}
 use Rattle.logic_programs.specs.Words.{rulesOf}
 use Rattle.answer_sets.specs.Answers as engine
-use Rattle.description.specs.declared.Law.{Law}
-use Rattle.description.specs.declared.Description.{Description}
+use Rattle.action_language.specs.declared.Law.{Law}
+use Rattle.action_language.specs.declared.Description.{Description}
 use Rattle.translation.specs.Translated as translated
-use Rattle.history.specs.Checks as history
-use Rattle.literal_completion.specs.Findings as formulas
-use Rattle.literal_completion.specs.LevelLists.{badLevels}
-use Rattle.literal_completion.specs.Answers.{afterTests}
+use Rattle.history_check.specs.Checks as history
+use Rattle.completion_theory.specs.Findings as formulas
+use Rattle.completion_theory.specs.LevelLists.{badLevels}
+use Rattle.completion_theory.specs.Answers.{afterTests}
 
 -- clash was the engine's own
 abbrev pub formerFinding : List ℕ → List ℕ → Reply history.Finding

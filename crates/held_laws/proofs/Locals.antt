@@ -27,11 +27,11 @@ use denote.Index.{whole-out, whole-in}
 use denote.Steps.{owned, peeks}
 use denote.Struct.Laws as LL
 use denote.Struct.Steps.{spelt}
-use Rattle.description.specs.declared.Law.{Law}
-use Rattle.description.specs.declared.Description.{Description}
-use Rattle.description.proofs.Law as T
-use Rattle.description.proofs.Description as D
-use Rattle.description.proofs.Description.Laws as D′
+use Rattle.action_language.specs.declared.Law.{Law}
+use Rattle.action_language.specs.declared.Description.{Description}
+use Rattle.action_language.proofs.Law as T
+use Rattle.action_language.proofs.Description as D
+use Rattle.action_language.proofs.Description.Laws as D′
 use Rattle.law_runs.proofs.Records.{Run, run-ty, run-val, run-tells, run-makes}
 
 pub run-length : (ls : List Law) (u : Val) → Is Run ls (u ∷ []) → length ls ≡ 64

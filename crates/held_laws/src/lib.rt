@@ -1,16 +1,16 @@
 // The same functions for programs: each takes 64 law records by value, lends them to the function over a lent run, and hands back
 // what that says. Covered code can't lend a local array of records.
-use causal::Reading;
-use description::Description;
-use description::Law;
-use history::Checked;
+use causal_reading::Reading;
+use action_language::Description;
+use action_language::Law;
+use history_check::Checked;
 use lent_laws::Read;
 use translation::Translated;
 ghost use mathlib.Core.Path.{_≡_};
 ghost use lib.ListN.{length};
 ghost use Rattle.translation.specs.Translated.{outcomeOf, outcome, tableAfter};
-ghost use Rattle.history.specs.Checks;
-ghost use Rattle.causal.specs.Readings;
+ghost use Rattle.history_check.specs.Checks;
+ghost use Rattle.causal_reading.specs.Readings;
 ghost use Rattle.description_reader.specs.Descriptions.{described};
 ghost use Rattle.description_reader.specs.Answers.{replyOf, replied, recordOf, lawsLeft};
 ghost use Rattle.correctness.specs.Promises.{TranslatesExactly, PassesExactly, PathExactly};

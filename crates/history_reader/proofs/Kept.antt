@@ -10,8 +10,8 @@ use native.Mathlib.Omega.{arith}
 use borrow.Author.Tests.{eqb-true, ltb-true, ltb-false}
 use lib.Dec.{eqb, ltb}
 use lib.ListN.{length, getD, replicate, length-replicate}
-use Rattle.search.specs.Replies.{Reply, refused, answered}
-use Rattle.description.specs.Atoms.{actionAtom, atomCount}
+use Rattle.basics.specs.Replies.{Reply, refused, answered}
+use Rattle.action_language.specs.Atoms.{actionAtom, atomCount}
 use Rattle.text.specs.Lines.{Line, firstLine, endKey}
 use Rattle.text.specs.Lists as lists
 use Rattle.text.specs.Lists.{Listed, codes, listOf}

@@ -10,7 +10,7 @@ use native.Mathlib.Omega.{arith}
 use borrow.Author.Tests.{eq-eqb, ne-eqb, lt-ltb, ltb-true, ltb-false}
 use lib.Dec.{eqb, ltb}
 use lib.ListN.{length, getD, set}
-use Rattle.search.specs.Replies.{Reply, refused, answered}
+use Rattle.basics.specs.Replies.{Reply, refused, answered}
 use Rattle.text.specs.Lines.{noKey, Line, keyed, firstLine}
 use Rattle.text.specs.Internal.{keyIn, itemAt, nextAt, itemsAt}
 use Rattle.text.proofs.Items.{items-next, items-end, items-start, items-none}

@@ -18,7 +18,7 @@ use Rattle.history_reader.specs.declared.histories.EndAt.{EndAt}
 use Rattle.history_reader.specs.declared.histories.Lines.{Lines}
 use Rattle.history_reader.specs.declared.histories.Record.{Record}
 use Rattle.history_reader.specs.declared.histories.Wanted.{Wanted}
-use Rattle.search.specs.Replies.{Reply, refused, answered}
+use Rattle.basics.specs.Replies.{Reply, refused, answered}
 use Rattle.text.specs.Lines.{Line, firstLine}
 use Rattle.text.specs.Names.{literal}
 use Rattle.text.specs.Lists as lists

@@ -7,8 +7,8 @@ use mathlib.Core.Option.{Option, none, some}
 use Prim.Native.Nat.{ℕ, zero, suc, _+_, _-_, _*_}
 use lib.Dec.{eqb, ltb}
 use lib.ListN.{length, replicate}
-use Rattle.search.specs.Replies.{Reply, refused, answered, orRefuse, leftAfter}
-use Rattle.description.specs.Atoms.{atomCount, wrongLength}
+use Rattle.basics.specs.Replies.{Reply, refused, answered, orRefuse, leftAfter}
+use Rattle.action_language.specs.Atoms.{atomCount, wrongLength}
 use Rattle.history_reader.specs.declared.HistoryAnswer.{HistoryAnswer}
 use Rattle.history_reader.specs.declared.HistoryAnswer.the-variants.{Refused, Complete}
 use Rattle.text.specs.Lines.{stateKey, actKey, endKey, Line, firstLine}

@@ -6,8 +6,8 @@ use Prim.Native.Nat.{ℕ, zero, suc, _+_, _-_, _*_, _/_, _%_, _≤_, _<_}
 use lib.Dec.{eqb, ltb}
 use lib.ListN.{length, take, drop}
 use Rattle.history_reader.specs.declared.histories.EndAt.{EndAt}
-use Rattle.search.specs.Replies.{Reply, refused, answered}
-use Rattle.description.specs.Atoms.{atomCount}
+use Rattle.basics.specs.Replies.{Reply, refused, answered}
+use Rattle.action_language.specs.Atoms.{atomCount}
 use Rattle.history_reader.specs.declared.histories.Record.{Record}
 use Rattle.history_reader.specs.declared.histories.Lines.{Lines}
 use Rattle.history_reader.specs.declared.histories.Wanted.{Wanted}

@@ -1,6 +1,6 @@
 // Reading a history: state and act lines in turn, then the end line.
 use description_reader::states::Reading;
-use search::Found;
+use basics::Found;
 use text::lines;
 use text::lists;
 ghost use mathlib.Core.Path.{_≡_};

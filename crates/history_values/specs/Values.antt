@@ -6,7 +6,7 @@ use mathlib.Core.List.{List, [], _∷_}
 use Prim.Native.Nat.{ℕ, zero, suc, _+_, _/_, _%_, _<_}
 use lib.Dec.{eqb, ltb}
 use lib.ListN.{getD, set}
-use Rattle.description.specs.Atoms.{actionAtom}
+use Rattle.action_language.specs.Atoms.{actionAtom}
 
 -- a value byte with one more literal of its atom: 0 none, 1 true, 2 false, 3 both
 abbrev pub withTrue : ℕ → ℕ

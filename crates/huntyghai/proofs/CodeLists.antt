@@ -8,24 +8,24 @@ use Prim.Native.Nat.{ℕ, _%_, _<_}
 use native.Mathlib.Omega.{arith}
 use borrow.Author.Tests.{eqb-true}
 use lib.Dec.{eqb}
-use Rattle.search.specs.Search.{Each, all}
-use Rattle.search.specs.Replies.{Reply, refused, answered}
-use Rattle.search.proofs.Tests.{not-both, or-iff, all-each}
+use Rattle.basics.specs.Search.{Each, all}
+use Rattle.basics.specs.Replies.{Reply, refused, answered}
+use Rattle.basics.proofs.Tests.{not-both, or-iff, all-each}
 use Rattle.answer_sets.specs.Verdicts.{Verdict, clash, broken, unfounded, passes}
 use Rattle.answer_sets.specs.Answers.{answer}
-use Rattle.literal_completion.specs.Findings as formulas
-use Rattle.literal_completion.specs.Answers as completed
+use Rattle.completion_theory.specs.Findings as formulas
+use Rattle.completion_theory.specs.Answers as completed
 use Rattle.translation.specs.Translated.{Written, written, outcome}
-use Rattle.history.specs.Checks.{Finding, missing, judged, checked}
-use Rattle.causal.specs.Verdicts.{Causal, contradicted, uncaused, path}
-use Rattle.causal.specs.Readings.{reading}
+use Rattle.history_check.specs.Checks.{Finding, missing, judged, checked}
+use Rattle.causal_reading.specs.Verdicts.{Causal, contradicted, uncaused, path}
+use Rattle.causal_reading.specs.Readings.{reading}
 use Rattle.description_reader.specs.Descriptions.{Taken, read, described, descriptionOf}
 use Rattle.history_reader.specs.Histories.{readHistory, historyReplied}
 use Rattle.inputs.specs.Inputs.{recordedIn}
 use Rattle.inputs.proofs.Known.{recorded-refused}
-use Rattle.refusals.specs.Refusals.{among, RefusedBy}
-use Rattle.refusals.proofs.Readers.{among-more}
-use Rattle.refusals.proofs.Checks.{which-refusals}
+use Rattle.possible_refusals.specs.Refusals.{among, RefusedBy}
+use Rattle.possible_refusals.proofs.Readers.{among-more}
+use Rattle.possible_refusals.proofs.Checks.{which-refusals}
 use Rattle.answer_codes.specs.Codes.{coded, replyCode, verdictCode, findingCode, causalCode, writtenCode, readCode}
 use Rattle.answer_codes.specs.FormulaCodes.{formulaCode}
 use Rattle.huntyghai.specs.Texts.{translatedTaken, translatedText, checkedTaken, checkedText, readingOf, readingOfInput}

@@ -10,18 +10,18 @@ use native.Mathlib.Omega.{arith}
 use borrow.Author.Tests.{ne-eqb}
 use lib.Dec.{eqb}
 use lib.ListN.{length}
-use Rattle.search.specs.Replies.{Reply, refused, answered, orRefuse}
+use Rattle.basics.specs.Replies.{Reply, refused, answered, orRefuse}
 use Rattle.logic_programs.specs.Rules.{lit, falsum}
 use Rattle.logic_programs.specs.Words.{headOf, headWord, rulesOf}
 use Rattle.answer_sets.specs.Demand2.{Accepted}
 use Rattle.answer_sets.proofs.Decoding.{accepted-count}
 use Rattle.answer_sets.proofs.Theorems.{few-values}
-use Rattle.literal_completion.specs.Findings.{Finding, missing, clash, fails, holds, finding}
-use Rattle.literal_completion.specs.LevelLists.{badLevels}
-use Rattle.literal_completion.specs.Answers.{answer, answerByLevels}
-use Rattle.literal_completion.specs.Meaning.{ByFormulas, SaysFormulas, ByLevels, SaysLevels}
-use Rattle.literal_completion.proofs.Theorems as completed
-use Rattle.literal_completion.proofs.Formulas as formulas
+use Rattle.completion_theory.specs.Findings.{Finding, missing, clash, fails, holds, finding}
+use Rattle.completion_theory.specs.LevelLists.{badLevels}
+use Rattle.completion_theory.specs.Answers.{answer, answerByLevels}
+use Rattle.completion_theory.specs.Meaning.{ByFormulas, SaysFormulas, ByLevels, SaysLevels}
+use Rattle.completion_theory.proofs.Theorems as completed
+use Rattle.completion_theory.proofs.Formulas as formulas
 use Rattle.answer_codes.specs.Codes.{coded, replyCode}
 use Rattle.answer_codes.specs.FormulaCodes.{formulaCode}
 use Rattle.huntyghai.specs.FormulaNumbers.{NumberedByFormulas, CompletionNumbered, LevelsNumbered}

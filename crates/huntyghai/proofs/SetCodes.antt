@@ -6,7 +6,7 @@ use mathlib.Core.List.{List}
 use Prim.Native.Nat.{ℕ, _%_, _≤_, _<_}
 use native.Mathlib.Omega.{arith}
 use lib.ListN.{length}
-use Rattle.search.specs.Replies.{Reply, answered}
+use Rattle.basics.specs.Replies.{Reply, answered}
 use Rattle.logic_programs.specs.Literals.{setOf}
 use Rattle.answer_sets.specs.Verdicts.{Verdict, clash, broken, unfounded, passes, verdict}
 use Rattle.logic_programs.specs.Words.{rulesOf}

@@ -7,22 +7,22 @@ use mathlib.Core.List.{List, [], _∷_}
 use Prim.Native.Nat.{ℕ, _≤_, _<_}
 use native.Mathlib.Omega.{arith}
 use lib.ListN.{length}
-use Rattle.search.specs.Search.{Each}
-use Rattle.search.specs.Replies.{Reply, refused, answered}
+use Rattle.basics.specs.Search.{Each}
+use Rattle.basics.specs.Replies.{Reply, refused, answered}
 use Rattle.logic_programs.specs.Literals.{OneValue}
 use Rattle.answer_sets.specs.Verdicts.{Verdict, clash, passes}
 use Rattle.answer_sets.specs.Answers as engine
-use Rattle.literal_completion.specs.Findings as formulas
-use Rattle.literal_completion.specs.Answers as completion
-use Rattle.history.specs.Checks as history
+use Rattle.completion_theory.specs.Findings as formulas
+use Rattle.completion_theory.specs.Answers as completion
+use Rattle.history_check.specs.Checks as history
 use Rattle.description_reader.specs.LineSteps.{Draft}
 use Rattle.description_reader.specs.Descriptions.{read, described, descriptionOf}
 use Rattle.history_reader.specs.Histories.{atoms}
 use Rattle.correctness.specs.Demand3.{Complete}
 use Rattle.correctness.specs.Promises.{TranslatesExactly}
 use Rattle.correctness.proofs.Demand3.{demand-3, by-completion, translates-exactly}
-use Rattle.refusals.specs.Refusals.{among, RefusedBy}
-use Rattle.refusals.proofs.Checks.{which-refusals, fits, in-time}
+use Rattle.possible_refusals.specs.Refusals.{among, RefusedBy}
+use Rattle.possible_refusals.proofs.Checks.{which-refusals, fits, in-time}
 use Rattle.answer_codes.specs.Codes.{coded, replyCode, verdictCode, findingCode}
 use Rattle.answer_codes.specs.FormulaCodes.{formulaCode}
 use Rattle.huntyghai.specs.Texts.{tableOfText, checkedText}

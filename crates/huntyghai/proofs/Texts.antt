@@ -4,12 +4,12 @@ use mathlib.Core.Path.{_≡_, refl, sym, ap, _∙_}
 use mathlib.Core.List.{List, _++_}
 use Prim.Native.Nat.{ℕ}
 use lib.ListN.{length, drop}
-use Rattle.search.specs.Replies.{refused, answered}
-use Rattle.description.specs.declared.Law.{Law}
-use Rattle.description.specs.declared.Description.{Description}
+use Rattle.basics.specs.Replies.{refused, answered}
+use Rattle.action_language.specs.declared.Law.{Law}
+use Rattle.action_language.specs.declared.Description.{Description}
 use Rattle.translation.specs.Translated as translated
-use Rattle.history.specs.Checks as history
-use Rattle.causal.specs.Readings as causal
+use Rattle.history_check.specs.Checks as history
+use Rattle.causal_reading.specs.Readings as causal
 use Rattle.description_reader.specs.LineSteps.{Draft}
 use Rattle.description_reader.specs.Descriptions.{read, described, descriptionOf}
 use Rattle.description_reader.specs.Answers.{behind, replied, recordOf, lawsLeft}

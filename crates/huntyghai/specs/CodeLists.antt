@@ -4,7 +4,7 @@ use mathlib.Core.Path.{_≡_}
 use mathlib.Core.Bool.{true}
 use mathlib.Core.List.{List}
 use Prim.Native.Nat.{ℕ, _%_}
-use Rattle.refusals.specs.Refusals.{among}
+use Rattle.possible_refusals.specs.Refusals.{among}
 
 unfoldable pub CodeAmong : List ℕ → ℕ → Type 0
 CodeAmong codes number = among (number % 256) codes ≡ true

@@ -6,7 +6,7 @@ use mathlib.Core.Logic.{_↔_}
 use mathlib.Core.List.{List}
 use Prim.Native.Nat.{ℕ, _*_, _<_}
 use lib.ListN.{length}
-use Rattle.search.specs.Search.{Each, Lowest}
+use Rattle.basics.specs.Search.{Each, Lowest}
 use Rattle.logic_programs.specs.Literals.{setOf, OneValue}
 use Rattle.logic_programs.specs.Rules.{lit, falsum, Rule}
 use Rattle.logic_programs.specs.Words.{rulesOf}
@@ -14,8 +14,8 @@ use Rattle.answer_sets.specs.Answers as engine
 use Rattle.answer_sets.specs.Demand2.{Accepted}
 use Rattle.tight_programs.specs.TightPrograms.{Tight}
 use Rattle.tight_programs.specs.LiteralCompletion.{Formula, Completion}
-use Rattle.literal_completion.specs.LevelLists.{levelOf}
-use Rattle.literal_completion.specs.Meaning.{NoValue, BothValues, NoneOrBoth, NotAbove}
+use Rattle.completion_theory.specs.LevelLists.{levelOf}
+use Rattle.completion_theory.specs.Meaning.{NoValue, BothValues, NoneOrBoth, NotAbove}
 use Rattle.answer_codes.specs.Codes.{coded, replyCode, verdictCode}
 
 -- the number for values and a program

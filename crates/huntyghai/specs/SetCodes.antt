@@ -5,7 +5,7 @@ use mathlib.Core.Logic.{_↔_}
 use mathlib.Core.List.{List}
 use Prim.Native.Nat.{ℕ, _*_, _<_}
 use lib.ListN.{length}
-use Rattle.search.specs.Search.{Lowest, Nowhere}
+use Rattle.basics.specs.Search.{Lowest, Nowhere}
 use Rattle.logic_programs.specs.Literals.{Lits, setOf}
 use Rattle.logic_programs.specs.Rules.{Rule}
 use Rattle.logic_programs.specs.AnswerSets.{AnswerSet}

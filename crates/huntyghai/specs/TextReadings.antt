@@ -6,11 +6,11 @@ use mathlib.Core.Logic.{_↔_}
 use mathlib.Core.List.{List}
 use Prim.Native.Nat.{ℕ, _≤_}
 use lib.ListN.{length, take}
-use Rattle.search.specs.Search.{Each}
-use Rattle.search.specs.Replies.{answered}
+use Rattle.basics.specs.Search.{Each}
+use Rattle.basics.specs.Replies.{answered}
 use Rattle.logic_programs.specs.Literals.{OneValue}
 use Rattle.answer_sets.specs.Answers as engine
-use Rattle.literal_completion.specs.Answers as completion
+use Rattle.completion_theory.specs.Answers as completion
 use Rattle.translation.specs.Translated.{tableFor}
 use Rattle.description_reader.specs.LineSteps.{Draft}
 use Rattle.description_reader.specs.Descriptions.{read, described, descriptionOf}

@@ -2,10 +2,10 @@
 -- Assumes nothing.
 use mathlib.Core.List.{List}
 use Prim.Native.Nat.{ℕ}
-use Rattle.search.specs.Replies.{Reply, refused, answered, leftAfter}
+use Rattle.basics.specs.Replies.{Reply, refused, answered, leftAfter}
 use Rattle.translation.specs.Translated as translated
-use Rattle.history.specs.Checks as history
-use Rattle.causal.specs.Readings as causal
+use Rattle.history_check.specs.Checks as history
+use Rattle.causal_reading.specs.Readings as causal
 use Rattle.description_reader.specs.Descriptions.{Taken, read, described, descriptionOf}
 use Rattle.description_reader.specs.Answers.{recordOf}
 use Rattle.inputs.specs.Inputs.{recordedIn}

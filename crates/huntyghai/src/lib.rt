@@ -8,7 +8,7 @@ ghost use Prim.Native.Nat.{_≤_};
 ghost use lib.ListN.{length};
 ghost use lib.Seq.{sets};
 ghost use Rattle.answer_sets.specs.Answers.{answer};
-ghost use Rattle.literal_completion.specs.Answers as completed;
+ghost use Rattle.completion_theory.specs.Answers as completed;
 ghost use Rattle.history_reader.specs.Histories.{readHistory, historyReplied, valuesLeft};
 ghost use Rattle.report.specs.Output.{output};
 ghost use Rattle.report.specs.Program.{Program};
@@ -107,7 +107,7 @@ pub extern "C" fn huntyghai_check_history(text: &[u8], values: &[u8], table: &mu
         Answer::Read(_bytes, _lines) => {
             let d = read.description;
             let laws = run.laws;
-            answer_codes::of_checked(history::check_history(d, laws, 64, values, table))
+            answer_codes::of_checked(history_check::check_history(d, laws, 64, values, table))
         }
     }
 }
@@ -127,7 +127,7 @@ pub extern "C" fn huntyghai_causal_reading(input: &[u8]) -> u64
             let laws = whole.laws;
             let values = whole.values;
             let atoms = whole.atoms;
-            answer_codes::of_reading(causal::causal_reading(d, laws, 64, &values[..atoms]))
+            answer_codes::of_reading(causal_reading::causal_reading(d, laws, 64, &values[..atoms]))
         }
     }
 }

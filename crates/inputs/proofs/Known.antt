@@ -9,7 +9,7 @@ use borrow.Author.Tests.{eq-eqb}
 use lib.Dec.{ltb}
 use lib.ListN.{length, take, drop, replicate, length-append, length-replicate, replicate-append-replicate}
 use lib.Seq.{drop-at, take-at, take-all}
-use Rattle.search.specs.Replies.{Reply, refused, answered}
+use Rattle.basics.specs.Replies.{Reply, refused, answered}
 use Rattle.description_reader.specs.LineSteps.{lawDue, Draft}
 use Rattle.description_reader.specs.Descriptions.{Taken, read, described}
 use Rattle.description_reader.specs.Answers.{behind, replied}

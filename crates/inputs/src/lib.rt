@@ -1,12 +1,12 @@
 // The reader of a whole input: a description, and behind its end line the history of it. Lines count over the whole input.
-use description::Description;
-use description::Law;
+use action_language::Description;
+use action_language::Law;
 use description_reader::Answer;
 use history_reader::HistoryAnswer;
 ghost use mathlib.Core.Path.{_≡_};
 ghost use Prim.Native.Nat.{_-_, _≤_};
 ghost use lib.ListN.{length, take, drop, replicate};
-ghost use Rattle.description.specs.Atoms.{atomCount};
+ghost use Rattle.action_language.specs.Atoms.{atomCount};
 ghost use Rattle.description_reader.specs.Descriptions.{described};
 ghost use Rattle.description_reader.specs.Answers.{recordOf, lawsLeft};
 ghost use Rattle.history_reader.specs.Histories.{historyReplyOf, historyReplied, valuesLeft};

@@ -20,9 +20,9 @@ use denote.Array.{Array, each, arrayVal, array-tells, array-lawful, array-makes}
 use denote.Slice.{sliceTy}
 use denote.Struct.Field.{array-field}
 use denote.Struct.Laws as LL
-use Rattle.description.specs.declared.Law.{Law}
-use Rattle.description.proofs.Law as T
-use Rattle.description.proofs.Law.Laws as T′
+use Rattle.action_language.specs.declared.Law.{Law}
+use Rattle.action_language.proofs.Law as T
+use Rattle.action_language.proofs.Law.Laws as T′
 
 abbrev pub size : ℕ
 size = mem T.the-row .size

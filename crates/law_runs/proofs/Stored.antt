@@ -9,8 +9,8 @@ use native.Mathlib.Numerals.{add-one}
 use native.Mathlib.Omega.{arith}
 use lib.ListN.{length, getD, set, take, drop, take-append-drop, length-set, length-replicate}
 use lib.Seq.{take-suc, take-suc-set, take-set-le, drop-set-lt}
-use Rattle.description.specs.declared.Law.{Law}
-use Rattle.description.specs.Laws.{noLaw}
+use Rattle.action_language.specs.declared.Law.{Law}
+use Rattle.action_language.specs.Laws.{noLaw}
 use Rattle.law_runs.specs.Runs.{noLaws}
 use Rattle.law_runs.specs.Internal.{stored, gathered, fitting, scattered}
 

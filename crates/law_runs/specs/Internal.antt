@@ -5,8 +5,8 @@
 use mathlib.Core.List.{List}
 use Prim.Native.Nat.{ℕ, zero, suc, min}
 use lib.ListN.{length, getD, set}
-use Rattle.description.specs.declared.Law.{Law}
-use Rattle.description.specs.Laws.{noLaw}
+use Rattle.action_language.specs.declared.Law.{Law}
+use Rattle.action_language.specs.Laws.{noLaw}
 use Rattle.law_runs.specs.Runs.{noLaws}
 
 -- the first k records of a run, stored in the first k places of another; its other records stay

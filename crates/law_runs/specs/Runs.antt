@@ -2,8 +2,8 @@
 -- Assumes nothing.
 use mathlib.Core.List.{List}
 use lib.ListN.{replicate}
-use Rattle.description.specs.declared.Law.{Law}
-use Rattle.description.specs.Laws.{noLaw}
+use Rattle.action_language.specs.declared.Law.{Law}
+use Rattle.action_language.specs.Laws.{noLaw}
 
 unfoldable pub noLaws : List Law
 noLaws = replicate 64 noLaw

@@ -1,11 +1,11 @@
 // Runs of law records of any length, and 64 of them by value: one record copied out, a run gathered, and a run stored back. What
 // doesn't fit is left out and a place that isn't there reads as the empty record, so that no caller owes these functions anything.
-use description::Head;
-use description::Kind;
-use description::Law;
+use action_language::Head;
+use action_language::Kind;
+use action_language::Law;
 ghost use mathlib.Core.Path.{_≡_};
 ghost use lib.ListN.{getD, set};
-ghost use Rattle.description.specs.Laws.{noLaw};
+ghost use Rattle.action_language.specs.Laws.{noLaw};
 ghost use Rattle.law_runs.specs.Runs.{noLaws};
 ghost use Rattle.law_runs.specs.Internal.{gathered, fitting, scattered};
 

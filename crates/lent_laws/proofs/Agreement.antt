@@ -7,14 +7,14 @@ use mathlib.Core.Bool.{true, false}
 use mathlib.Core.List.{List}
 use Prim.Native.Nat.{ℕ}
 use lib.ListN.{length, take}
-use Rattle.search.proofs.Tests.{true-or-false}
-use Rattle.description.specs.declared.Law.{Law}
-use Rattle.description.specs.declared.Description.{Description}
-use Rattle.description.specs.Acceptance.{countsFit, badRecord}
-use Rattle.description.proofs.Laws.{counts-limits}
+use Rattle.basics.proofs.Tests.{true-or-false}
+use Rattle.action_language.specs.declared.Law.{Law}
+use Rattle.action_language.specs.declared.Description.{Description}
+use Rattle.action_language.specs.Acceptance.{countsFit, badRecord}
+use Rattle.action_language.proofs.Laws.{counts-limits}
 use Rattle.translation.specs.Translated as translated
-use Rattle.history.specs.Checks as history
-use Rattle.causal.specs.Readings as causal
+use Rattle.history_check.specs.Checks as history
+use Rattle.causal_reading.specs.Readings as causal
 use Rattle.law_runs.specs.Internal.{gathered}
 use Rattle.law_runs.proofs.Stored.{gathered-front}
 

@@ -32,11 +32,11 @@ use denote.Struct.Laws as LL
 use denote.Triple.Statement.{Contract, Triple}
 use denote.Triple.Call.{calls-at}
 use denote.Triple.Spec.{tripleOf}
-use Rattle.description.specs.declared.Law.{Law}
-use Rattle.description.specs.declared.Description.{Description}
-use Rattle.description.proofs.Law as T
-use Rattle.description.proofs.Description as D
-use Rattle.description.proofs.Description.Laws as D′
+use Rattle.action_language.specs.declared.Law.{Law}
+use Rattle.action_language.specs.declared.Description.{Description}
+use Rattle.action_language.proofs.Law as T
+use Rattle.action_language.proofs.Description as D
+use Rattle.action_language.proofs.Description.Laws as D′
 use Rattle.law_runs.specs.Internal.{gathered}
 use Rattle.law_runs.proofs.Answers.{answers}
 use Rattle.law_runs.proofs.Records.{Run, run-ty, ref, run-typed, run-makes}

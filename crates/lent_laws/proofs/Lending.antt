@@ -16,8 +16,8 @@ use denote.Ref.{RefT}
 use denote.Slice.{sliceVal, MutSlice, ShrSlice}
 use borrow.Table.Owned as table
 use borrow.Rule.Slice.Reshare.{keptS, sl-reshare, sl-reshare-back}
-use Rattle.description.specs.declared.Law.{Law}
-use Rattle.description.proofs.Law as T
+use Rattle.action_language.specs.declared.Law.{Law}
+use Rattle.action_language.proofs.Law as T
 
 module _ {M : Type 1} (𝓤 : URA M) (H : Heap 𝓤) (A : Atoms 𝓤) (W : Given 𝓤 H A) (ℓ ℓ′ : Lifetime) (κ κ′ : Lft) (q : Share) (b o : ℕ) (γ : GName) (ls : List Law) where
   abbrev at : GName → RefT (List Law)

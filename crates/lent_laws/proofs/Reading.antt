@@ -7,10 +7,10 @@ use Prim.Native.Nat.{ℕ, min}
 use native.Mathlib.Omega.{arith}
 use lib.ListN.{length, drop, length-append, length-drop, length-replicate}
 use lib.Seq.{take-append-seam}
-use Rattle.search.specs.Replies.{Reply, refused, answered}
-use Rattle.description.specs.declared.Law.{Law}
-use Rattle.description.specs.declared.Description.{Description}
-use Rattle.description.specs.Laws.{noLaw}
+use Rattle.basics.specs.Replies.{Reply, refused, answered}
+use Rattle.action_language.specs.declared.Law.{Law}
+use Rattle.action_language.specs.declared.Description.{Description}
+use Rattle.action_language.specs.Laws.{noLaw}
 use Rattle.description_reader.specs.Descriptions.{Taken, read, described}
 use Rattle.description_reader.specs.Answers.{Behind, replied, recordOf, lawsLeft}
 use Rattle.reader_bounds.proofs.Drafts.{BoundedReply, bounded}

@@ -5,10 +5,10 @@ use mathlib.Core.List.{List}
 use mathlib.Core.Option.{none}
 use Prim.Native.Nat.{ℕ}
 use lib.ListN.{length}
-use Rattle.search.specs.Replies.{Reply, refused, answered}
-use Rattle.description.specs.declared.Law.{Law}
-use Rattle.description.specs.declared.Description.{Description}
-use Rattle.description.specs.Acceptance.{badRecord, badHorizon}
+use Rattle.basics.specs.Replies.{Reply, refused, answered}
+use Rattle.action_language.specs.declared.Law.{Law}
+use Rattle.action_language.specs.declared.Description.{Description}
+use Rattle.action_language.specs.Acceptance.{badRecord, badHorizon}
 use Rattle.description_reader.specs.Answers.{Behind}
 
 -- of a reader's reply, the record that it gives and the run that it leaves, all of which is lent on

@@ -1,16 +1,16 @@
 // The library's face over a lent run of law records: each function gathers the run and leaves the rest to code by value.
-use causal::Reading;
-use description::Description;
-use description::Law;
+use causal_reading::Reading;
+use action_language::Description;
+use action_language::Law;
 use description_reader::Answer;
 use description_reader::Described;
-use history::Checked;
+use history_check::Checked;
 use translation::Translated;
 ghost use mathlib.Core.Path.{_≡_};
 ghost use lib.ListN.{length};
 ghost use Rattle.translation.specs.Translated.{outcomeOf, outcome, tableAfter};
-ghost use Rattle.history.specs.Checks;
-ghost use Rattle.causal.specs.Readings;
+ghost use Rattle.history_check.specs.Checks;
+ghost use Rattle.causal_reading.specs.Readings;
 ghost use Rattle.description_reader.specs.Descriptions.{described};
 ghost use Rattle.description_reader.specs.Answers.{replyOf, replied, recordOf, lawsLeft};
 ghost use Rattle.correctness.specs.Promises.{TranslatesExactly, PassesExactly, PathExactly};
@@ -78,7 +78,7 @@ pub fn check_history(d: Description, laws: &[Law], values: &[u8], table: &mut [u
     ensures { λ _. ⌜ now (table .exit) ≡ Checks.tableAfter d (now (laws .entry)) (length (now (laws .entry))) (now (values .entry)) (now (table .entry)) ⌝ }
     ensures { λ r. ⌜ PassesExactly d (now (laws .entry)) (length (now (laws .entry))) (now (values .entry)) (length (now (table .entry))) r ⌝ }
 {
-    history::check_history(d, law_runs::gather(laws), laws.len(), values, table)
+    history_check::check_history(d, law_runs::gather(laws), laws.len(), values, table)
 }
 
 // Reads values as a history, state by state.
@@ -87,5 +87,5 @@ pub fn causal_reading(d: Description, laws: &[Law], values: &[u8]) -> Reading
     ensures { λ r. ⌜ PathExactly d (now (laws .entry)) (length (now (laws .entry))) (now (values .entry)) r ⌝ }
     ensures { λ r. ⌜ NamesFault d (now (laws .entry)) (length (now (laws .entry))) (now (values .entry)) r ⌝ }
 {
-    causal::causal_reading(d, law_runs::gather(laws), laws.len(), values)
+    causal_reading::causal_reading(d, law_runs::gather(laws), laws.len(), values)
 }

@@ -8,8 +8,8 @@ use native.Mathlib.Omega.{arith}
 use borrow.Author.Tests.{le-leb, lt-leb, leb-true, ne-eqb}
 use lib.Dec.{eqb, leb}
 use lib.ListN.{length}
-use Rattle.search.specs.Search.{Each}
-use Rattle.search.proofs.Tests.{and-iff}
+use Rattle.basics.specs.Search.{Each}
+use Rattle.basics.proofs.Tests.{and-iff}
 use Rattle.spelling.specs.Letters.{isCapital, isLetter, lowered}
 use Rattle.spelling.proofs.Lowering.{lowered-outside, no-letter}
 use Rattle.letter_case.specs.Alike.{CapitalOf, AlikeByte, equal, capital, small, Alike, AlikeNames}

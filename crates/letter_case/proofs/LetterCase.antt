@@ -7,7 +7,7 @@ use Prim.Native.Nat.{ℕ, _-_}
 use borrow.Author.Tests.{ne-eqb}
 use lib.Dec.{eqb}
 use lib.ListN.{length}
-use Rattle.search.proofs.Tests.{not-both}
+use Rattle.basics.proofs.Tests.{not-both}
 use Rattle.spelling.specs.Letters.{lowered}
 use Rattle.spelling.proofs.Comparing.{same-refl, same-equal}
 use Rattle.text.specs.Lines.{horizonKey, fluentKey, actionKey}

@@ -8,7 +8,7 @@ use Prim.Native.Nat.{ℕ, zero, suc, _+_}
 use borrow.Author.Tests.{ne-eqb}
 use lib.Dec.{eqb, ltb}
 use lib.ListN.{length, take, drop, length-map}
-use Rattle.search.specs.Search.{first}
+use Rattle.basics.specs.Search.{first}
 use Rattle.spelling.specs.Letters.{lowered, same}
 use Rattle.spelling.proofs.Lowering.{lowered-outside, no-letter, all-lowered-again, name-lowered}
 use Rattle.text.specs.Bytes.{comma, hyphen, cut}

@@ -7,7 +7,7 @@ use mathlib.Core.Option.{none, some}
 use Prim.Native.Nat.{ℕ, _+_, _-_, _*_, _≤_}
 use native.Mathlib.Omega.{arith}
 use borrow.Author.Tests.{leb-true}
-use Rattle.search.proofs.Tests.{and-iff}
+use Rattle.basics.proofs.Tests.{and-iff}
 use lib.Dec.{eqb, leb}
 use lib.ListN.{length, getD}
 use Rattle.spelling.specs.Letters.{isDigit}

@@ -3,10 +3,10 @@
 use mathlib.Core.List.{List, [], _∷_}
 use Prim.Native.Nat.{ℕ}
 use lib.ListN.{length}
-use Rattle.description.specs.declared.Head.{Head}
-use Rattle.description.specs.declared.Kind.{Kind}
-use Rattle.description.specs.declared.Law.{Law}
-use Rattle.description.specs.Laws.{padded}
+use Rattle.action_language.specs.declared.Head.{Head}
+use Rattle.action_language.specs.declared.Kind.{Kind}
+use Rattle.action_language.specs.declared.Law.{Law}
+use Rattle.action_language.specs.Laws.{padded}
 use Rattle.line_values.specs.declared.law_forms.Places.{Places}
 
 -- the places of a list, of none and of one code

@@ -1,9 +1,9 @@
 // The horizon's spelling: 1 to 30 without a leading zero.
-use search::Found;
+use basics::Found;
 use spelling;
 ghost use mathlib.Core.Path.{_≡_};
 ghost use Prim.Native.Nat.{_-_, _<_};
-ghost use Rattle.search.specs.Search.{placeOf};
+ghost use Rattle.basics.specs.Search.{placeOf};
 ghost use Rattle.line_values.specs.HorizonText.{inHorizon, horizonOf, twoDigits};
 
 // 1 to 30.

@@ -1,13 +1,13 @@
 // Law records by their form. Places past a list's count, and all of a static law's after-list, are 0.
-use description::Head;
-use description::Kind;
-use description::Law;
+use action_language::Head;
+use action_language::Kind;
+use action_language::Law;
 ghost use mathlib.Core.Path.{_≡_};
 ghost use mathlib.Core.Bool.{cond};
 ghost use mathlib.Core.List.{[]};
-ghost use Rattle.description.specs.Laws.{lawOf};
-ghost use Rattle.description.specs.declared.Kind.the-variants.{Dynamic};
-ghost use Rattle.description.specs.declared.Head.the-variants.{False};
+ghost use Rattle.action_language.specs.Laws.{lawOf};
+ghost use Rattle.action_language.specs.declared.Kind.the-variants.{Dynamic};
+ghost use Rattle.action_language.specs.declared.Head.the-variants.{False};
 ghost use Rattle.line_values.specs.ShortLaws.{defaultLaw, inertialLaw};
 ghost use Rattle.line_values.specs.Internal.{noPlaces, onePlace, lawWith};
 

@@ -8,8 +8,8 @@ use Prim.Native.Nat.{ℕ, _+_, _*_, _%_}
 use native.Mathlib.Omega.{arith}
 use lib.Dec.{eqb}
 use borrow.Author.Tests.{eqb-true}
-use Rattle.search.specs.Search.{Each, chosen, range}
-use Rattle.search.proofs.Tests.{not-both, or-iff}
+use Rattle.basics.specs.Search.{Each, chosen, range}
+use Rattle.basics.proofs.Tests.{not-both, or-iff}
 use Rattle.logic_programs.specs.Literals.{Lits, complement, setOf, holdsTrue, holdsFalse, OneValue}
 use Rattle.logic_programs.specs.Rules.{Rule}
 use Rattle.logic_programs.specs.AnswerSets.{reduct, Closed, Subset, ProperSubset, Consistent, AnswerSet, literalHeaded, IsLeastClosed}

@@ -3,7 +3,7 @@
 use mathlib.Core.Path.{_≡_}
 use Prim.Native.Nat.{ℕ, _+_, _*_, _-_, _%_, _<_}
 use native.Mathlib.Omega.{arith}
-use Rattle.search.proofs.Parity.{by-parity}
+use Rattle.basics.proofs.Parity.{by-parity}
 use Rattle.logic_programs.specs.Literals.{complement}
 
 pub complement-even : (a : ℕ) → complement (2 * a) ≡ 2 * a + 1

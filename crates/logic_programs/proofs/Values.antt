@@ -10,9 +10,9 @@ use native.Mathlib.Omega.{arith}
 use borrow.Author.Tests.{eqb-true, eqb-false, eq-eqb, ltb-false}
 use lib.Dec.{eqb, ltb}
 use lib.ListN.{length, getD}
-use Rattle.search.specs.Search.{Each, first, Lowest, Nowhere}
-use Rattle.search.proofs.Tests.{true-or-false, not-both, or-iff, each-map, each-map₂, first-lowest, first-nowhere}
-use Rattle.search.proofs.Lists.{none-iff}
+use Rattle.basics.specs.Search.{Each, first, Lowest, Nowhere}
+use Rattle.basics.proofs.Tests.{true-or-false, not-both, or-iff, each-map, each-map₂, first-lowest, first-nowhere}
+use Rattle.basics.proofs.Lists.{none-iff}
 use Rattle.logic_programs.specs.Literals.{OneValue, noneOrBoth, badValue}
 
 pub none-or-both-iff : (v : ℕ) → noneOrBoth v ≡ true ↔ ((v ≡ 0) ⊎ (v ≡ 3))

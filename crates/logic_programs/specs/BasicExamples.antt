@@ -6,7 +6,7 @@ use mathlib.Core.Bool.{true, false, _||_}
 use mathlib.Core.List.{List, [], _∷_, map}
 use Prim.Native.Nat.{ℕ}
 use lib.Dec.{eqb}
-use Rattle.search.specs.Search.{Each, chosen, range}
+use Rattle.basics.specs.Search.{Each, chosen, range}
 use Rattle.logic_programs.specs.Literals.{Lits, complement, setOf, OneValue, noneOrBoth}
 use Rattle.logic_programs.specs.Rules.{Head, lit, falsum, Rule}
 use Rattle.logic_programs.specs.AnswerSets.{PositiveRule, reduct, Closed, ProperSubset, Consistent, AnswerSet, literalHeaded, IsLeastClosed}

@@ -8,7 +8,7 @@ use mathlib.Core.Option.{Option}
 use Prim.Native.Nat.{ℕ, _+_, _-_, _/_, _%_}
 use lib.Dec.{eqb, ltb}
 use lib.ListN.{getD}
-use Rattle.search.specs.Search.{first}
+use Rattle.basics.specs.Search.{first}
 
 -- any set of literals, as a test on codes: c is in Y where Y c is true
 abbrev pub Lits : Type 0

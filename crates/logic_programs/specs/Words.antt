@@ -7,7 +7,7 @@ use mathlib.Core.Option.{Option, none, some}
 use Prim.Native.Nat.{ℕ, zero, suc, _+_, _*_}
 use lib.Dec.{eqb, ltb, leb}
 use lib.ListN.{length, getD, take, drop}
-use Rattle.search.specs.Search.{all}
+use Rattle.basics.specs.Search.{all}
 use Rattle.logic_programs.specs.Rules.{Head, lit, falsum, Rule}
 
 abbrev pub headWord : Head → ℕ

@@ -1,7 +1,7 @@
 -- The worked examples hold of the definitions.
 -- Assumes nothing.
 use mathlib.Core.Path.{refl}
-use Rattle.search.specs.Search.{Each}
+use Rattle.basics.specs.Search.{Each}
 use Rattle.number_lines.specs.Runs.{runEnd, valuesOf}
 use Rattle.number_lines.specs.Examples.{Reads, lines, Ends, runs, ValuesTaken}
 

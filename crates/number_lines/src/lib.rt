@@ -1,11 +1,11 @@
 // Numbers in decimal, a line of them at a time: a line is read out of a text, runs are found among its numbers, and numbers are
 // taken as value bytes. Texts of any bytes are read; what has no room is dropped.
-use search::Found;
+use basics::Found;
 ghost use mathlib.Core.Path.{_≡_};
 ghost use Prim.Native.Nat.{_+_};
 ghost use lib.ListN.{length, drop, set, replicate};
 ghost use lib.Seq.{sets};
-ghost use Rattle.search.specs.Search.{placeOf};
+ghost use Rattle.basics.specs.Search.{placeOf};
 ghost use Rattle.number_lines.specs.Lines.{withDigit, numbersOf, lineSize};
 ghost use Rattle.number_lines.specs.Runs.{runEnd, valuesOf};
 

@@ -6,8 +6,8 @@ use native.Mathlib.Omega.{arith}
 use borrow.Author.Tests.{ltb-true}
 use lib.Dec.{ltb}
 use lib.ListN.{length}
-use Rattle.search.specs.Replies.{Reply, refused, answered}
-use Rattle.search.proofs.Tests.{each-at}
+use Rattle.basics.specs.Replies.{Reply, refused, answered}
+use Rattle.basics.proofs.Tests.{each-at}
 use Rattle.description_reader.specs.Descriptions.{Taken, read, described}
 use Rattle.shown_names.specs.Shown.{fluentName, shownBy, shownFluent}
 use Rattle.reader_bounds.proofs.Drafts.{Short, chosen, BoundedReply, bounded}

@@ -7,12 +7,12 @@ use Prim.Native.Nat.{ℕ}
 use native.Mathlib.Omega.{arith}
 use types.Run.{OneOf}
 use denote.Enum.Declared.{tagOf}
-use Rattle.search.specs.Replies.{Reply, refused, answered}
-use Rattle.history.specs.declared.Checked.{Checked}
-use Rattle.history.specs.declared.Checked.the-variants.{Refused, Missing, Clash, Broken, Unfounded, Passes}
-use Rattle.history.specs.Checks.{replyOf}
-use Rattle.history.proofs.Checked.{the-type}
-use Rattle.causal.specs.Verdicts.{Causal, contradicted, uncaused, path}
+use Rattle.basics.specs.Replies.{Reply, refused, answered}
+use Rattle.history_check.specs.declared.Checked.{Checked}
+use Rattle.history_check.specs.declared.Checked.the-variants.{Refused, Missing, Clash, Broken, Unfounded, Passes}
+use Rattle.history_check.specs.Checks.{replyOf}
+use Rattle.history_check.proofs.Checked.{the-type}
+use Rattle.causal_reading.specs.Verdicts.{Causal, contradicted, uncaused, path}
 use Rattle.output_lines.specs.Printed.{readingLines, checkedLines}
 use Rattle.output_lines.specs.Internal.{wordAt, verdictBytes, causalBytes, verdictShown, causalShown, causalShownAfter}
 

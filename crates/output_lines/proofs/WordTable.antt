@@ -9,8 +9,8 @@ use native.Mathlib.Omega.{arith}
 use borrow.Author.Tests.{ltb-true, ltb-false}
 use lib.Dec.{ltb}
 use lib.ListN.{length, getD, take, drop, length-take, List·getD-eq-default}
-use Rattle.search.proofs.Tests.{true-or-false}
-use Rattle.search.proofs.Tables.{rows}
+use Rattle.basics.proofs.Tests.{true-or-false}
+use Rattle.basics.proofs.Tables.{rows}
 use Rattle.output_lines.specs.Internal.{words, wordAt}
 
 abbrev pub table : List ℕ

@@ -3,10 +3,10 @@
 use mathlib.Core.List.{List, [], _∷_, _++_}
 use Prim.Native.Nat.{ℕ}
 use lib.ListN.{getD}
-use Rattle.search.specs.Replies.{Reply, refused, answered}
+use Rattle.basics.specs.Replies.{Reply, refused, answered}
 use Rattle.answer_sets.specs.Verdicts.{clash, broken, unfounded, passes}
-use Rattle.history.specs.Checks.{Finding, missing, judged}
-use Rattle.causal.specs.Verdicts as verdicts
+use Rattle.history_check.specs.Checks.{Finding, missing, judged}
+use Rattle.causal_reading.specs.Verdicts as verdicts
 use Rattle.shown_names.specs.Shown.{shownFluent}
 use Rattle.output_lines.specs.declared.shown.Value.{Value}
 use Rattle.output_lines.specs.declared.shown.Value.the-variants.{Word, Number, Fluent}

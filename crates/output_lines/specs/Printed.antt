@@ -2,10 +2,10 @@
 -- Assumes nothing.
 use mathlib.Core.List.{List, [], _++_}
 use Prim.Native.Nat.{ℕ}
-use Rattle.search.specs.Replies.{Reply, refused, answered}
+use Rattle.basics.specs.Replies.{Reply, refused, answered}
 use Rattle.answer_sets.specs.Verdicts.{Verdict, clash, broken, unfounded, passes}
-use Rattle.history.specs.Checks.{Finding, missing, judged}
-use Rattle.causal.specs.Verdicts.{Causal, contradicted, uncaused, path}
+use Rattle.history_check.specs.Checks.{Finding, missing, judged}
+use Rattle.causal_reading.specs.Verdicts.{Causal, contradicted, uncaused, path}
 use Rattle.shown_names.specs.Shown.{shownFluent}
 use Rattle.output_lines.specs.Writing.{outputLine, decimal, horizonWord, atomsWord, rulesWord, wordsWord, answerWord, atWord, causalWord, timeWord, itemWord, refusedWord, placeWord}
 use Rattle.output_lines.specs.Writing.{passesWord, missingWord, clashWord, brokenWord, unfoundedWord, noneWord, pathWord, contradictedWord, uncausedWord}

@@ -9,11 +9,11 @@ use crate::bytes::PASSES;
 use crate::bytes::PATH;
 use crate::bytes::UNCAUSED;
 use crate::bytes::UNFOUNDED;
-use causal::Reading;
-use history::Checked;
+use causal_reading::Reading;
+use history_check::Checked;
 ghost use mathlib.Core.Path.{_≡_};
-ghost use Rattle.history.specs.Checks;
-ghost use Rattle.causal.specs.Readings;
+ghost use Rattle.history_check.specs.Checks;
+ghost use Rattle.causal_reading.specs.Readings;
 ghost use Rattle.output_lines.specs.Internal.{verdictShown, bareShown, causalShown, causalShownAfter};
 
 // What stands behind an equals sign: a word of the table, a number, or the name of a fluent.

@@ -11,10 +11,10 @@ use borrow.Author.Tests.{eqb-true, eqb-false, eq-eqb, ne-eqb, ltb-true, leb-true
 use lib.Dec.{eqb, ltb, leb}
 use lib.ListN.{length, getD, set, replicate, length-append, replicate-append-replicate}
 use lib.Seq.{append-snoc, set-at, getD-at}
-use Rattle.search.specs.Search.{Each}
-use Rattle.search.specs.Replies.{Reply, refused, answered}
-use Rattle.search.proofs.Tests.{and-iff, each-append}
-use Rattle.description.specs.Atoms.{atomCount}
+use Rattle.basics.specs.Search.{Each}
+use Rattle.basics.specs.Replies.{Reply, refused, answered}
+use Rattle.basics.proofs.Tests.{and-iff, each-append}
+use Rattle.action_language.specs.Atoms.{atomCount}
 use Rattle.text.specs.Bytes.{hyphen}
 use Rattle.text.specs.Lines.{firstLine}
 use Rattle.text.specs.Lists as lists-of

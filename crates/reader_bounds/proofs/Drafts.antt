@@ -10,12 +10,12 @@ use native.Mathlib.Omega.{arith}
 use borrow.Author.Tests.{ltb-false}
 use lib.Dec.{eqb, ltb}
 use lib.ListN.{length, take, length-append, take-append-drop}
-use Rattle.search.specs.Search.{Each, first}
-use Rattle.search.specs.Replies.{Reply, refused, answered}
-use Rattle.search.proofs.Tests.{and-iff, each-append}
-use Rattle.description.specs.declared.Kind.{Kind}
-use Rattle.description.specs.declared.Kind.the-variants.{Static, Dynamic}
-use Rattle.description.specs.declared.Law.{Law}
+use Rattle.basics.specs.Search.{Each, first}
+use Rattle.basics.specs.Replies.{Reply, refused, answered}
+use Rattle.basics.proofs.Tests.{and-iff, each-append}
+use Rattle.action_language.specs.declared.Kind.{Kind}
+use Rattle.action_language.specs.declared.Kind.the-variants.{Static, Dynamic}
+use Rattle.action_language.specs.declared.Law.{Law}
 use Rattle.text.specs.Bytes.{newline, equalsSign, Cut, cutAt, cut}
 use Rattle.text.specs.Lines.{Line, keyed, valued, ended, keyNumber, firstLine}
 use Rattle.spelling.specs.Spelling.{isName}

@@ -11,15 +11,15 @@ use native.Mathlib.Omega.{arith}
 use borrow.Author.Tests.{ltb-true, lt-ltb, leb-true, eqb-true}
 use lib.Dec.{eqb, ltb, leb}
 use lib.ListN.{length, length-append}
-use Rattle.search.specs.Search.{Each}
-use Rattle.search.proofs.Tests.{and-iff, or-iff, each-append}
-use Rattle.description.specs.declared.Head.{Head}
-use Rattle.description.specs.declared.Head.the-variants.{Lit, False}
-use Rattle.description.specs.declared.Kind.{Kind}
-use Rattle.description.specs.declared.Kind.the-variants.{Static, Dynamic}
-use Rattle.description.specs.declared.Law.{Law}
-use Rattle.description.specs.Laws.{lawOf}
-use Rattle.description.specs.Acceptance.{headFits}
+use Rattle.basics.specs.Search.{Each}
+use Rattle.basics.proofs.Tests.{and-iff, or-iff, each-append}
+use Rattle.action_language.specs.declared.Head.{Head}
+use Rattle.action_language.specs.declared.Head.the-variants.{Lit, False}
+use Rattle.action_language.specs.declared.Kind.{Kind}
+use Rattle.action_language.specs.declared.Kind.the-variants.{Static, Dynamic}
+use Rattle.action_language.specs.declared.Law.{Law}
+use Rattle.action_language.specs.Laws.{lawOf}
+use Rattle.action_language.specs.Acceptance.{headFits}
 use Rattle.spelling.specs.Letters.{isDigit}
 use Rattle.text.specs.Bytes.{hyphen}
 use Rattle.text.specs.Lines.{horizonKey, fluentKey, actionKey, staticKey, dynamicKey, ifKey, afterKey, endKey}

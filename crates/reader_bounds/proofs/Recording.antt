@@ -8,8 +8,8 @@ use native.Mathlib.Omega.{arith}
 use borrow.Author.Tests.{eqb-true, ltb-true}
 use lib.Dec.{eqb, ltb}
 use lib.ListN.{length, getD, set, replicate, length-set, length-replicate}
-use Rattle.search.specs.Search.{Each}
-use Rattle.search.specs.Replies.{Reply, refused, answered}
+use Rattle.basics.specs.Search.{Each}
+use Rattle.basics.specs.Replies.{Reply, refused, answered}
 use Rattle.description_reader.specs.LineSteps.{Draft}
 use Rattle.description_reader.specs.Descriptions.{Taken, read, described}
 use Rattle.history_values.specs.Values.{withTrue, withFalse, marked, orFalse, filled, ActionsValued}

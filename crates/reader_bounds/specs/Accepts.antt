@@ -6,13 +6,13 @@ use mathlib.Core.List.{List, [], _++_}
 use mathlib.Core.Option.{none}
 use Prim.Native.Nat.{ℕ, min, _≤_}
 use lib.ListN.{length}
-use Rattle.search.specs.Search.{Each}
-use Rattle.search.specs.Replies.{Reply, answered}
-use Rattle.description.specs.declared.Kind.{Kind}
-use Rattle.description.specs.declared.Kind.the-variants.{Static, Dynamic}
-use Rattle.description.specs.declared.Law.{Law}
-use Rattle.description.specs.Laws.{ifList, afterList, lawOf}
-use Rattle.description.specs.Acceptance.{badRecord, badHorizon}
+use Rattle.basics.specs.Search.{Each}
+use Rattle.basics.specs.Replies.{Reply, answered}
+use Rattle.action_language.specs.declared.Kind.{Kind}
+use Rattle.action_language.specs.declared.Kind.the-variants.{Static, Dynamic}
+use Rattle.action_language.specs.declared.Law.{Law}
+use Rattle.action_language.specs.Laws.{ifList, afterList, lawOf}
+use Rattle.action_language.specs.Acceptance.{badRecord, badHorizon}
 use Rattle.description_reader.specs.LineSteps.{Draft}
 use Rattle.description_reader.specs.Descriptions.{Taken, read, described, descriptionOf}
 use Rattle.description_reader.specs.Answers.{recordOf, lawsLeft}

@@ -8,7 +8,7 @@ use mathlib.Core.Option.{some}
 use Prim.Native.Nat.{ℕ, zero, suc, _+_, _-_, _*_}
 use lib.Dec.{eqb}
 use lib.ListN.{length}
-use Rattle.search.specs.Replies.{answered}
+use Rattle.basics.specs.Replies.{answered}
 use Rattle.text.specs.Lines.{stateKey, actKey, Line, firstLine}
 use Rattle.text.specs.Lists.{codes, listOf}
 use Rattle.description_reader.specs.LineSteps.{Draft}

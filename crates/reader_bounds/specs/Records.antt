@@ -4,8 +4,8 @@ use mathlib.Core.Path.{_≡_}
 use mathlib.Core.List.{List}
 use Prim.Native.Nat.{ℕ, _-_, _≤_}
 use lib.ListN.{length}
-use Rattle.search.specs.Search.{Each}
-use Rattle.search.specs.Replies.{answered}
+use Rattle.basics.specs.Search.{Each}
+use Rattle.basics.specs.Replies.{answered}
 use Rattle.description_reader.specs.LineSteps.{Draft}
 use Rattle.description_reader.specs.Descriptions.{read, described}
 use Rattle.history_values.specs.Values.{ActionsValued}

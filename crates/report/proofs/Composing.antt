@@ -6,14 +6,14 @@ use Prim.Native.Nat.{ℕ}
 use native.Mathlib.Omega.{arith}
 use lib.ListN.{length, take}
 use lib.Seq.{take-at, take-all}
-use Rattle.search.specs.Replies.{Reply, refused, answered}
-use Rattle.description.specs.declared.Law.{Law}
-use Rattle.description.specs.declared.Description.{Description}
-use Rattle.description.specs.Acceptance.{badRecord}
+use Rattle.basics.specs.Replies.{Reply, refused, answered}
+use Rattle.action_language.specs.declared.Law.{Law}
+use Rattle.action_language.specs.declared.Description.{Description}
+use Rattle.action_language.specs.Acceptance.{badRecord}
 use Rattle.translation.specs.Translated as translated
 use Rattle.translation.specs.Translated.{Written, written}
-use Rattle.history.specs.Checks as history
-use Rattle.causal.specs.Readings as causal
+use Rattle.history_check.specs.Checks as history
+use Rattle.causal_reading.specs.Readings as causal
 use Rattle.report.specs.Output.{room, afterOutcome}
 
 module _ (d : Description) (ls more : List Law) (all : length ls ≡ d .laws) where

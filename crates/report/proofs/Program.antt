@@ -10,21 +10,21 @@ use native.Mathlib.Omega.{arith}
 use borrow.Author.Tests.{eq-eqb, eqb-true, le-ltb}
 use lib.Dec.{eqb, ltb}
 use lib.ListN.{length, getD}
-use Rattle.search.specs.Search.{Each, first, Lowest}
-use Rattle.search.specs.Replies.{Reply, refused, answered, orElse}
-use Rattle.search.proofs.Tests.{not-both, or-iff, each-map}
-use Rattle.search.proofs.Lists.{none-iff}
+use Rattle.basics.specs.Search.{Each, first, Lowest}
+use Rattle.basics.specs.Replies.{Reply, refused, answered, orElse}
+use Rattle.basics.proofs.Tests.{not-both, or-iff, each-map}
+use Rattle.basics.proofs.Lists.{none-iff}
 use Rattle.logic_programs.specs.Literals.{OneValue, setOf, noneOrBoth, badValue}
 use Rattle.logic_programs.proofs.Values.{lowest-none-or-both, nowhere-none-or-both}
 use Rattle.answer_sets.specs.Verdicts.{Verdict, clash, broken, unfounded, passes, verdict}
 use Rattle.logic_programs.specs.Words.{rulesOf}
-use Rattle.description.specs.declared.Law.{Law}
-use Rattle.description.specs.declared.Description.{Description}
+use Rattle.action_language.specs.declared.Law.{Law}
+use Rattle.action_language.specs.declared.Description.{Description}
 use Rattle.translation.specs.Translated.{written, rulesFor, tableFor, outcome}
-use Rattle.history.specs.Checks.{Finding, missing, judged, faultAt, checked}
-use Rattle.history.proofs.Judging.{finding-answered}
-use Rattle.causal.specs.Verdicts.{Causal, path}
-use Rattle.causal.specs.Readings.{reading}
+use Rattle.history_check.specs.Checks.{Finding, missing, judged, faultAt, checked}
+use Rattle.history_check.proofs.Judging.{finding-answered}
+use Rattle.causal_reading.specs.Verdicts.{Causal, path}
+use Rattle.causal_reading.specs.Readings.{reading}
 use Rattle.correctness.specs.Demand3.{Complete, PathOf}
 use Rattle.correctness.proofs.Demand3.{demand-3}
 use Rattle.description_reader.specs.LineSteps.{Draft}
@@ -32,9 +32,9 @@ use Rattle.description_reader.specs.Descriptions.{Taken, read, described, descr
 use Rattle.history_reader.specs.Histories.{atoms}
 use Rattle.inputs.specs.Inputs.{recordedIn}
 use Rattle.inputs.proofs.Known.{recorded-refused}
-use Rattle.refusals.specs.Refusals.{among}
-use Rattle.refusals.proofs.Readers.{input-by}
-use Rattle.refusals.proofs.Checks.{fits, in-time, small-table, is-written, values-count, values-small, values-acted}
+use Rattle.possible_refusals.specs.Refusals.{among}
+use Rattle.possible_refusals.proofs.Readers.{input-by}
+use Rattle.possible_refusals.proofs.Checks.{fits, in-time, small-table, is-written, values-count, values-small, values-acted}
 use Rattle.output_lines.specs.Printed.{causalAfter}
 use Rattle.report.specs.Output.{room, afterOutcome, output}
 use Rattle.report.specs.Program.{Refused, causalShown, missingOrClash, Judged, Program}

@@ -2,12 +2,12 @@
 -- Assumes nothing.
 use mathlib.Core.List.{List, []}
 use Prim.Native.Nat.{ℕ}
-use Rattle.search.specs.Replies.{Reply, refused, answered}
-use Rattle.description.specs.declared.Law.{Law}
-use Rattle.description.specs.declared.Description.{Description}
+use Rattle.basics.specs.Replies.{Reply, refused, answered}
+use Rattle.action_language.specs.declared.Law.{Law}
+use Rattle.action_language.specs.declared.Description.{Description}
 use Rattle.translation.specs.Translated.{Written, written, outcome}
-use Rattle.history.specs.Checks.{checked}
-use Rattle.causal.specs.Readings.{reading}
+use Rattle.history_check.specs.Checks.{checked}
+use Rattle.causal_reading.specs.Readings.{reading}
 use Rattle.description_reader.specs.Descriptions.{Taken, read, described}
 use Rattle.description_reader.specs.Answers.{recordOf}
 use Rattle.inputs.specs.Inputs.{recordedIn}

@@ -8,12 +8,12 @@ use mathlib.Core.Option.{Option, none, some}
 use Prim.Native.Nat.{ℕ, _-_, _≤_, _<_}
 use lib.ListN.{length, getD}
 use Rattle.logic_programs.specs.Literals.{OneValue}
-use Rattle.search.specs.Search.{Each, Lowest}
-use Rattle.search.specs.Replies.{answered}
+use Rattle.basics.specs.Search.{Each, Lowest}
+use Rattle.basics.specs.Replies.{answered}
 use Rattle.answer_sets.specs.Verdicts.{clash, broken, unfounded, passes}
 use Rattle.translation.specs.Translated.{rulesFor, tableFor}
-use Rattle.history.specs.Checks.{Finding, missing, judged}
-use Rattle.causal.specs.Verdicts.{Causal, path}
+use Rattle.history_check.specs.Checks.{Finding, missing, judged}
+use Rattle.causal_reading.specs.Verdicts.{Causal, path}
 use Rattle.correctness.specs.Demand3.{PathOf}
 use Rattle.description_reader.specs.LineSteps.{Draft}
 use Rattle.description_reader.specs.Descriptions.{read, described, descriptionOf}

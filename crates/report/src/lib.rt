@@ -1,6 +1,6 @@
 // What the program check prints: the nine lines of a history check, or a refusal.
-use description::Description;
-use description::Law;
+use action_language::Description;
+use action_language::Law;
 use history_reader::HistoryAnswer;
 use output_lines::Counts;
 use translation::Translated;

@@ -3,14 +3,14 @@
 use mathlib.Core.Path.{_≡_, refl, ap, _∙_}
 use mathlib.Core.List.{List, _++_}
 use Prim.Native.Nat.{ℕ}
-use Rattle.search.specs.Replies.{Reply, refused, answered}
+use Rattle.basics.specs.Replies.{Reply, refused, answered}
 use Rattle.answer_sets.specs.Verdicts.{clash, broken, unfounded, passes}
-use Rattle.description.specs.declared.Law.{Law}
-use Rattle.description.specs.declared.Description.{Description}
+use Rattle.action_language.specs.declared.Law.{Law}
+use Rattle.action_language.specs.declared.Description.{Description}
 use Rattle.translation.specs.Translated.{Written, written, outcome}
-use Rattle.history.specs.Checks.{Finding, missing, judged, checked}
-use Rattle.causal.specs.Verdicts.{Causal, contradicted, uncaused, path}
-use Rattle.causal.specs.Readings.{reading}
+use Rattle.history_check.specs.Checks.{Finding, missing, judged, checked}
+use Rattle.causal_reading.specs.Verdicts.{Causal, contradicted, uncaused, path}
+use Rattle.causal_reading.specs.Readings.{reading}
 use Rattle.description_reader.specs.Descriptions.{Taken, read, described, descriptionOf}
 use Rattle.history_reader.specs.Histories.{atoms, readHistory}
 use Rattle.shown_names.specs.Shown.{shownFluent}

@@ -10,8 +10,8 @@ use native.Mathlib.Omega.{arith}
 use borrow.Author.Tests.{ltb-true, lt-ltb, leb-true, le-leb}
 use lib.Dec.{ltb, leb}
 use lib.ListN.{length, getD, take, drop, length-drop}
-use Rattle.search.specs.Search.{Each}
-use Rattle.search.proofs.Tests.{and₃-iff, each-map, all-each}
+use Rattle.basics.specs.Search.{Each}
+use Rattle.basics.proofs.Tests.{and₃-iff, each-map, all-each}
 use Rattle.logic_programs.specs.Words.{ruleSize, headFits, partsFit, ruleFits, badRuleIn, badRule}
 
 -- the words after the first rule

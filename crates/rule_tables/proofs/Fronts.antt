@@ -10,8 +10,8 @@ use native.Mathlib.Omega.{arith}
 use borrow.Author.Tests.{lt-leb, le-leb, not-true, not-false, ltb-true, ltb-false, lt-ltb, le-ltb}
 use lib.Dec.{ltb}
 use lib.ListN.{length, getD, take, drop, length-drop}
-use Rattle.search.specs.Search.{all}
-use Rattle.search.proofs.Loops.{to-the-end}
+use Rattle.basics.specs.Search.{all}
+use Rattle.basics.proofs.Loops.{to-the-end}
 use Rattle.logic_programs.specs.Literals.{Lits}
 use Rattle.logic_programs.specs.Words.{ruleSize, ruleAt, ruleFits, headFits, partsFit}
 use Rattle.rule_tables.specs.Bodies.{applies, frontApplies}

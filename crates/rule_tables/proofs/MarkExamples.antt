@@ -1,7 +1,7 @@
 -- The worked examples of marks hold of the definition.
 -- Assumes nothing.
 use mathlib.Core.Path.{refl}
-use Rattle.search.specs.Search.{Each}
+use Rattle.basics.specs.Search.{Each}
 use Rattle.rule_tables.specs.Marks.{marked}
 use Rattle.rule_tables.specs.MarkExamples.{Holds, examples}
 

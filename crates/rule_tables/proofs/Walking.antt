@@ -12,8 +12,8 @@ use native.Mathlib.Omega.{arith}
 use borrow.Author.Tests.{ltb-true, eqb-true}
 use lib.Dec.{ltb}
 use lib.ListN.{length, getD, drop}
-use Rattle.search.specs.Search.{first}
-use Rattle.search.proofs.Tests.{or-iff}
+use Rattle.basics.specs.Search.{first}
+use Rattle.basics.proofs.Tests.{or-iff}
 use Rattle.logic_programs.specs.Rules.{Rule}
 use Rattle.logic_programs.specs.Words.{ruleSize, ruleAt, rulesIn, ruleFits, headFits, rulesOf, badRule}
 use Rattle.rule_tables.specs.Internal.{Sound}

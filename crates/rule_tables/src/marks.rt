@@ -3,7 +3,7 @@ ghost use mathlib.Core.Path.{_≡_};
 ghost use mathlib.Core.Logic.{_↔_};
 ghost use mathlib.Core.Bool.{true};
 ghost use lib.ListN.{replicate};
-ghost use Rattle.search.specs.Search.{all};
+ghost use Rattle.basics.specs.Search.{all};
 ghost use Rattle.rule_tables.specs.Bodies.{is};
 ghost use Rattle.rule_tables.specs.Marks.{marked};
 

@@ -1,10 +1,10 @@
 // The words of a rule table. A slice of words stands for the rules from its front on.
 use crate::marks;
-use search::Found;
+use basics::Found;
 ghost use mathlib.Core.Path.{_≡_};
 ghost use Prim.Native.Nat.{_<_};
 ghost use lib.ListN.{getD};
-ghost use Rattle.search.specs.Search.{placeOf};
+ghost use Rattle.basics.specs.Search.{placeOf};
 ghost use Rattle.rule_tables.specs.Bodies.{headIn, frontApplies};
 ghost use Rattle.rule_tables.specs.Marks.{marked};
 ghost use Rattle.logic_programs.specs.Words.{ruleSize, ruleFits, headFits, headOf, partsFit, badRule};

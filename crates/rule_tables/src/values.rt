@@ -1,8 +1,8 @@
 // Value bytes, one an atom: 0 none, 1 true, 2 false, 3 both.
-use search::Found;
+use basics::Found;
 ghost use mathlib.Core.Path.{_≡_};
-ghost use Rattle.search.specs.Search.{first, placeOf};
-ghost use Rattle.search.specs.Replies.{refusalOf, refusal};
+ghost use Rattle.basics.specs.Search.{first, placeOf};
+ghost use Rattle.basics.specs.Replies.{refusalOf, refusal};
 ghost use Rattle.logic_programs.specs.Literals.{setOf, holdsTrue, holdsFalse, noneOrBoth, badValue};
 
 // Refusal 11: the lowest index of a byte over 3.

@@ -12,12 +12,12 @@ use lib.Dec.{ltb, leb}
 use lib.ListN.{length, take, getD, length-map, length-take, length-append, List·getD-append, List·getD-eq-default}
 use lib.Seq.{getD-take, getD-append-add}
 use Rattle.logic_programs.specs.Literals.{complement}
-use Rattle.search.proofs.Tests.{true-or-false}
+use Rattle.basics.proofs.Tests.{true-or-false}
 use Rattle.logic_programs.specs.Words.{headWord, ruleWords, words}
-use Rattle.description.specs.declared.Kind.{Kind}
-use Rattle.description.specs.declared.Kind.the-variants.{Static, Dynamic}
-use Rattle.description.specs.declared.Law.{Law}
-use Rattle.description.specs.Laws.{ifList}
+use Rattle.action_language.specs.declared.Kind.{Kind}
+use Rattle.action_language.specs.declared.Kind.the-variants.{Static, Dynamic}
+use Rattle.action_language.specs.declared.Law.{Law}
+use Rattle.action_language.specs.Laws.{ifList}
 use Rattle.rule_words.specs.RuleForms.{atTime, headAt, choices}
 use Rattle.rule_words.specs.Internal.{byKind, plainList, ruleFor}
 

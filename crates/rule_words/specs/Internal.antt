@@ -7,9 +7,9 @@ use lib.Dec.{ltb, leb}
 use lib.ListN.{take, getD}
 use Rattle.logic_programs.specs.Rules.{Rule}
 use Rattle.logic_programs.specs.Words.{ruleWords, words}
-use Rattle.description.specs.declared.Kind.{Kind}
-use Rattle.description.specs.declared.Kind.the-variants.{Static, Dynamic}
-use Rattle.description.specs.declared.Law.{Law}
+use Rattle.action_language.specs.declared.Kind.{Kind}
+use Rattle.action_language.specs.declared.Kind.the-variants.{Static, Dynamic}
+use Rattle.action_language.specs.declared.Law.{Law}
 use Rattle.rule_words.specs.RuleForms.{staticRule, dynamicRule, choices}
 
 -- the number for a law's kind, of one for static laws and one for dynamic laws

@@ -5,10 +5,10 @@ use mathlib.Core.List.{List, [], _∷_, map}
 use Prim.Native.Nat.{ℕ, suc, _+_, _*_}
 use Rattle.logic_programs.specs.Literals.{complement}
 use Rattle.logic_programs.specs.Rules.{Head, lit, falsum, Rule}
-use Rattle.description.specs.declared.Head as described
-use Rattle.description.specs.declared.Head.the-variants.{Lit, False}
-use Rattle.description.specs.declared.Law.{Law}
-use Rattle.description.specs.Laws.{ifList, afterList}
+use Rattle.action_language.specs.declared.Head as described
+use Rattle.action_language.specs.declared.Head.the-variants.{Lit, False}
+use Rattle.action_language.specs.declared.Law.{Law}
+use Rattle.action_language.specs.Laws.{ifList, afterList}
 
 -- the literal code c, of a fluent or an action, at time t: its atom is t(n + m) further on
 abbrev pub atTime : ℕ → ℕ → ℕ → ℕ

@@ -1,10 +1,10 @@
 // The lists of a law record, read safely, and what differs by a law's kind.
-use description::Kind;
-use description::Law;
+use action_language::Kind;
+use action_language::Law;
 ghost use mathlib.Core.Path.{_≡_};
 ghost use Prim.Native.Nat.{_+_, _<_, _≤_};
 ghost use lib.ListN.{length, take};
-ghost use Rattle.description.specs.Laws.{ifList};
+ghost use Rattle.action_language.specs.Laws.{ifList};
 ghost use Rattle.rule_words.specs.Internal.{byKind, plainList};
 
 // A code or a count, as a number that fits a byte.

@@ -9,7 +9,7 @@ use native.Mathlib.Numerals.{add-one}
 use borrow.Author.Tests.{lt-ltb, le-ltb}
 use denote.Ref.{RefT, ptr, now}
 use lib.ListN.{length, getD, List·getD-eq-default}
-use Rattle.search.specs.Replies.{Reply, refused, answered}
+use Rattle.basics.specs.Replies.{Reply, refused, answered}
 use Rattle.text.specs.Lines.{Line}
 use Rattle.text.specs.Places.{lineNumber, startOfValue, LiesAt}
 use Rattle.description_reader.specs.LineSteps.{Draft}

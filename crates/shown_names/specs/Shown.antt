@@ -7,7 +7,7 @@ use lib.Dec.{ltb}
 use lib.ListN.{length, getD}
 use Rattle.text.specs.Places.{startOfValue}
 use Rattle.description_reader.specs.LineSteps.{Draft}
-use Rattle.search.specs.Replies.{Reply, refused, answered}
+use Rattle.basics.specs.Replies.{Reply, refused, answered}
 use Rattle.description_reader.specs.Descriptions.{Taken, read, described}
 
 abbrev pub fluentName : Draft → ℕ → List ℕ

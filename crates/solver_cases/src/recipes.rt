@@ -3,9 +3,9 @@ use crate::verdicts::write_checked;
 use crate::verdicts::write_formulas;
 use crate::verdicts::write_named;
 use crate::verdicts::write_word;
-use description::Description;
-use description::Law;
-use history::Checked;
+use action_language::Description;
+use action_language::Law;
+use history_check::Checked;
 use history_reader::HistoryAnswer;
 use translation::Translated;
 ghost use Prim.Native.Nat.{_<_, _≤_};
@@ -27,7 +27,7 @@ fn write_translated(d: Description, laws: [Law; 64], values: &[u8], table: &[u16
 // Writes the history check's verdict on a description and values, and behind a verdict what the completion formulas say.
 fn write_verdicts(d: Description, laws: [Law; 64], values: &[u8]) {
     let mut table = no_table();
-    let checked = history::check_history(d, laws, 64, values, &mut table);
+    let checked = history_check::check_history(d, laws, 64, values, &mut table);
     write_checked(checked);
     match checked {
         Checked::Refused(_, _) => {}

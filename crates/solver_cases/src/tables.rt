@@ -3,7 +3,7 @@
 use crate::verdicts::write_answer;
 use crate::verdicts::write_formulas;
 use crate::verdicts::write_word;
-use search::Found;
+use basics::Found;
 
 // Writes the engine's verdict on values and words, and what the completion formulas say of them.
 fn judge(numbers: &[u16], words: &[u16]) {

@@ -1,6 +1,6 @@
 // Verdicts as words, each with the number that it names, and the answer of the completion formulas behind a verdict.
 use answer_sets::Answer;
-use history::Checked;
+use history_check::Checked;
 use libc::STDOUT_FILENO;
 
 // Bytes as they are.

@@ -9,7 +9,7 @@ use borrow.Author.Tests.{leb-true, leb-false, eq-eqb, eqb-true}
 use lib.Dec.{eqb, leb}
 use lib.ListN.{length, getD, drop, drop-of-length-le}
 use lib.Seq.{drop-cons}
-use Rattle.search.proofs.Tests.{and-iff, not-both}
+use Rattle.basics.proofs.Tests.{and-iff, not-both}
 use Rattle.spelling.specs.Letters.{same}
 
 -- what is left of two runs from place i on

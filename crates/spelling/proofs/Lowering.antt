@@ -8,8 +8,8 @@ use native.Mathlib.Omega.{arith}
 use borrow.Author.Tests.{leb-true, le-leb, lt-leb}
 use lib.Dec.{leb}
 use lib.ListN.{length-map}
-use Rattle.search.specs.Search.{all}
-use Rattle.search.proofs.Tests.{and-iff, not-both}
+use Rattle.basics.specs.Search.{all}
+use Rattle.basics.proofs.Tests.{and-iff, not-both}
 use Rattle.spelling.specs.Letters.{isCapital, isLetter, isNameByte, lowered}
 use Rattle.spelling.specs.Spelling.{startsWithLetter, isName}
 

@@ -8,8 +8,8 @@ use native.Mathlib.Omega.{arith}
 use borrow.Author.Tests.{leb-true, not-true}
 use lib.Dec.{leb}
 use lib.ListN.{length, getD}
-use Rattle.search.specs.Search.{all, Each}
-use Rattle.search.proofs.Tests.{and-iff, all-each}
+use Rattle.basics.specs.Search.{all, Each}
+use Rattle.basics.proofs.Tests.{and-iff, all-each}
 use Rattle.spelling.specs.Letters.{isLetter, isNameByte}
 use Rattle.spelling.specs.Spelling.{sameName, falseBytes, startsWithLetter, isName}
 

@@ -5,7 +5,7 @@ use mathlib.Core.List.{List, [], _∷_, map}
 use Prim.Native.Nat.{ℕ}
 use lib.Dec.{leb}
 use lib.ListN.{length}
-use Rattle.search.specs.Search.{all}
+use Rattle.basics.specs.Search.{all}
 use Rattle.spelling.specs.Letters.{isLetter, isNameByte, lowered, same}
 
 -- two names are the same if they agree after lowering (02, §3)

@@ -2,7 +2,7 @@
 ghost use mathlib.Core.Path.{_≡_};
 ghost use mathlib.Core.List.{map};
 ghost use lib.Dec.{eqb};
-ghost use Rattle.search.specs.Search.{all};
+ghost use Rattle.basics.specs.Search.{all};
 ghost use Rattle.spelling.specs.Letters.{isLetter, isDigit, isNameByte, lowered, same};
 ghost use Rattle.spelling.specs.Spelling.{falseBytes, sameName, isName};
 ghost use Rattle.spelling.specs.Internal.{compared};

@@ -9,8 +9,8 @@ use native.Mathlib.Omega.{arith}
 use lib.Dec.{eqb}
 use lib.ListN.{length, take, drop, length-drop, length-take}
 use lib.Seq.{drop-drop, take-nil}
-use Rattle.search.specs.Search.{first}
-use Rattle.search.proofs.Tests.{first-some}
+use Rattle.basics.specs.Search.{first}
+use Rattle.basics.proofs.Tests.{first-some}
 use Rattle.text.specs.Bytes.{newline, comma, equalsSign, cut}
 use Rattle.text.specs.Lines.{keyNumber, firstLine}
 use Rattle.text.specs.Places.{valueFrom}

@@ -10,7 +10,7 @@ use borrow.Author.Tests.{le-leb, lt-leb}
 use lib.Dec.{eqb, leb}
 use lib.ListN.{length, take, drop, length-drop}
 use lib.Seq.{drop-drop}
-use Rattle.search.specs.Search.{first}
+use Rattle.basics.specs.Search.{first}
 use Rattle.text.specs.Bytes.{comma, cut}
 use Rattle.text.specs.Lists.{itemsIn, items}
 use Rattle.text.specs.Internal.{itemAt, nextAt, itemsAt}

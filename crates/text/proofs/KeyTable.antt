@@ -3,7 +3,7 @@
 use mathlib.Core.Path.{refl}
 use mathlib.Core.List.{List, [], _∷_}
 use Prim.Native.Nat.{ℕ, _<_}
-use Rattle.search.proofs.Tables.{Row, rows}
+use Rattle.basics.proofs.Tables.{Row, rows}
 use Rattle.text.specs.Lines.{keys, noKey}
 
 abbrev pub table : List ℕ

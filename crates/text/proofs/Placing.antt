@@ -11,7 +11,7 @@ use borrow.Author.Tests.{ltb-true}
 use lib.Dec.{eqb, ltb}
 use lib.ListN.{length, take, drop}
 use lib.Seq.{drop-drop}
-use Rattle.search.specs.Search.{first}
+use Rattle.basics.specs.Search.{first}
 use Rattle.text.specs.declared.lines.LineAt.{LineAt}
 use Rattle.text.specs.Bytes.{newline, equalsSign, Cut, cutAt, cut}
 use Rattle.text.specs.Lines.{noKey, keyNumber, Line, keyed, valued, ended, firstLine}

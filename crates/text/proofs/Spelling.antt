@@ -10,8 +10,8 @@ use native.Mathlib.Numerals.{add-one}
 use native.Mathlib.Omega.{arith}
 use lib.ListN.{length, getD, take, drop, set, length-map, List·getD-eq-default}
 use lib.Seq.{getD-set-same, getD-set-other}
-use Rattle.search.specs.Search.{first, range}
-use Rattle.search.proofs.Tests.{and-iff, length-range}
+use Rattle.basics.specs.Search.{first, range}
+use Rattle.basics.proofs.Tests.{and-iff, length-range}
 use Rattle.text.specs.declared.names.Names.{Names}
 use borrow.Author.Tests.{eq-eqb, ne-eqb, ltb-true, ltb-false}
 use lib.Dec.{eqb, ltb, leb}

@@ -5,7 +5,7 @@ use mathlib.Core.Option.{Option, none, some}
 use Prim.Native.Nat.{ℕ, suc}
 use lib.Dec.{eqb}
 use lib.ListN.{take, drop}
-use Rattle.search.specs.Search.{first}
+use Rattle.basics.specs.Search.{first}
 
 abbrev pub newline : ℕ
 newline = 10

@@ -7,7 +7,7 @@ use mathlib.Core.Option.{Option, none, some}
 use Prim.Native.Nat.{ℕ, suc, _+_, _-_, _≤_, _<_}
 use lib.Dec.{eqb, ltb, leb}
 use lib.ListN.{length, getD, take, drop}
-use Rattle.search.specs.Search.{first, range}
+use Rattle.basics.specs.Search.{first, range}
 use Rattle.text.specs.declared.lines.LineAt.{LineAt}
 use Rattle.text.specs.declared.names.Names.{Names}
 use Rattle.text.specs.Bytes.{comma}

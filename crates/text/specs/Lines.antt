@@ -3,7 +3,7 @@
 use mathlib.Core.List.{List, [], _∷_}
 use mathlib.Core.Option.{Option, none, some}
 use Prim.Native.Nat.{ℕ}
-use Rattle.search.specs.Search.{first}
+use Rattle.basics.specs.Search.{first}
 use Rattle.spelling.specs.Letters.{same}
 use Rattle.text.specs.Bytes.{newline, equalsSign, Cut, cut}
 

@@ -5,7 +5,7 @@ use mathlib.Core.List.{List, [], _∷_}
 use mathlib.Core.Option.{Option, none, some}
 use Prim.Native.Nat.{ℕ, _+_, _*_}
 use lib.Dec.{eqb, ltb, leb}
-use Rattle.search.specs.Search.{first}
+use Rattle.basics.specs.Search.{first}
 use Rattle.spelling.specs.Spelling.{sameName, isName}
 use Rattle.text.specs.Bytes.{hyphen}
 

@@ -7,7 +7,7 @@ use Prim.Native.Nat.{ℕ, zero, suc, _+_}
 use lib.Dec.{eqb}
 use lib.ListN.{length, drop}
 use denote.Ref.{RefT, ptr}
-use Rattle.search.specs.Search.{first}
+use Rattle.basics.specs.Search.{first}
 use Rattle.text.specs.Bytes.{newline, equalsSign}
 use Rattle.text.specs.Lines.{Line, firstLine}
 

@@ -1,10 +1,10 @@
 // Bytes: where one stands, and a part of a text by its place.
-use search::Found;
+use basics::Found;
 ghost use mathlib.Core.Path.{_≡_};
 ghost use Prim.Native.Nat.{_+_, _-_};
 ghost use lib.Dec.{eqb};
 ghost use lib.ListN.{length, take, drop};
-ghost use Rattle.search.specs.Search.{first, placeOf};
+ghost use Rattle.basics.specs.Search.{first, placeOf};
 
 // The place of the first byte b.
 pub(crate) fn find(bytes: &[u8], b: u8) -> Found

@@ -1,6 +1,6 @@
 // Lines: key=value, with the key's number and the places of the value and of the next line.
 use crate::bytes;
-use search::Found;
+use basics::Found;
 use spelling;
 ghost use mathlib.Core.Path.{_≡_};
 ghost use mathlib.Core.List.{[]};

@@ -2,9 +2,9 @@
 use crate::bytes;
 use crate::names;
 use crate::names::Names;
-use search::Found;
+use basics::Found;
 ghost use mathlib.Core.Path.{_≡_};
-ghost use Rattle.search.specs.Search.{placeOf};
+ghost use Rattle.basics.specs.Search.{placeOf};
 ghost use Rattle.text.specs.Names.{literal};
 ghost use Rattle.text.specs.Internal.{spelled, itemAt, nextAt};
 

@@ -1,11 +1,11 @@
 // Names and literals. A name that was declared is kept as its place in the caller's text.
 use crate::bytes;
-use search::Found;
+use basics::Found;
 use spelling;
 ghost use mathlib.Core.Path.{_≡_};
 ghost use Prim.Native.Nat.{_≤_};
 ghost use lib.ListN.{getD};
-ghost use Rattle.search.specs.Search.{placeOf};
+ghost use Rattle.basics.specs.Search.{placeOf};
 ghost use Rattle.text.specs.Names.{isNew, declaredAt, inSort, literal};
 ghost use Rattle.text.specs.Internal.{spelled, PlaceFits};
 

@@ -7,10 +7,10 @@ use mathlib.Core.Bool.{Bool, true, false, not, Bool·not-not}
 use mathlib.Core.List.{List}
 use Prim.Native.Nat.{ℕ, _+_, _*_, _<_}
 use native.Mathlib.Omega.{arith}
-use Rattle.search.specs.Search.{Each, all}
-use Rattle.search.proofs.Tests.{not-both, false-of-not, and-iff, each-map₂, all-each}
-use Rattle.search.proofs.Lists.{each-iff-given, each-member, member-each}
-use Rattle.search.proofs.Parity.{by-parity}
+use Rattle.basics.specs.Search.{Each, all}
+use Rattle.basics.proofs.Tests.{not-both, false-of-not, and-iff, each-map₂, all-each}
+use Rattle.basics.proofs.Lists.{each-iff-given, each-member, member-each}
+use Rattle.basics.proofs.Parity.{by-parity}
 use Rattle.logic_programs.specs.Literals.{Lits, complement}
 use Rattle.logic_programs.specs.Rules.{Head, lit, falsum, Rule}
 use Rattle.logic_programs.specs.AnswerSets.{meets, reduct, HeadIn, Closed, Consistent}

@@ -9,9 +9,9 @@ use Prim.Native.Nat.{ℕ, zero, suc, _<_}
 use native.Mathlib.Omega.{arith}
 use lib.Dec.{eqb}
 use borrow.Author.Tests.{eqb-true, eq-eqb}
-use Rattle.search.specs.Search.{Each, all}
-use Rattle.search.proofs.Tests.{true-or-false, not-both, false-of-not, and-iff, not-iff, each-map, each-map₂}
-use Rattle.search.proofs.Lists.{each-iff, each-member, member-each}
+use Rattle.basics.specs.Search.{Each, all}
+use Rattle.basics.proofs.Tests.{true-or-false, not-both, false-of-not, and-iff, not-iff, each-map, each-map₂}
+use Rattle.basics.proofs.Lists.{each-iff, each-member, member-each}
 use Rattle.logic_programs.specs.Literals.{Lits}
 use Rattle.logic_programs.specs.Rules.{Head, lit, falsum, Rule}
 use Rattle.logic_programs.specs.AnswerSets.{PositiveRule, meets, reduct, Within, HeadIn, Closed, Subset, AnswerSet}

@@ -9,12 +9,12 @@ use lib.ListN.{length, length-append, length-map}
 use Rattle.logic_programs.specs.Literals.{complement}
 use Rattle.logic_programs.specs.Rules.{Rule}
 use Rattle.logic_programs.specs.Words.{ruleWords, words}
-use Rattle.search.specs.Search.{range}
-use Rattle.search.proofs.Tests.{length-range}
-use Rattle.description.specs.declared.Kind.{Kind}
-use Rattle.description.specs.declared.Kind.the-variants.{Static, Dynamic}
-use Rattle.description.specs.declared.Law.{Law}
-use Rattle.description.specs.Laws.{ifList, afterList}
+use Rattle.basics.specs.Search.{range}
+use Rattle.basics.proofs.Tests.{length-range}
+use Rattle.action_language.specs.declared.Kind.{Kind}
+use Rattle.action_language.specs.declared.Kind.the-variants.{Static, Dynamic}
+use Rattle.action_language.specs.declared.Law.{Law}
+use Rattle.action_language.specs.Laws.{ifList, afterList}
 use Rattle.rule_words.specs.RuleForms.{atTime, staticRule, dynamicRule, choices}
 use Rattle.translation.specs.Rules.{staticRules, dynamicRules, perLaw, actionAtoms, choiceAtoms, translation}
 

@@ -9,13 +9,13 @@ use native.Mathlib.Omega.{arith}
 use borrow.Author.Tests.{ltb-false, le-ltb, lt-ltb}
 use lib.Dec.{ltb}
 use lib.ListN.{length}
-use Rattle.search.specs.Replies.{Reply, refused, answered}
-use Rattle.search.proofs.Replies.{orRefuse-answered}
-use Rattle.description.specs.declared.Law.{Law}
-use Rattle.description.specs.declared.Description.{Description}
-use Rattle.description.specs.Atoms.{atomCount}
-use Rattle.description.specs.Acceptance.{badRecord, badHorizon}
-use Rattle.description.proofs.Laws.{accepted-counts, accepted-horizon}
+use Rattle.basics.specs.Replies.{Reply, refused, answered}
+use Rattle.basics.proofs.Replies.{orRefuse-answered}
+use Rattle.action_language.specs.declared.Law.{Law}
+use Rattle.action_language.specs.declared.Description.{Description}
+use Rattle.action_language.specs.Atoms.{atomCount}
+use Rattle.action_language.specs.Acceptance.{badRecord, badHorizon}
+use Rattle.action_language.proofs.Laws.{accepted-counts, accepted-horizon}
 use Rattle.translation.specs.Translated.{Written, written, tooShort, rulesFor, tableFor, outcome, overwritten, tableAfter}
 
 enough : (needed room : ℕ) → tooShort needed room ≡ none → needed ≤ room

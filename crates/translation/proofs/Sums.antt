@@ -7,12 +7,12 @@ use native.Mathlib.Nat.{add-zero}
 use native.Mathlib.Numerals.{add-one}
 use native.Mathlib.Omega.{arith}
 use lib.ListN.{length, take, drop, getD}
-use Rattle.description.specs.declared.Head.the-variants.{Lit}
-use Rattle.description.specs.declared.Kind.{Kind}
-use Rattle.description.specs.declared.Kind.the-variants.{Static, Dynamic}
-use Rattle.description.specs.declared.Law.{Law}
-use Rattle.description.specs.Laws.{ifList}
-use Rattle.search.proofs.Loops.{rest-cons, rest-done}
+use Rattle.action_language.specs.declared.Head.the-variants.{Lit}
+use Rattle.action_language.specs.declared.Kind.{Kind}
+use Rattle.action_language.specs.declared.Kind.the-variants.{Static, Dynamic}
+use Rattle.action_language.specs.declared.Law.{Law}
+use Rattle.action_language.specs.Laws.{ifList}
+use Rattle.basics.proofs.Loops.{rest-cons, rest-done}
 use Rattle.logic_programs.specs.Words.{words as wordsOf}
 use Rattle.rule_words.specs.Internal.{byKind, plainList}
 use Rattle.translation.specs.Rules.{translation}

@@ -11,11 +11,11 @@ use borrow.Author.Tests.{ltb-true, ltb-false}
 use lib.Dec.{ltb}
 use lib.ListN.{length, getD, set, drop, length-set, length-append, drop-of-length-le, List·getD-append}
 use lib.Seq.{sets, drop-cons, length-sets, sets-eq, getD-append-add}
-use Rattle.search.specs.Search.{range}
-use Rattle.search.proofs.Tests.{true-or-false}
-use Rattle.description.specs.declared.Kind.{Kind}
-use Rattle.description.specs.declared.Kind.the-variants.{Static, Dynamic}
-use Rattle.description.specs.declared.Law.{Law}
+use Rattle.basics.specs.Search.{range}
+use Rattle.basics.proofs.Tests.{true-or-false}
+use Rattle.action_language.specs.declared.Kind.{Kind}
+use Rattle.action_language.specs.declared.Kind.the-variants.{Static, Dynamic}
+use Rattle.action_language.specs.declared.Law.{Law}
 use Rattle.rule_words.specs.RuleForms.{choices}
 use Rattle.translation.specs.Rules.{staticRules, dynamicRules, perLaw, actionAtoms, translation}
 use Rattle.translation.specs.Internal.{rulesOf}

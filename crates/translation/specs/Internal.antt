@@ -2,10 +2,10 @@
 -- Assumes nothing.
 use mathlib.Core.List.{List, map}
 use Prim.Native.Nat.{ℕ}
-use Rattle.search.specs.Search.{range}
+use Rattle.basics.specs.Search.{range}
 use Rattle.logic_programs.specs.Rules.{Rule}
-use Rattle.description.specs.declared.Kind.{Kind}
-use Rattle.description.specs.declared.Law.{Law}
+use Rattle.action_language.specs.declared.Kind.{Kind}
+use Rattle.action_language.specs.declared.Law.{Law}
 use Rattle.rule_words.specs.Internal.{byKind, ruleFor}
 
 -- a law's rules, of which a static law has as many as one number says, and a dynamic law as the other

@@ -3,12 +3,12 @@
 -- Assumes nothing.
 use mathlib.Core.List.{List, [], _∷_, _++_, map}
 use Prim.Native.Nat.{ℕ, zero, suc, _+_}
-use Rattle.search.specs.Search.{range}
+use Rattle.basics.specs.Search.{range}
 use Rattle.logic_programs.specs.Rules.{Rule}
-use Rattle.description.specs.declared.Kind.{Kind}
-use Rattle.description.specs.declared.Kind.the-variants.{Static, Dynamic}
-use Rattle.description.specs.declared.Law.{Law}
-use Rattle.description.specs.Atoms.{fluentAtom, actionAtom}
+use Rattle.action_language.specs.declared.Kind.{Kind}
+use Rattle.action_language.specs.declared.Kind.the-variants.{Static, Dynamic}
+use Rattle.action_language.specs.declared.Law.{Law}
+use Rattle.action_language.specs.Atoms.{fluentAtom, actionAtom}
 use Rattle.rule_words.specs.RuleForms.{staticRule, dynamicRule, choices}
 
 -- for t = 0 to T

@@ -6,14 +6,14 @@ use mathlib.Core.Option.{Option, none, some}
 use Prim.Native.Nat.{ℕ}
 use lib.Dec.{ltb}
 use lib.ListN.{length, drop}
-use Rattle.search.specs.Replies.{Reply, refused, answered, orRefuse, leftAfter}
+use Rattle.basics.specs.Replies.{Reply, refused, answered, orRefuse, leftAfter}
 use Rattle.logic_programs.specs.Rules.{Rule}
 use Rattle.logic_programs.specs.Words.{words}
-use Rattle.description.specs.declared.Law.{Law}
-use Rattle.description.specs.declared.Description.{Description}
-use Rattle.description.specs.Laws.{lawsOf}
-use Rattle.description.specs.Atoms.{atomCount}
-use Rattle.description.specs.Acceptance.{badRecord, badHorizon}
+use Rattle.action_language.specs.declared.Law.{Law}
+use Rattle.action_language.specs.declared.Description.{Description}
+use Rattle.action_language.specs.Laws.{lawsOf}
+use Rattle.action_language.specs.Atoms.{atomCount}
+use Rattle.action_language.specs.Acceptance.{badRecord, badHorizon}
 use Rattle.translation.specs.Rules.{translation}
 use Rattle.translation.specs.declared.Translated.{Translated}
 use Rattle.translation.specs.declared.Translated.the-variants as answers

@@ -1,7 +1,7 @@
 // The published translation of action language C into rules (000, section 4), written as words into a lent table.
-use description::Description;
-use description::Law;
-use search::Found;
+use action_language::Description;
+use action_language::Law;
+use basics::Found;
 ghost use mathlib.Core.Path.{_≡_};
 ghost use lib.ListN.{length};
 ghost use Rattle.translation.specs.Translated.{outcomeOf, outcome, tableAfter};
@@ -19,10 +19,10 @@ pub enum Translated {
 pub fn measure(d: Description, laws: [Law; 64], lent: usize, room: usize) -> Translated
     ensures { λ r. ⌜ outcomeOf r ≡ outcome d laws lent room ⌝ }
 {
-    if let Found::At(place) = description::bad_record(d, laws, lent) {
+    if let Found::At(place) = action_language::bad_record(d, laws, lent) {
         return Translated::Refused(8, place);
     }
-    if let Found::At(place) = description::bad_horizon(d.horizon) {
+    if let Found::At(place) = action_language::bad_horizon(d.horizon) {
         return Translated::Refused(3, place);
     }
     let needed = sizes::sizes_needed(d, laws);

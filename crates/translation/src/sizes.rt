@@ -1,12 +1,12 @@
 // How many rules and words a translation has, counted before anything is written.
-use description::Description;
-use description::Law;
+use action_language::Description;
+use action_language::Law;
 use rule_words::lists::by_kind;
 use rule_words::lists::rule_size;
 ghost use mathlib.Core.Path.{_≡_};
 ghost use Prim.Native.Nat.{_+_, _*_, _≤_};
 ghost use lib.ListN.{length};
-ghost use Rattle.description.specs.Laws.{ifList};
+ghost use Rattle.action_language.specs.Laws.{ifList};
 ghost use Rattle.rule_words.specs.Internal.{byKind, plainList};
 ghost use Rattle.translation.specs.Translated.{rulesFor, tableFor};
 

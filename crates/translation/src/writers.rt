@@ -1,7 +1,7 @@
 // Writers of rules into a lent table of words. Each stores its words from `at` on, and returns the place behind them. What the
 // words are is said by rule_words, by their place in a rule.
-use description::Description;
-use description::Law;
+use action_language::Description;
+use action_language::Law;
 use rule_words::choice_word;
 use rule_words::lists::by_kind;
 use rule_words::lists::rule_size;
@@ -11,7 +11,7 @@ ghost use mathlib.Core.List.{map};
 ghost use Prim.Native.Nat.{_+_, _≤_};
 ghost use lib.ListN.{length, take};
 ghost use lib.Seq.{sets};
-ghost use Rattle.search.specs.Search.{range};
+ghost use Rattle.basics.specs.Search.{range};
 ghost use Rattle.logic_programs.specs.Words.{ruleWords, words};
 ghost use Rattle.rule_words.specs.RuleForms.{choices};
 ghost use Rattle.rule_words.specs.Internal.{ruleFor};

@@ -8,23 +8,23 @@ use native.Mathlib.Nat.{mul-le-mul, mul-le-mul-left, mul-le-mul-right, suc-mul}
 use native.Mathlib.Omega.{arith}
 use lib.ListN.{length, length-take}
 use Rattle.logic_programs.specs.Literals.{complement}
-use Rattle.search.specs.Search.{Each}
+use Rattle.basics.specs.Search.{Each}
 use Rattle.logic_programs.specs.Words.{words}
-use Rattle.search.proofs.Tests.{each-map}
-use Rattle.search.proofs.Lists.{each-mapped}
+use Rattle.basics.proofs.Tests.{each-map}
+use Rattle.basics.proofs.Lists.{each-mapped}
 use Rattle.logic_programs.proofs.Complements.{complement-below}
 use Rattle.answer_sets.proofs.Least.{HeadBelow}
 use Rattle.answer_sets.proofs.Decoding.{RuleBelow, CodesBelow}
-use Rattle.description.specs.declared.Head as described
-use Rattle.description.specs.declared.Head.the-variants.{Lit, False}
-use Rattle.description.specs.declared.Kind.{Kind}
-use Rattle.description.specs.declared.Kind.the-variants.{Static, Dynamic}
-use Rattle.description.specs.declared.Law.{Law}
-use Rattle.description.specs.Laws.{ifList, afterList}
-use Rattle.description.specs.Atoms.{actionAtom, atomCount}
-use Rattle.description.specs.Acceptance.{lawFits}
-use Rattle.description.proofs.Fits as fits
-use Rattle.description.proofs.Laws.{AllFit, fits-if, fits-after}
+use Rattle.action_language.specs.declared.Head as described
+use Rattle.action_language.specs.declared.Head.the-variants.{Lit, False}
+use Rattle.action_language.specs.declared.Kind.{Kind}
+use Rattle.action_language.specs.declared.Kind.the-variants.{Static, Dynamic}
+use Rattle.action_language.specs.declared.Law.{Law}
+use Rattle.action_language.specs.Laws.{ifList, afterList}
+use Rattle.action_language.specs.Atoms.{actionAtom, atomCount}
+use Rattle.action_language.specs.Acceptance.{lawFits}
+use Rattle.action_language.proofs.Fits as fits
+use Rattle.action_language.proofs.Laws.{AllFit, fits-if, fits-after}
 use Rattle.rule_words.specs.RuleForms.{atTime, headAt, complementsAt, literalsAt}
 use Rattle.translation.specs.Rules.{translation}
 use Rattle.translation_bounds.proofs.RuleByRule.{AtStart, AtChoice, stepRule, each-rule}

@@ -5,14 +5,14 @@ use mathlib.Core.Logic.{_↔_, Iff·trans, Iff·symm, Iff·and}
 use mathlib.Core.List.{List, [], _∷_, _++_, map}
 use Prim.Native.Nat.{ℕ, zero, suc, _+_, _*_, _<_}
 use native.Mathlib.Omega.{arith}
-use Rattle.search.specs.Search.{Each, range}
-use Rattle.search.proofs.Tests.{each-append}
-use Rattle.search.proofs.Lists.{each-iff, each-both, each-forall, each-mapped, each-range}
+use Rattle.basics.specs.Search.{Each, range}
+use Rattle.basics.proofs.Tests.{each-append}
+use Rattle.basics.proofs.Lists.{each-iff, each-both, each-forall, each-mapped, each-range}
 use Rattle.logic_programs.specs.Rules.{lit, Rule}
-use Rattle.description.specs.declared.Kind.{Kind}
-use Rattle.description.specs.declared.Kind.the-variants.{Static, Dynamic}
-use Rattle.description.specs.declared.Law.{Law}
-use Rattle.description.specs.Atoms.{fluentAtom, actionAtom}
+use Rattle.action_language.specs.declared.Kind.{Kind}
+use Rattle.action_language.specs.declared.Kind.the-variants.{Static, Dynamic}
+use Rattle.action_language.specs.declared.Law.{Law}
+use Rattle.action_language.specs.Atoms.{fluentAtom, actionAtom}
 use Rattle.rule_words.specs.RuleForms.{staticRule, dynamicRule, choices}
 use Rattle.translation.specs.Rules.{staticRules, dynamicRules, perLaw, actionAtoms, choiceAtoms, translation}
 

@@ -9,7 +9,7 @@ use native.Mathlib.Nat.{mul-le-mul}
 use native.Mathlib.Omega.{arith}
 use borrow.Author.Tests.{le-ltb}
 use lib.ListN.{length}
-use Rattle.search.specs.Replies.{answered}
+use Rattle.basics.specs.Replies.{answered}
 use Rattle.logic_programs.specs.Literals.{setOf, badValue}
 use Rattle.answer_sets.specs.Verdicts.{verdict}
 use Rattle.logic_programs.specs.Words.{rulesOf, badRule}
@@ -17,11 +17,11 @@ use Rattle.answer_sets.specs.Answers as engine
 use Rattle.answer_sets.specs.Demand2 as engine-meaning
 use Rattle.answer_sets.proofs.Decoding.{words-accepted}
 use Rattle.answer_sets.proofs.Theorems.{accepted-judged}
-use Rattle.description.specs.declared.Law.{Law}
-use Rattle.description.specs.declared.Description.{Description}
-use Rattle.description.specs.Laws.{lawsOf}
-use Rattle.description.specs.Atoms.{atomCount}
-use Rattle.description.proofs.Laws.{accepted-law, accepted-few}
+use Rattle.action_language.specs.declared.Law.{Law}
+use Rattle.action_language.specs.declared.Description.{Description}
+use Rattle.action_language.specs.Laws.{lawsOf}
+use Rattle.action_language.specs.Atoms.{atomCount}
+use Rattle.action_language.proofs.Laws.{accepted-law, accepted-few}
 use Rattle.translation.specs.Translated.{written, rulesFor, tableFor, outcome}
 use Rattle.translation.proofs.Outcomes.{Accepted, written-accepted, written-limits}
 use Rattle.translation_bounds.proofs.Bounds.{at-most-4096, codes-below}

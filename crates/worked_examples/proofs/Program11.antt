@@ -10,10 +10,10 @@ use native.Mathlib.Omega.{arith}
 use lib.Dec.{ltb}
 use lib.ListN.{length, getD}
 use borrow.Author.Tests.{le-ltb}
-use Rattle.search.specs.Search.{Each}
-use Rattle.search.specs.Replies.{Reply, refused, answered}
-use Rattle.search.proofs.Tests.{none-first, each-at, each-map}
-use Rattle.search.proofs.Lists.{chosen-iff, tuples-all}
+use Rattle.basics.specs.Search.{Each}
+use Rattle.basics.specs.Replies.{Reply, refused, answered}
+use Rattle.basics.proofs.Tests.{none-first, each-at, each-map}
+use Rattle.basics.proofs.Lists.{chosen-iff, tuples-all}
 use Rattle.logic_programs.specs.Literals.{setOf, holdsTrue, holdsFalse, badValue}
 use Rattle.logic_programs.specs.AnswerSets.{AnswerSet}
 use Rattle.answer_sets.specs.Verdicts.{Verdict, clash, broken, unfounded, passes, verdict}

@@ -7,7 +7,7 @@ use Prim.Native.Nat.{ℕ, _-_}
 use native.Mathlib.Omega.{arith}
 use borrow.Author.Tests.{leb-true}
 use lib.Dec.{eqb, leb}
-use Rattle.search.proofs.Tests.{and-iff}
+use Rattle.basics.proofs.Tests.{and-iff}
 use Rattle.spelling.specs.Letters.{isSmall}
 use Rattle.letter_case.specs.Alike.{AlikeByte, equal, small, Alike}
 use Rattle.letter_case.proofs.AlikeRuns.{alike-refl}

@@ -1,9 +1,9 @@
 -- The largest table: how many words it needs, by the translation's counts.
 -- Assumes nothing.
 use mathlib.Core.Path.{_≡_}
-use Rattle.search.specs.Replies.{refused, answered}
-use Rattle.description.specs.Acceptance.{badRecord, badHorizon}
-use Rattle.description.specs.Examples.{largest, largestLaws}
+use Rattle.basics.specs.Replies.{refused, answered}
+use Rattle.action_language.specs.Acceptance.{badRecord, badHorizon}
+use Rattle.action_language.specs.Examples.{largest, largestLaws}
 use Rattle.translation.specs.Translated.{written, outcome}
 use Rattle.translation.proofs.Counts.{rule-count, word-count}
 

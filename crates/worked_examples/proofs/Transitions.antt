@@ -7,13 +7,13 @@ use mathlib.Core.List.{List, [], _∷_, List·Memᴰ, List·Memᴰ·head, List·
 use Prim.Native.Nat.{ℕ}
 use lib.ListN.{length}
 use Rattle.logic_programs.specs.Literals.{OneValue}
-use Rattle.search.specs.Search.{Each, tuples}
-use Rattle.search.proofs.Tests.{each-map}
-use Rattle.search.proofs.Lists.{chosen-iff, tuples-all}
-use Rattle.description.specs.declared.Law.{Law}
-use Rattle.description.specs.Meaning.{Path}
-use Rattle.description.specs.Examples.{doorLaws, waterLaws}
-use Rattle.causal.specs.Verdicts.{Causal, contradicted, uncaused, path, causalVerdict}
+use Rattle.basics.specs.Search.{Each, tuples}
+use Rattle.basics.proofs.Tests.{each-map}
+use Rattle.basics.proofs.Lists.{chosen-iff, tuples-all}
+use Rattle.action_language.specs.declared.Law.{Law}
+use Rattle.action_language.specs.Meaning.{Path}
+use Rattle.action_language.specs.Examples.{doorLaws, waterLaws}
+use Rattle.causal_reading.specs.Verdicts.{Causal, contradicted, uncaused, path, causalVerdict}
 use Rattle.worked_examples.specs.Examples.{isPath, paths}
 use Rattle.worked_examples.specs.Transitions.{doorTransitions, waterTransitions}
 use Rattle.correctness.proofs.Reading.{causal-iff}

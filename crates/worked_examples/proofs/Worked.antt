@@ -1,8 +1,8 @@
 -- Every worked example holds of the definitions.
 -- Assumes nothing.
 use mathlib.Core.List.{List, [], _∷_}
-use Rattle.search.specs.Search.{Each}
-use Rattle.search.proofs.Tests.{each-append}
+use Rattle.basics.specs.Search.{Each}
+use Rattle.basics.proofs.Tests.{each-append}
 use Rattle.worked_examples.specs.Examples.{Example, Holds}
 use Rattle.worked_examples.specs.Format.{readerExamples, lineExamples, historyExamples, longExamples}
 use Rattle.worked_examples.specs.Short.{shortRecipeExamples, shortOutputExamples, shortExamples}

@@ -4,7 +4,7 @@ use mathlib.Core.Path.{refl}
 use mathlib.Core.List.{[], _∷_}
 use native.Mathlib.Omega.{arith}
 use Rattle.logic_programs.specs.Literals.{complement}
-use Rattle.search.specs.Search.{Each}
+use Rattle.basics.specs.Search.{Each}
 use Rattle.spelling.specs.Spelling.{isName}
 use Rattle.text.specs.Bytes.{cut}
 use Rattle.text.specs.Lines.{keyNumber, firstLine}

@@ -1,7 +1,7 @@
 -- The worked examples of the numbers for C hold, and those of the largest table, which are counted and not computed.
 -- Assumes nothing.
 use mathlib.Core.Path.{refl}
-use Rattle.search.specs.Search.{Each}
+use Rattle.basics.specs.Search.{Each}
 use Rattle.answer_codes.specs.Codes.{coded, pair}
 use Rattle.worked_examples.specs.Examples.{Holds}
 use Rattle.worked_examples.specs.Worked.{largestExamples, codeExamples}

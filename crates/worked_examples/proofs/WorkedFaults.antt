@@ -1,18 +1,18 @@
 -- The worked examples of atoms that have no value or both hold.
 -- Assumes nothing.
 use mathlib.Core.Path.{refl}
-use Rattle.search.specs.Search.{Each}
+use Rattle.basics.specs.Search.{Each}
 use Rattle.logic_programs.specs.Literals.{complement, setOf, holdsTrue, holdsFalse}
 use Rattle.logic_programs.specs.Words.{rulesOf, badRule}
 use Rattle.answer_sets.specs.Verdicts.{verdict}
 use Rattle.answer_sets.specs.Answers as engine
-use Rattle.literal_completion.specs.Findings as formulas
-use Rattle.literal_completion.specs.LevelLists.{badLevels}
-use Rattle.literal_completion.specs.Answers as completion
-use Rattle.description.specs.Acceptance.{badRecord, badHorizon}
+use Rattle.completion_theory.specs.Findings as formulas
+use Rattle.completion_theory.specs.LevelLists.{badLevels}
+use Rattle.completion_theory.specs.Answers as completion
+use Rattle.action_language.specs.Acceptance.{badRecord, badHorizon}
 use Rattle.translation.specs.Rules.{translation}
 use Rattle.translation.specs.Translated as translated
-use Rattle.history.specs.Checks as history
+use Rattle.history_check.specs.Checks as history
 use Rattle.worked_examples.specs.Examples.{Holds}
 use Rattle.worked_examples.specs.Faults.{faultExamples}
 

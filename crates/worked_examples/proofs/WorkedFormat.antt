@@ -1,7 +1,7 @@
 -- The worked examples of the text format hold.
 -- Assumes nothing.
 use mathlib.Core.Path.{refl}
-use Rattle.search.specs.Search.{Each}
+use Rattle.basics.specs.Search.{Each}
 use Rattle.text.specs.Bytes.{cut}
 use Rattle.text.specs.Lines.{keyNumber, firstLine}
 use Rattle.spelling.specs.Spelling.{isName}

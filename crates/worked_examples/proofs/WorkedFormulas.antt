@@ -1,15 +1,15 @@
 -- The worked examples by the completion formulas hold.
 -- Assumes nothing.
 use mathlib.Core.Path.{refl}
-use Rattle.search.specs.Search.{Each}
-use Rattle.search.proofs.Lists.{each-mapped}
+use Rattle.basics.specs.Search.{Each}
+use Rattle.basics.proofs.Lists.{each-mapped}
 use Rattle.logic_programs.specs.Literals.{complement, setOf, holdsTrue, holdsFalse}
 use Rattle.logic_programs.specs.Words.{rulesOf, badRule}
-use Rattle.literal_completion.specs.Findings.{judged, finding}
-use Rattle.literal_completion.specs.LevelLists.{badLevels}
-use Rattle.literal_completion.specs.Answers.{answer, answerByLevels}
-use Rattle.literal_completion.specs.Examples as of-crate
-use Rattle.literal_completion.proofs.Examples as of-crate-holds
+use Rattle.completion_theory.specs.Findings.{judged, finding}
+use Rattle.completion_theory.specs.LevelLists.{badLevels}
+use Rattle.completion_theory.specs.Answers.{answer, answerByLevels}
+use Rattle.completion_theory.specs.Examples as of-crate
+use Rattle.completion_theory.proofs.Examples as of-crate-holds
 use Rattle.worked_examples.specs.Examples.{Holds}
 use Rattle.worked_examples.specs.Formulas.{fromFormulas, fromLevels, crateFormulas, crateLevels, formulaExamples}
 

@@ -2,17 +2,17 @@
 -- Assumes nothing.
 use mathlib.Core.Path.{refl}
 use native.Mathlib.Omega.{arith}
-use Rattle.search.specs.Search.{Each}
+use Rattle.basics.specs.Search.{Each}
 use Rattle.logic_programs.specs.Literals.{complement, setOf, holdsTrue, holdsFalse}
 use Rattle.answer_sets.specs.Verdicts.{verdict}
 use Rattle.logic_programs.specs.Words.{rulesOf, badRule}
 use Rattle.answer_sets.specs.Answers as engine
-use Rattle.description.specs.Acceptance.{badRecord, badHorizon}
+use Rattle.action_language.specs.Acceptance.{badRecord, badHorizon}
 use Rattle.translation.specs.Rules.{translation}
 use Rattle.translation.specs.Translated as translated
-use Rattle.history.specs.Checks as history
-use Rattle.causal.specs.Verdicts.{causalVerdict}
-use Rattle.causal.specs.Readings as causal
+use Rattle.history_check.specs.Checks as history
+use Rattle.causal_reading.specs.Verdicts.{causalVerdict}
+use Rattle.causal_reading.specs.Readings as causal
 use Rattle.text.specs.Bytes.{cut}
 use Rattle.text.specs.Lines.{keyNumber, firstLine}
 use Rattle.spelling.specs.Spelling.{isName}

@@ -7,8 +7,8 @@ use mathlib.Core.Option.{none}
 use Prim.Native.Nat.{ℕ, zero, suc, _+_}
 use lib.Dec.{eqb, ltb}
 use lib.ListN.{length, replicate, length-append, length-replicate}
-use Rattle.search.specs.Search.{Each, first}
-use Rattle.search.specs.Replies.{refused, answered}
+use Rattle.basics.specs.Search.{Each, first}
+use Rattle.basics.specs.Replies.{refused, answered}
 use Rattle.text.specs.Bytes.{cut, cutAt, newline}
 use Rattle.text.specs.Lines.{keyNumber, ended, firstLine}
 use Rattle.spelling.specs.Spelling.{isName}

@@ -1,20 +1,20 @@
 -- The worked examples by records and values hold, and those of 000.
 -- Assumes nothing.
 use mathlib.Core.Path.{refl}
-use Rattle.search.specs.Search.{Each}
-use Rattle.search.proofs.Lists.{each-mapped}
+use Rattle.basics.specs.Search.{Each}
+use Rattle.basics.proofs.Lists.{each-mapped}
 use Rattle.logic_programs.specs.Literals.{complement, setOf, holdsTrue, holdsFalse}
 use Rattle.answer_sets.specs.Verdicts.{verdict}
 use Rattle.logic_programs.specs.Words.{rulesOf, badRule}
 use Rattle.answer_sets.specs.Answers as engine
 use Rattle.answer_sets.specs.Examples as engine-list
 use Rattle.answer_sets.proofs.Examples as engine-list-holds
-use Rattle.description.specs.Acceptance.{badRecord, badHorizon}
+use Rattle.action_language.specs.Acceptance.{badRecord, badHorizon}
 use Rattle.translation.specs.Rules.{translation}
 use Rattle.translation.specs.Translated as translated
-use Rattle.history.specs.Checks as history
-use Rattle.causal.specs.Verdicts.{causalVerdict}
-use Rattle.causal.specs.Readings as causal
+use Rattle.history_check.specs.Checks as history
+use Rattle.causal_reading.specs.Verdicts.{causalVerdict}
+use Rattle.causal_reading.specs.Readings as causal
 use Rattle.worked_examples.specs.Examples.{Holds}
 use Rattle.worked_examples.specs.Worked.{fromEngine, recordExamples, engineExamples, paperExamples}
 

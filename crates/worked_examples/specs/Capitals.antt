@@ -6,12 +6,12 @@ use mathlib.Core.List.{List, [], _∷_, _++_, map}
 use Prim.Native.Nat.{ℕ, _-_}
 use lib.Dec.{eqb}
 use lib.ListN.{replicate}
-use Rattle.search.specs.Replies.{refused, answered}
-use Rattle.description.specs.declared.Head.the-variants.{Lit, False}
-use Rattle.description.specs.declared.Kind.the-variants.{Static, Dynamic}
-use Rattle.description.specs.declared.Law.{Law}
-use Rattle.description.specs.Laws.{lawOf}
-use Rattle.description.specs.Examples.{recipeLaws}
+use Rattle.basics.specs.Replies.{refused, answered}
+use Rattle.action_language.specs.declared.Head.the-variants.{Lit, False}
+use Rattle.action_language.specs.declared.Kind.the-variants.{Static, Dynamic}
+use Rattle.action_language.specs.declared.Law.{Law}
+use Rattle.action_language.specs.Laws.{lawOf}
+use Rattle.action_language.specs.Examples.{recipeLaws}
 use Rattle.spelling.specs.Letters.{isSmall}
 use Rattle.description_reader.specs.Descriptions.{read}
 use Rattle.written_form.specs.Writing.{inFull, asCauses, Spelling}

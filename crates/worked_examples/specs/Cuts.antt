@@ -4,15 +4,15 @@
 use mathlib.Core.List.{List, [], _∷_, _++_}
 use Prim.Native.Nat.{ℕ, _-_}
 use lib.ListN.{drop}
-use Rattle.search.specs.Replies.{refused, answered}
+use Rattle.basics.specs.Replies.{refused, answered}
 use Rattle.answer_sets.specs.Verdicts.{broken, unfounded, passes}
-use Rattle.literal_completion.specs.Findings as formulas
-use Rattle.description.specs.declared.Law.{Law}
-use Rattle.description.specs.declared.Description.{Description}
-use Rattle.description.specs.Examples.{recipe, recipeLaws, door, doorLaws, water, waterLaws}
+use Rattle.completion_theory.specs.Findings as formulas
+use Rattle.action_language.specs.declared.Law.{Law}
+use Rattle.action_language.specs.declared.Description.{Description}
+use Rattle.action_language.specs.Examples.{recipe, recipeLaws, door, doorLaws, water, waterLaws}
 use Rattle.translation.specs.Translated.{tableFor}
-use Rattle.history.specs.Checks.{judged}
-use Rattle.causal.specs.Verdicts.{contradicted, uncaused, path}
+use Rattle.history_check.specs.Checks.{judged}
+use Rattle.causal_reading.specs.Verdicts.{contradicted, uncaused, path}
 use Rattle.cut_and_join.specs.Halves.{withHorizon, joined}
 use Rattle.worked_examples.specs.Texts.{recipeText}
 use Rattle.worked_examples.specs.Outputs.{passedOutput, passedLines}

@@ -5,21 +5,21 @@ use mathlib.Core.Bool.{Bool, true, false}
 use mathlib.Core.List.{List, [], _∷_}
 use Prim.Native.Nat.{ℕ}
 use lib.ListN.{length}
-use Rattle.search.specs.Search.{chosen, tuples}
-use Rattle.search.specs.Replies.{Reply, refused, answered}
+use Rattle.basics.specs.Search.{chosen, tuples}
+use Rattle.basics.specs.Replies.{Reply, refused, answered}
 use Rattle.answer_sets.specs.Verdicts.{Verdict}
 use Rattle.answer_sets.specs.Answers as engine
-use Rattle.literal_completion.specs.Findings as formulas
-use Rattle.literal_completion.specs.Answers as completion
-use Rattle.description.specs.declared.Law.{Law}
-use Rattle.description.specs.declared.Description.{Description}
+use Rattle.completion_theory.specs.Findings as formulas
+use Rattle.completion_theory.specs.Answers as completion
+use Rattle.action_language.specs.declared.Law.{Law}
+use Rattle.action_language.specs.declared.Description.{Description}
 use Rattle.translation.specs.Translated as translated
 use Rattle.translation.specs.Translated.{Written}
-use Rattle.history.specs.Checks as history
-use Rattle.history.specs.Checks.{Finding}
+use Rattle.history_check.specs.Checks as history
+use Rattle.history_check.specs.Checks.{Finding}
 use Rattle.former_answers.specs.Former.{formerChecked, formerAnswer, formerAnswerByLevels}
-use Rattle.causal.specs.Verdicts.{Causal, contradicted, uncaused, path, causalVerdict}
-use Rattle.causal.specs.Readings as causal
+use Rattle.causal_reading.specs.Verdicts.{Causal, contradicted, uncaused, path, causalVerdict}
+use Rattle.causal_reading.specs.Readings as causal
 use Rattle.cut_and_join.specs.Halves.{firstSteps, laterSteps, lastState, firstState, joined}
 use Rattle.description_reader.specs.Descriptions.{Taken, described}
 use Rattle.description_reader.specs.Answers.{recordOf, lawsLeft}

@@ -4,11 +4,11 @@
 use mathlib.Core.List.{List, [], _∷_, _++_}
 use Prim.Native.Nat.{ℕ}
 use lib.ListN.{replicate}
-use Rattle.search.specs.Replies.{Reply, refused, answered}
+use Rattle.basics.specs.Replies.{Reply, refused, answered}
 use Rattle.answer_sets.specs.Verdicts.{clash}
-use Rattle.literal_completion.specs.Findings as formulas
-use Rattle.description.specs.Examples.{recipe, recipeLaws}
-use Rattle.history.specs.Checks.{Finding, missing, judged}
+use Rattle.completion_theory.specs.Findings as formulas
+use Rattle.action_language.specs.Examples.{recipe, recipeLaws}
+use Rattle.history_check.specs.Checks.{Finding, missing, judged}
 use Rattle.worked_examples.specs.Tables.{recipeTable}
 use Rattle.worked_examples.specs.Texts.{recipeText}
 use Rattle.worked_examples.specs.Outputs.{m4Output, m5Output}

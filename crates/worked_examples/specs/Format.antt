@@ -3,13 +3,13 @@
 use mathlib.Core.List.{List, [], _∷_, _++_, map}
 use Prim.Native.Nat.{ℕ}
 use lib.ListN.{replicate}
-use Rattle.search.specs.Search.{range}
-use Rattle.search.specs.Replies.{Reply, refused, answered}
-use Rattle.description.specs.declared.Head.the-variants.{Lit, False}
-use Rattle.description.specs.declared.Kind.the-variants.{Static, Dynamic}
-use Rattle.description.specs.declared.Law.{Law}
-use Rattle.description.specs.Laws.{lawOf}
-use Rattle.description.specs.Examples.{doorLaws}
+use Rattle.basics.specs.Search.{range}
+use Rattle.basics.specs.Replies.{Reply, refused, answered}
+use Rattle.action_language.specs.declared.Head.the-variants.{Lit, False}
+use Rattle.action_language.specs.declared.Kind.the-variants.{Static, Dynamic}
+use Rattle.action_language.specs.declared.Law.{Law}
+use Rattle.action_language.specs.Laws.{lawOf}
+use Rattle.action_language.specs.Examples.{doorLaws}
 use Rattle.description_reader.specs.LineSteps.{Draft}
 use Rattle.description_reader.specs.Descriptions.{read}
 use Rattle.worked_examples.specs.Texts.{doorText, doorHistoryText, tinyText, tinyLines, withHorizon, withFluent, smallNames, endText, smallText}

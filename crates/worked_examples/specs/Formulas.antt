@@ -3,10 +3,10 @@
 -- Assumes nothing.
 use mathlib.Core.List.{List, [], _∷_, _++_, map}
 use Prim.Native.Nat.{ℕ}
-use Rattle.search.specs.Replies.{refused, answered}
+use Rattle.basics.specs.Replies.{refused, answered}
 use Rattle.logic_programs.specs.Rules.{lit, falsum}
-use Rattle.literal_completion.specs.Findings.{missing, clash, fails, holds}
-use Rattle.literal_completion.specs.Examples as of-crate
+use Rattle.completion_theory.specs.Findings.{missing, clash, fails, holds}
+use Rattle.completion_theory.specs.Examples as of-crate
 use Rattle.worked_examples.specs.Tables.{recipeTable, doorTable1, waterTable1}
 use Rattle.worked_examples.specs.Program11.{program11}
 use Rattle.worked_examples.specs.Transitions.{doorTransitions, waterTransitions}

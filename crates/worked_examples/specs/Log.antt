@@ -5,10 +5,10 @@ use mathlib.Core.Bool.{Bool}
 use mathlib.Core.List.{List, [], _∷_, _++_}
 use Prim.Native.Nat.{ℕ}
 use lib.Dec.{eqb}
-use Rattle.search.specs.Replies.{refused, answered}
+use Rattle.basics.specs.Replies.{refused, answered}
 use Rattle.answer_sets.specs.Verdicts.{clash}
-use Rattle.description.specs.Examples.{recipe, recipeLaws}
-use Rattle.history.specs.Checks.{missing, judged}
+use Rattle.action_language.specs.Examples.{recipe, recipeLaws}
+use Rattle.history_check.specs.Checks.{missing, judged}
 use Rattle.written_form.specs.Writing.{asDeclared}
 use Rattle.written_form.specs.HistoryWriting.{everyAction, onlyDone}
 use Rattle.worked_examples.specs.Texts.{recipeText, historyText, m2Text}

@@ -2,7 +2,7 @@
 -- Assumes nothing.
 use mathlib.Core.List.{List, [], _∷_, _++_}
 use Prim.Native.Nat.{ℕ}
-use Rattle.description.specs.Examples.{recipeLaws}
+use Rattle.action_language.specs.Examples.{recipeLaws}
 use Rattle.description_reader.specs.LineSteps.{Draft}
 
 -- locked, flowed

@@ -6,16 +6,16 @@
 use mathlib.Core.List.{List, [], _∷_, _++_, map}
 use Prim.Native.Nat.{ℕ}
 use lib.ListN.{replicate}
-use Rattle.search.specs.Search.{tuples}
-use Rattle.search.specs.Replies.{Reply, refused, answered}
+use Rattle.basics.specs.Search.{tuples}
+use Rattle.basics.specs.Replies.{Reply, refused, answered}
 use Rattle.answer_sets.specs.Verdicts.{clash, broken, unfounded, passes}
 use Rattle.answer_sets.specs.Examples as engine-examples
-use Rattle.description.specs.declared.Law.{Law}
-use Rattle.description.specs.declared.Description.{Description}
-use Rattle.description.specs.Examples.{recipe, recipeLaws, door, doorLaws, water, waterLaws, largest, largestLaws}
+use Rattle.action_language.specs.declared.Law.{Law}
+use Rattle.action_language.specs.declared.Description.{Description}
+use Rattle.action_language.specs.Examples.{recipe, recipeLaws, door, doorLaws, water, waterLaws, largest, largestLaws}
 use Rattle.translation.specs.Translated.{written}
-use Rattle.history.specs.Checks.{Finding, missing, judged}
-use Rattle.causal.specs.Verdicts.{Causal, contradicted, uncaused, path}
+use Rattle.history_check.specs.Checks.{Finding, missing, judged}
+use Rattle.causal_reading.specs.Verdicts.{Causal, contradicted, uncaused, path}
 use Rattle.cut_and_join.specs.Halves.{withHorizon}
 use Rattle.description_reader.specs.Descriptions.{read}
 use Rattle.written_form.specs.Writing.{inFull, asDeclared}

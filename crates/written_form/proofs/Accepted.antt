@@ -10,8 +10,8 @@ use borrow.Author.Tests.{ltb-true, ltb-false}
 use lib.Dec.{ltb}
 use lib.ListN.{length, getD, drop, length-append, List·getD-append, List·getD-eq-default}
 use lib.Seq.{getD-append-add}
-use Rattle.search.specs.Replies.{refused, answered}
-use Rattle.description.specs.declared.Law.{Law}
+use Rattle.basics.specs.Replies.{refused, answered}
+use Rattle.action_language.specs.declared.Law.{Law}
 use Rattle.written_form.specs.Writable.{Writable, linesWritten, draftWritten}
 use Rattle.spelling.specs.Spelling.{isName}
 use Rattle.description_reader.specs.Descriptions.{read, described}

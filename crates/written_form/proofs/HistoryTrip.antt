@@ -8,10 +8,10 @@ use native.Mathlib.Omega.{arith}
 use borrow.Author.Tests.{le-ltb, eq-eqb}
 use lib.ListN.{length, getD, take, drop, replicate, length-append, length-map, length-take, length-drop, take-append-drop, drop-of-length-le}
 use lib.Seq.{take-all, length-take-le}
-use Rattle.search.proofs.Tests.{each-map, each-append}
-use Rattle.search.specs.Replies.{Reply, answered}
-use Rattle.description.specs.Atoms.{atomCount}
-use Rattle.description.specs.declared.Law.{Law}
+use Rattle.basics.proofs.Tests.{each-map, each-append}
+use Rattle.basics.specs.Replies.{Reply, answered}
+use Rattle.action_language.specs.Atoms.{atomCount}
+use Rattle.action_language.specs.declared.Law.{Law}
 use Rattle.written_form.specs.Writable.{Writable, draftWritten, AreNames, Distinct}
 use Rattle.text.specs.Lines.{keys, noKey, stateKey, actKey, endKey, firstLine}
 use Rattle.text.specs.Lists.{Listed}

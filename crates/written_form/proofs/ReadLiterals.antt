@@ -9,7 +9,7 @@ use native.Mathlib.Omega.{arith}
 use borrow.Author.Tests.{le-leb, lt-ltb, eqb-true}
 use lib.Dec.{eqb, ltb, leb}
 use lib.ListN.{length, getD}
-use Rattle.search.proofs.Tests.{first-some}
+use Rattle.basics.proofs.Tests.{first-some}
 use Rattle.spelling.specs.Letters.{lowered}
 use Rattle.text.specs.Bytes.{comma, hyphen}
 use Rattle.spelling.specs.Spelling.{sameName, falseBytes, isName}

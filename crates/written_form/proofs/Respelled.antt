@@ -10,10 +10,10 @@ use native.Mathlib.Omega.{arith}
 use borrow.Author.Tests.{ltb-true, ltb-false, ne-eqb}
 use lib.Dec.{eqb, ltb}
 use lib.ListN.{length, length-append, replicate}
-use Rattle.search.specs.Replies as replies
-use Rattle.search.specs.Replies.{Reply, orRefuse}
-use Rattle.search.proofs.Tests.{not-both}
-use Rattle.description.specs.Atoms.{wrongLength}
+use Rattle.basics.specs.Replies as replies
+use Rattle.basics.specs.Replies.{Reply, orRefuse}
+use Rattle.basics.proofs.Tests.{not-both}
+use Rattle.action_language.specs.Atoms.{wrongLength}
 use Rattle.text.specs.Bytes.{newline, equalsSign, Cut, cut}
 use Rattle.text.specs.Lines.{keyNumber, staticKey, dynamicKey, ifKey, afterKey, stateKey, actKey, endKey, defaultKey, inertialKey, causesKey, byKey, nonexecutableKey, noKey}
 use Rattle.text.specs.Lines.{Line, keyed, valued, ended, firstLine}

@@ -8,9 +8,9 @@ use Prim.Native.Nat.{ℕ, suc, _+_, _-_, _≤_, _<_}
 use native.Mathlib.Omega.{arith}
 use borrow.Author.Tests.{le-ltb}
 use lib.ListN.{length, length-append}
-use Rattle.search.proofs.Tests.{each-append}
-use Rattle.search.specs.Replies.{answered}
-use Rattle.description.specs.declared.Law.{Law}
+use Rattle.basics.proofs.Tests.{each-append}
+use Rattle.basics.specs.Replies.{answered}
+use Rattle.action_language.specs.declared.Law.{Law}
 use Rattle.written_form.specs.Writable.{Writable, lawsLines, linesWritten, draftWritten, AreNames, Distinct, draft}
 use Rattle.text.specs.Bytes.{newline}
 use Rattle.text.specs.Lines.{horizonKey, fluentKey, actionKey, staticKey, endKey, noKey}

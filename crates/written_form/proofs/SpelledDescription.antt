@@ -7,14 +7,14 @@ use Prim.Native.Nat.{ℕ, suc, _+_, _/_, _%_, _≤_, _<_}
 use native.Mathlib.Omega.{arith}
 use lib.Dec.{eqb}
 use lib.ListN.{length, getD, length-append}
-use Rattle.search.specs.Replies.{Reply, answered}
-use Rattle.search.proofs.Tests.{each-append}
-use Rattle.description.specs.declared.Head.{Head}
-use Rattle.description.specs.declared.Head.the-variants.{Lit, False}
-use Rattle.description.specs.declared.Kind.{Kind}
-use Rattle.description.specs.declared.Kind.the-variants.{Static, Dynamic}
-use Rattle.description.specs.declared.Law.{Law}
-use Rattle.description.specs.Laws.{ifList, afterList}
+use Rattle.basics.specs.Replies.{Reply, answered}
+use Rattle.basics.proofs.Tests.{each-append}
+use Rattle.action_language.specs.declared.Head.{Head}
+use Rattle.action_language.specs.declared.Head.the-variants.{Lit, False}
+use Rattle.action_language.specs.declared.Kind.{Kind}
+use Rattle.action_language.specs.declared.Kind.the-variants.{Static, Dynamic}
+use Rattle.action_language.specs.declared.Law.{Law}
+use Rattle.action_language.specs.Laws.{ifList, afterList}
 use Rattle.spelling.specs.Spelling.{falseBytes, isName}
 use Rattle.text.specs.Bytes.{newline, comma, hyphen, equalsSign}
 use Rattle.text.specs.Lines.{keys, horizonKey, fluentKey, actionKey, staticKey, dynamicKey, ifKey, afterKey, endKey, noKey}

@@ -5,9 +5,9 @@ use mathlib.Core.Bool.{Bool, true}
 use mathlib.Core.List.{List, [], _++_}
 use Prim.Native.Nat.{ℕ, zero, suc, _≤_}
 use lib.ListN.{length, take, drop}
-use Rattle.search.specs.Replies.{Reply, answered}
-use Rattle.description.specs.Atoms.{atomCount}
-use Rattle.description.specs.declared.Law.{Law}
+use Rattle.basics.specs.Replies.{Reply, answered}
+use Rattle.action_language.specs.Atoms.{atomCount}
+use Rattle.action_language.specs.declared.Law.{Law}
 use Rattle.text.specs.Lines.{stateKey, actKey, endKey}
 use Rattle.history_values.specs.Values.{ActionsValued}
 use Rattle.history_reader.specs.Histories.{readHistory}

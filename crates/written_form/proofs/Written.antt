@@ -7,17 +7,17 @@ use Prim.Native.Nat.{ℕ, _+_, _*_, _≤_}
 use native.Mathlib.Omega.{arith}
 use lib.ListN.{length, length-take, length-append}
 use lib.Seq.{take-append-seam}
-use Rattle.search.specs.Search.{Each}
-use Rattle.search.proofs.Tests.{each-map}
-use Rattle.description.specs.declared.Head.{Head}
-use Rattle.description.specs.declared.Kind.{Kind}
-use Rattle.description.specs.declared.Kind.the-variants.{Static, Dynamic}
-use Rattle.description.specs.declared.Law.{Law}
-use Rattle.description.specs.Laws.{ifList}
-use Rattle.description.specs.Acceptance.{lawFits}
-use Rattle.description.proofs.Laws.{fits-if, fits-after}
-use Rattle.description.proofs.Fits.{CodesBelow, HeadBelow, AfterBelow, law-fits}
-use Rattle.description.specs.Laws.{lawOf}
+use Rattle.basics.specs.Search.{Each}
+use Rattle.basics.proofs.Tests.{each-map}
+use Rattle.action_language.specs.declared.Head.{Head}
+use Rattle.action_language.specs.declared.Kind.{Kind}
+use Rattle.action_language.specs.declared.Kind.the-variants.{Static, Dynamic}
+use Rattle.action_language.specs.declared.Law.{Law}
+use Rattle.action_language.specs.Laws.{ifList}
+use Rattle.action_language.specs.Acceptance.{lawFits}
+use Rattle.action_language.proofs.Laws.{fits-if, fits-after}
+use Rattle.action_language.proofs.Fits.{CodesBelow, HeadBelow, AfterBelow, law-fits}
+use Rattle.action_language.specs.Laws.{lawOf}
 use Rattle.reader_bounds.specs.Accepts.{aftersOf, Tidy}
 use Rattle.written_form.specs.Writable.{Writable}
 

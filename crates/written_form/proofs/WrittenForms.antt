@@ -6,14 +6,14 @@ use mathlib.Core.List.{List, [], _∷_}
 use Prim.Native.Nat.{ℕ, _*_, _≤_}
 use borrow.Author.Tests.{eq-eqb}
 use lib.ListN.{length}
-use Rattle.search.proofs.Tests.{not-both, and-iff, and₃-iff}
-use Rattle.description.specs.declared.Head.{Head}
-use Rattle.description.specs.declared.Head.the-variants.{Lit, False}
-use Rattle.description.specs.declared.Kind.{Kind}
-use Rattle.description.specs.declared.Kind.the-variants.{Static, Dynamic}
-use Rattle.description.specs.declared.Law.{Law}
-use Rattle.description.specs.Laws.{isStatic, ifList, afterList, lawOf}
-use Rattle.description.proofs.Fits.{CodesBelow}
+use Rattle.basics.proofs.Tests.{not-both, and-iff, and₃-iff}
+use Rattle.action_language.specs.declared.Head.{Head}
+use Rattle.action_language.specs.declared.Head.the-variants.{Lit, False}
+use Rattle.action_language.specs.declared.Kind.{Kind}
+use Rattle.action_language.specs.declared.Kind.the-variants.{Static, Dynamic}
+use Rattle.action_language.specs.declared.Law.{Law}
+use Rattle.action_language.specs.Laws.{isStatic, ifList, afterList, lawOf}
+use Rattle.action_language.proofs.Fits.{CodesBelow}
 use Rattle.line_values.specs.ShortLaws.{defaultLaw, inertialLaw, causesLaw, nonexecutableLaw}
 use Rattle.reader_bounds.specs.Accepts.{aftersOf, Tidy}
 use Rattle.written_form.specs.Writing.{Form, inFull, asDefault, asInertial, asCauses, asNonexecutable, onlyHead, isFalse, hasForm, writtenAs}

@@ -7,13 +7,13 @@ use mathlib.Core.Option.{some}
 use Prim.Native.Nat.{ℕ, suc, _+_, _*_, _≤_, _<_, min}
 use native.Mathlib.Omega.{arith}
 use lib.ListN.{length, length-append}
-use Rattle.search.specs.Search.{Each}
-use Rattle.description.specs.declared.Head.the-variants.{Lit}
-use Rattle.description.specs.declared.Kind.{Kind}
-use Rattle.description.specs.declared.Kind.the-variants.{Static, Dynamic}
-use Rattle.description.specs.declared.Law.{Law}
-use Rattle.description.specs.Laws.{ifList, afterList, lawOf}
-use Rattle.description.proofs.Fits.{CodesBelow, HeadBelow}
+use Rattle.basics.specs.Search.{Each}
+use Rattle.action_language.specs.declared.Head.the-variants.{Lit}
+use Rattle.action_language.specs.declared.Kind.{Kind}
+use Rattle.action_language.specs.declared.Kind.the-variants.{Static, Dynamic}
+use Rattle.action_language.specs.declared.Law.{Law}
+use Rattle.action_language.specs.Laws.{ifList, afterList, lawOf}
+use Rattle.action_language.proofs.Fits.{CodesBelow, HeadBelow}
 use Rattle.reader_bounds.specs.Accepts.{aftersOf, Tidy}
 use Rattle.text.specs.Lines.{staticKey, dynamicKey, ifKey, afterKey, defaultKey, inertialKey, causesKey, byKey, nonexecutableKey, noKey}
 use Rattle.text.specs.Names.{literal}

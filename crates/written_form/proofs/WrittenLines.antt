@@ -11,9 +11,9 @@ use borrow.Author.Tests.{eq-eqb, eqb-true, not-true}
 use lib.Dec.{eqb}
 use lib.ListN.{length, getD, drop}
 use lib.Seq.{take-append-seam}
-use Rattle.search.specs.Search.{all, Each, first, range}
-use Rattle.search.proofs.Tests.{not-both, and₃-iff, all-each, each-map, each-append}
-use Rattle.search.proofs.Lists.{none-iff, each-range}
+use Rattle.basics.specs.Search.{all, Each, first, range}
+use Rattle.basics.proofs.Tests.{not-both, and₃-iff, all-each, each-map, each-append}
+use Rattle.basics.proofs.Lists.{none-iff, each-range}
 use Rattle.text.specs.Bytes.{newline, equalsSign, cutAt, cut}
 use Rattle.text.specs.Lines.{keys, noKey, keyNumber, keyed, valued, ended, firstLine}
 use Rattle.written_form.specs.Writing.{lineText}

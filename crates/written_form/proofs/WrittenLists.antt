@@ -6,11 +6,11 @@ use Prim.Native.Nat.{ℕ, zero, suc, _+_, _*_, _/_, _≤_, _<_}
 use native.Mathlib.Omega.{arith}
 use borrow.Author.Tests.{lt-ltb}
 use lib.ListN.{length, length-append}
-use Rattle.search.specs.Search.{Each}
-use Rattle.search.proofs.Tests.{each-map, each-append}
-use Rattle.description.specs.declared.Head.{Head}
-use Rattle.description.specs.declared.Head.the-variants.{Lit, False}
-use Rattle.description.proofs.Fits.{CodesBelow}
+use Rattle.basics.specs.Search.{Each}
+use Rattle.basics.proofs.Tests.{each-map, each-append}
+use Rattle.action_language.specs.declared.Head.{Head}
+use Rattle.action_language.specs.declared.Head.the-variants.{Lit, False}
+use Rattle.action_language.proofs.Fits.{CodesBelow}
 use Rattle.written_form.specs.Writable.{AreNames, Distinct}
 use Rattle.text.specs.Bytes.{newline, comma, cut}
 use Rattle.text.specs.Names.{literal}

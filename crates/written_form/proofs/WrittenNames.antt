@@ -10,12 +10,12 @@ use native.Mathlib.Omega.{arith}
 use borrow.Author.Tests.{le-leb, lt-ltb, ne-eqb, eqb-true, eqb-false}
 use lib.Dec.{eqb}
 use lib.ListN.{length, getD}
-use Rattle.search.specs.Search.{Each, first}
-use Rattle.search.proofs.Tests.{not-both, each-map, each-at, each-append}
-use Rattle.search.proofs.Lists.{none-iff}
-use Rattle.description.specs.declared.Head.{Head}
-use Rattle.description.specs.declared.Head.the-variants.{Lit, False}
-use Rattle.description.proofs.Fits.{HeadBelow}
+use Rattle.basics.specs.Search.{Each, first}
+use Rattle.basics.proofs.Tests.{not-both, each-map, each-at, each-append}
+use Rattle.basics.proofs.Lists.{none-iff}
+use Rattle.action_language.specs.declared.Head.{Head}
+use Rattle.action_language.specs.declared.Head.the-variants.{Lit, False}
+use Rattle.action_language.proofs.Fits.{HeadBelow}
 use Rattle.spelling.specs.Letters.{isNameByte, lowered}
 use Rattle.text.specs.Bytes.{hyphen}
 use Rattle.written_form.specs.Writable.{AreNames, Distinct}

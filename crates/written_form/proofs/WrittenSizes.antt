@@ -7,15 +7,15 @@ use Prim.Native.Nat.{ℕ, suc, _+_, _*_, _/_, _%_, _≤_}
 use native.Mathlib.Omega.{arith}
 use lib.Dec.{ltb}
 use lib.ListN.{length, getD, length-append}
-use Rattle.search.specs.Search.{Each}
-use Rattle.search.proofs.Tests.{each-map, each-append}
-use Rattle.description.specs.declared.Head.{Head}
-use Rattle.description.specs.declared.Head.the-variants.{Lit, False}
-use Rattle.description.specs.declared.Kind.{Kind}
-use Rattle.description.specs.declared.Kind.the-variants.{Static, Dynamic}
-use Rattle.description.specs.declared.Law.{Law}
-use Rattle.description.specs.Laws.{ifList, afterList}
-use Rattle.description.proofs.Fits.{HeadBelow}
+use Rattle.basics.specs.Search.{Each}
+use Rattle.basics.proofs.Tests.{each-map, each-append}
+use Rattle.action_language.specs.declared.Head.{Head}
+use Rattle.action_language.specs.declared.Head.the-variants.{Lit, False}
+use Rattle.action_language.specs.declared.Kind.{Kind}
+use Rattle.action_language.specs.declared.Kind.the-variants.{Static, Dynamic}
+use Rattle.action_language.specs.declared.Law.{Law}
+use Rattle.action_language.specs.Laws.{ifList, afterList}
+use Rattle.action_language.proofs.Fits.{HeadBelow}
 use Rattle.reader_bounds.specs.Accepts.{aftersOf}
 use Rattle.written_form.specs.Writable.{formLines, lawsLines, linesWritten, Writable, AreNames}
 use Rattle.text.specs.Bytes.{newline, equalsSign}

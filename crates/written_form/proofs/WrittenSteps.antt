@@ -9,13 +9,13 @@ use native.Mathlib.Omega.{arith}
 use borrow.Author.Tests.{lt-ltb, ne-eqb}
 use lib.Dec.{eqb, ltb}
 use lib.ListN.{length}
-use Rattle.search.specs.Search.{all, range}
-use Rattle.search.proofs.Tests.{not-both}
-use Rattle.search.specs.Replies.{answered}
-use Rattle.description.specs.declared.Head.{Head}
-use Rattle.description.specs.declared.Kind.{Kind}
-use Rattle.description.specs.declared.Kind.the-variants.{Static, Dynamic}
-use Rattle.description.specs.declared.Law.{Law}
+use Rattle.basics.specs.Search.{all, range}
+use Rattle.basics.proofs.Tests.{not-both}
+use Rattle.basics.specs.Replies.{answered}
+use Rattle.action_language.specs.declared.Head.{Head}
+use Rattle.action_language.specs.declared.Kind.{Kind}
+use Rattle.action_language.specs.declared.Kind.the-variants.{Static, Dynamic}
+use Rattle.action_language.specs.declared.Law.{Law}
 use Rattle.text.specs.Bytes.{newline}
 use Rattle.text.specs.Lines.{horizonKey, fluentKey, actionKey, staticKey, dynamicKey, ifKey, afterKey, endKey, noKey}
 use Rattle.text.specs.Lines.{defaultKey, inertialKey, causesKey, byKey, nonexecutableKey}
@@ -27,7 +27,7 @@ use Rattle.line_values.specs.HorizonText.{horizonOf}
 use Rattle.line_values.specs.ShortLaws.{defaultLaw, inertialLaw, causesLaw, nonexecutableLaw}
 use Rattle.description_reader.specs.LineSteps.{Due, horizonDue, firstFluentDue, fluentDue, actionDue, lawDue, ifDue, afterDue, byDue, Draft, startsLaw, allowed, next, finish}
 use Rattle.description_reader.specs.LineSteps.{horizonLine, headOf, begun, lawLine, whole, ifLine, afterLine, wholeByLiteral, wholeByList, literalLine, fluentList, anyList, lineStep}
-use Rattle.description.specs.Laws.{lawOf}
+use Rattle.action_language.specs.Laws.{lawOf}
 use Rattle.description_reader.specs.Descriptions.{read, afterStep, afterFirst, linesFrom}
 use Rattle.written_form.specs.Writing.{lineText, horizonText}
 use Rattle.written_form.proofs.WrittenLines.{Lacks, answers, answers-some, passed-by, first-line}

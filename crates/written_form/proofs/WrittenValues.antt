@@ -9,8 +9,8 @@ use borrow.Author.Tests.{ne-eqb}
 use lib.Dec.{eqb}
 use lib.ListN.{length, take, drop, replicate, length-append, length-take, take-append-drop}
 use lib.Seq.{append-snoc, getD-at, set-at, getD-take, getD-drop}
-use Rattle.search.specs.Search.{Each}
-use Rattle.search.proofs.Tests.{each-at, each-map, each-append}
+use Rattle.basics.specs.Search.{Each}
+use Rattle.basics.proofs.Tests.{each-at, each-map, each-append}
 use Rattle.history_values.specs.Values.{withTrue, withFalse, marked, orFalse, filled, ActionsValued}
 use Rattle.history_values.proofs.Filling.{filled-middle}
 use Rattle.written_form.specs.HistoryWriting.{listedAt, codesFrom, actionsOrFalse}

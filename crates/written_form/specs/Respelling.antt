@@ -5,8 +5,8 @@ use mathlib.Core.Bool.{true, false}
 use mathlib.Core.List.{List, _∷_, _++_}
 use Prim.Native.Nat.{ℕ}
 use lib.Dec.{eqb}
-use Rattle.search.specs.Search.{Each}
-use Rattle.search.specs.Replies.{Reply, refused, answered}
+use Rattle.basics.specs.Search.{Each}
+use Rattle.basics.specs.Replies.{Reply, refused, answered}
 use Rattle.text.specs.Bytes.{newline}
 use Rattle.description_reader.specs.LineSteps.{Draft}
 use Rattle.description_reader.specs.Descriptions.{Taken, read, described}

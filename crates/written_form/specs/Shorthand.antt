@@ -4,8 +4,8 @@ use mathlib.Core.Path.{_≡_}
 use mathlib.Core.List.{List, []}
 use mathlib.Core.Option.{Option, none, some}
 use Prim.Native.Nat.{ℕ}
-use Rattle.search.specs.Replies as replies
-use Rattle.search.specs.Replies.{Reply, answered}
+use Rattle.basics.specs.Replies as replies
+use Rattle.basics.specs.Replies.{Reply, answered}
 use Rattle.text.specs.Lines.{staticKey, dynamicKey, ifKey, afterKey, defaultKey, inertialKey, causesKey, byKey, nonexecutableKey}
 use Rattle.spelling.specs.Spelling.{falseBytes}
 use Rattle.description_reader.specs.LineSteps.{Due, Draft, Step, refused, next, finish, lineStep}

@@ -5,11 +5,11 @@ use mathlib.Core.Bool.{true, false}
 use mathlib.Core.List.{List, [], _∷_, _++_}
 use Prim.Native.Nat.{ℕ, suc, _+_, _≤_}
 use lib.ListN.{length}
-use Rattle.search.specs.Search.{Each}
-use Rattle.description.specs.declared.Kind.{Kind}
-use Rattle.description.specs.declared.Kind.the-variants.{Static, Dynamic}
-use Rattle.description.specs.declared.Law.{Law}
-use Rattle.description.specs.Acceptance.{lawFits}
+use Rattle.basics.specs.Search.{Each}
+use Rattle.action_language.specs.declared.Kind.{Kind}
+use Rattle.action_language.specs.declared.Kind.the-variants.{Static, Dynamic}
+use Rattle.action_language.specs.declared.Law.{Law}
+use Rattle.action_language.specs.Acceptance.{lawFits}
 use Rattle.spelling.specs.Spelling.{sameName, isName}
 use Rattle.description_reader.specs.LineSteps.{Draft}
 use Rattle.reader_bounds.specs.Accepts.{Tidy}

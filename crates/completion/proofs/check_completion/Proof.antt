@@ -3,7 +3,7 @@
 use mathlib.Core.Path.{sym, ap, _∙_}
 use Rattle.completion.specs.Internal.{testedOf}
 use Rattle.completion.proofs.Testing.{accepts, says-refused, says-found, judge-ready}
-use Rattle.literal_completion.proofs.Theorems.{keeps-formulas}
+use Rattle.completion_theory.proofs.Theorems.{keeps-formulas}
 use borrow.Author.Needs.{needs}
 use Rattle.completion.proofs.check_completion.Statement.{statement}
 use Rattle.completion.proofs.check_completion.Tie as tie

@@ -1,8 +1,8 @@
 -- `completion::judge` meets its contract.
 -- Assumes nothing.
 use mathlib.Core.Path.{ap}
-use Rattle.search.specs.Replies.{answered}
-use Rattle.search.proofs.Loops.{at-place, no-place}
+use Rattle.basics.specs.Replies.{answered}
+use Rattle.basics.proofs.Loops.{at-place, no-place}
 use Rattle.logic_programs.proofs.Values.{lowest-none-or-both}
 use Rattle.rule_tables.proofs.Walking.{accepted-sound}
 use Rattle.completion.specs.Internal.{marked}

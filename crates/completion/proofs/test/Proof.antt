@@ -1,6 +1,6 @@
 -- `completion::test` meets its contract.
 -- Assumes nothing.
-use Rattle.search.proofs.Loops.{at-place, no-place, refused-at, not-refused}
+use Rattle.basics.proofs.Loops.{at-place, no-place, refused-at, not-refused}
 use Rattle.completion.proofs.Testing.{says-10, says-11, says-12, says-accepted}
 use borrow.Author.Needs.{needs}
 use Rattle.completion.proofs.test.Statement.{statement}

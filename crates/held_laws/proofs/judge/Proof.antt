@@ -40,19 +40,19 @@ use denote.Triple.Table.{entered, cited}
 use denote.Triple.Walked.{Stays, stay-dropped, gave-slice, walkOf, goes-dropped, goes-gave-slice}
 use denote.Triple.Clauses.{lasts}
 use denote.Exit.{yes}
-use Rattle.description.specs.declared.Law.{Law}
-use Rattle.description.specs.declared.Description.{Description}
-use Rattle.description.proofs.Law as T
-use Rattle.description.proofs.Description as D
-use Rattle.description.proofs.Description.Laws as D′
-use Rattle.history.specs.declared.Checked.{Checked}
-use Rattle.history.specs.Checks as history
-use Rattle.history.proofs.Checked as CH
-use Rattle.history.proofs.Checked.Laws as CH′
-use Rattle.causal.specs.declared.Reading.{Reading}
-use Rattle.causal.specs.Readings as causal
-use Rattle.causal.proofs.Reading as RE
-use Rattle.causal.proofs.Reading.Laws as RE′
+use Rattle.action_language.specs.declared.Law.{Law}
+use Rattle.action_language.specs.declared.Description.{Description}
+use Rattle.action_language.proofs.Law as T
+use Rattle.action_language.proofs.Description as D
+use Rattle.action_language.proofs.Description.Laws as D′
+use Rattle.history_check.specs.declared.Checked.{Checked}
+use Rattle.history_check.specs.Checks as history
+use Rattle.history_check.proofs.Checked as CH
+use Rattle.history_check.proofs.Checked.Laws as CH′
+use Rattle.causal_reading.specs.declared.Reading.{Reading}
+use Rattle.causal_reading.specs.Readings as causal
+use Rattle.causal_reading.proofs.Reading as RE
+use Rattle.causal_reading.proofs.Reading.Laws as RE′
 use Rattle.held_laws.specs.declared.Judged.{Judged}
 use Rattle.correctness.specs.Promises.{PassesExactly, PathExactly}
 use Rattle.correctness.specs.CausalFaults.{NamesFault}

@@ -39,8 +39,8 @@ use denote.Triple.Spec.{Meets, tripleOf}
 use denote.Triple.Table.{entered, cited}
 use denote.Triple.Walked.{Stays, stay-dropped, walkOf, goes-dropped}
 use denote.Exit.{yes}
-use Rattle.description.specs.declared.Law.{Law}
-use Rattle.description.proofs.Law as T
+use Rattle.action_language.specs.declared.Law.{Law}
+use Rattle.action_language.proofs.Law as T
 use Rattle.description_reader.specs.Descriptions.{described}
 use Rattle.description_reader.specs.Answers.{replyOf, replied, recordOf, lawsLeft}
 use Rattle.lent_laws.specs.Taking.{TakesAccepted}

@@ -40,11 +40,11 @@ use denote.Triple.Table.{entered, cited}
 use denote.Triple.Walked.{Stays, stay-dropped, gave-slice, walkOf, goes-dropped, goes-gave-slice}
 use denote.Triple.Clauses.{lasts}
 use denote.Exit.{yes}
-use Rattle.description.specs.declared.Law.{Law}
-use Rattle.description.specs.declared.Description.{Description}
-use Rattle.description.proofs.Law as T
-use Rattle.description.proofs.Description as D
-use Rattle.description.proofs.Description.Laws as D′
+use Rattle.action_language.specs.declared.Law.{Law}
+use Rattle.action_language.specs.declared.Description.{Description}
+use Rattle.action_language.proofs.Law as T
+use Rattle.action_language.proofs.Description as D
+use Rattle.action_language.proofs.Description.Laws as D′
 use Rattle.translation.specs.declared.Translated.{Translated}
 use Rattle.translation.specs.Translated.{outcomeOf, outcome, tableAfter}
 use Rattle.translation.proofs.Translated as S

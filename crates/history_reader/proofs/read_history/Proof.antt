@@ -5,7 +5,7 @@ use mathlib.Core.Path.{_≡_, sym, _∙_, ap}
 use mathlib.Core.List.{List}
 use Prim.Native.Nat.{ℕ, _≤_}
 use lib.ListN.{length, drop}
-use Rattle.search.specs.Replies.{answered}
+use Rattle.basics.specs.Replies.{answered}
 use Rattle.text.proofs.Spelling.{spelled-length}
 use Rattle.description_reader.specs.Internal.{draftOf}
 use Rattle.history_reader.specs.declared.HistoryAnswer.the-variants.{Complete}

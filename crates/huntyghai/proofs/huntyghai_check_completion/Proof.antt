@@ -1,7 +1,7 @@
 -- `huntyghai_check_completion` meets its contract.
 -- Assumes nothing.
 use mathlib.Core.Path.{_∙_, ap, subst}
-use Rattle.literal_completion.specs.Meaning.{SaysFormulas}
+use Rattle.completion_theory.specs.Meaning.{SaysFormulas}
 use Rattle.answer_codes.specs.Codes.{replyCode}
 use Rattle.answer_codes.specs.FormulaCodes.{formulaCode}
 use Rattle.huntyghai.proofs.FormulaNumbers.{completion-numbered}

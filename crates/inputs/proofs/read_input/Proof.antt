@@ -6,8 +6,8 @@ use mathlib.Core.List.{List, _++_}
 use Prim.Native.Nat.{ℕ, _≤_}
 use native.Mathlib.Omega.{arith}
 use lib.ListN.{length, take, drop, replicate, length-take, length-drop, length-append}
-use Rattle.description.specs.declared.Description.{Description}
-use Rattle.description.specs.Atoms.{atomCount}
+use Rattle.action_language.specs.declared.Description.{Description}
+use Rattle.action_language.specs.Atoms.{atomCount}
 use Rattle.description_reader.specs.Descriptions.{described}
 use Rattle.description_reader.specs.Answers.{replyOf, recordOf, lawsLeft}
 use Rattle.history_reader.specs.Histories.{historyReplyOf, historyReplied}

@@ -38,10 +38,10 @@ use denote.Triple.Spec.{Meets, tripleOf}
 use denote.Triple.Table.{entered, cited}
 use denote.Triple.Walked.{says, Stays, stay-dropped, walkOf, goes-dropped, ends-at}
 use denote.Exit.{yes}
-use Rattle.description.specs.declared.Law.{Law}
-use Rattle.description.proofs.Law as T
-use Rattle.description.proofs.Law.Laws as T′
-use Rattle.description.specs.Laws.{noLaw}
+use Rattle.action_language.specs.declared.Law.{Law}
+use Rattle.action_language.proofs.Law as T
+use Rattle.action_language.proofs.Law.Laws as T′
+use Rattle.action_language.specs.Laws.{noLaw}
 use Rattle.law_runs.specs.Runs.{noLaws}
 use Rattle.law_runs.specs.Internal.{stored, gathered}
 use Rattle.law_runs.proofs.Walking.{walk-shows}

@@ -4,7 +4,7 @@ use mathlib.Core.Path.{sym, _∙_}
 use native.Mathlib.Omega.{arith}
 use borrow.Author.Needs.{needs}
 use lib.ListN.{List·getD-eq-default}
-use Rattle.description.specs.Laws.{noLaw}
+use Rattle.action_language.specs.Laws.{noLaw}
 use Rattle.law_runs.proofs.Stored.{getD-there}
 use Rattle.law_runs.proofs.law_at.Statement.{statement}
 use Rattle.law_runs.proofs.law_at.Tie as tie

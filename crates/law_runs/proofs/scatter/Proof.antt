@@ -47,10 +47,10 @@ use denote.Triple.Spec.{Meets, tripleOf}
 use denote.Triple.Table.{entered, cited}
 use denote.Triple.Walked.{Stays, stay-dropped, stay-slice, walkOf, goes-dropped, goes-slice}
 use denote.Exit.{yes}
-use Rattle.description.specs.declared.Law.{Law}
-use Rattle.description.proofs.Law as T
-use Rattle.description.proofs.Law.Laws as T′
-use Rattle.description.specs.Laws.{noLaw}
+use Rattle.action_language.specs.declared.Law.{Law}
+use Rattle.action_language.proofs.Law as T
+use Rattle.action_language.proofs.Law.Laws as T′
+use Rattle.action_language.specs.Laws.{noLaw}
 use Rattle.law_runs.specs.Internal.{stored, fitting, scattered}
 use Rattle.law_runs.proofs.Stored.{none-stored, next-stored, length-stored, fitting-room}
 use Rattle.law_runs.proofs.Walking.{walk-shows}

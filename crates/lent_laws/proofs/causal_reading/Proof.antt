@@ -1,4 +1,4 @@
--- `causal_reading` meets its contract: a walk of its MIR, by hand. The run is gathered, and `causal::causal_reading` does the work.
+-- `causal_reading` meets its contract: a walk of its MIR, by hand. The run is gathered, and `causal_reading::causal_reading` does the work.
 -- Assumes nothing.
 use mathlib.Core.Path.{_≡_, refl, _∙_}
 use Prim.Native.Nat.{ℕ}
@@ -35,19 +35,19 @@ use denote.Triple.Spec.{Meets, tripleOf}
 use denote.Triple.Table.{entered, cited}
 use denote.Triple.Walked.{Stays, stay-dropped, walkOf, goes-dropped}
 use denote.Exit.{yes}
-use Rattle.description.specs.declared.Law.{Law}
-use Rattle.description.specs.declared.Description.{Description}
-use Rattle.description.proofs.Law as T
-use Rattle.description.proofs.Description as D
-use Rattle.description.proofs.Description.Laws as D′
-use Rattle.causal.specs.declared.Reading.{Reading}
-use Rattle.causal.specs.Readings as readings
-use Rattle.causal.proofs.Reading as S
-use Rattle.causal.proofs.Reading.Laws as S′
-use Rattle.causal.proofs.causal_reading as core
-use Rattle.causal.proofs.causal_reading.Symbol as core-def
-use Rattle.causal.proofs.causal_reading.Symbol.{name as #core}
-use Rattle.causal.proofs.causal_reading.Met as core-thm
+use Rattle.action_language.specs.declared.Law.{Law}
+use Rattle.action_language.specs.declared.Description.{Description}
+use Rattle.action_language.proofs.Law as T
+use Rattle.action_language.proofs.Description as D
+use Rattle.action_language.proofs.Description.Laws as D′
+use Rattle.causal_reading.specs.declared.Reading.{Reading}
+use Rattle.causal_reading.specs.Readings as readings
+use Rattle.causal_reading.proofs.Reading as S
+use Rattle.causal_reading.proofs.Reading.Laws as S′
+use Rattle.causal_reading.proofs.causal_reading as core
+use Rattle.causal_reading.proofs.causal_reading.Symbol as core-def
+use Rattle.causal_reading.proofs.causal_reading.Symbol.{name as #core}
+use Rattle.causal_reading.proofs.causal_reading.Met as core-thm
 use Rattle.correctness.proofs.Demand3.{path-exactly}
 use Rattle.correctness.proofs.CausalFaults.{names-fault}
 use Rattle.law_runs.specs.Internal.{gathered}

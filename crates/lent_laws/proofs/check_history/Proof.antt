@@ -1,4 +1,4 @@
--- `check_history` meets its contract: a walk of its MIR, by hand. The run is gathered, and `history::check_history` does the work. The table goes to it for good, at its own lifetime and ghost name.
+-- `check_history` meets its contract: a walk of its MIR, by hand. The run is gathered, and `history_check::check_history` does the work. The table goes to it for good, at its own lifetime and ghost name.
 -- Assumes nothing.
 use mathlib.Core.Path.{_≡_, refl, _∙_}
 use Prim.Native.Nat.{ℕ}
@@ -37,19 +37,19 @@ use denote.Triple.Table.{entered, cited}
 use denote.Triple.Walked.{Stays, stay-dropped, gave-slice, walkOf, goes-dropped, goes-gave-slice}
 use denote.Triple.Clauses.{lasts}
 use denote.Exit.{yes}
-use Rattle.description.specs.declared.Law.{Law}
-use Rattle.description.specs.declared.Description.{Description}
-use Rattle.description.proofs.Law as T
-use Rattle.description.proofs.Description as D
-use Rattle.description.proofs.Description.Laws as D′
-use Rattle.history.specs.declared.Checked.{Checked}
-use Rattle.history.specs.Checks.{replyOf, checked, tableAfter}
-use Rattle.history.proofs.Checked as S
-use Rattle.history.proofs.Checked.Laws as S′
-use Rattle.history.proofs.check_history as core
-use Rattle.history.proofs.check_history.Symbol as core-def
-use Rattle.history.proofs.check_history.Symbol.{name as #core}
-use Rattle.history.proofs.check_history.Met as core-thm
+use Rattle.action_language.specs.declared.Law.{Law}
+use Rattle.action_language.specs.declared.Description.{Description}
+use Rattle.action_language.proofs.Law as T
+use Rattle.action_language.proofs.Description as D
+use Rattle.action_language.proofs.Description.Laws as D′
+use Rattle.history_check.specs.declared.Checked.{Checked}
+use Rattle.history_check.specs.Checks.{replyOf, checked, tableAfter}
+use Rattle.history_check.proofs.Checked as S
+use Rattle.history_check.proofs.Checked.Laws as S′
+use Rattle.history_check.proofs.check_history as core
+use Rattle.history_check.proofs.check_history.Symbol as core-def
+use Rattle.history_check.proofs.check_history.Symbol.{name as #core}
+use Rattle.history_check.proofs.check_history.Met as core-thm
 use Rattle.correctness.proofs.Demand3.{passes-exactly}
 use Rattle.law_runs.specs.Internal.{gathered}
 use Rattle.lent_laws.proofs.Agreement.{same-checked, same-checked-table}

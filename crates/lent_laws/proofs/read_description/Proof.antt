@@ -39,10 +39,10 @@ use denote.Triple.Table.{entered, cited}
 use denote.Triple.Walked.{Stays, stay-dropped, gave-slice, walkOf, goes-dropped, goes-gave-slice}
 use denote.Triple.Clauses.{lasts}
 use denote.Exit.{yes}
-use Rattle.description.specs.declared.Law.{Law}
-use Rattle.description.proofs.Law as T
+use Rattle.action_language.specs.declared.Law.{Law}
+use Rattle.action_language.proofs.Law as T
 use Rattle.description_reader.specs.declared.Described.{Described}
-use Rattle.search.specs.Replies.{Reply}
+use Rattle.basics.specs.Replies.{Reply}
 use Rattle.description_reader.specs.Descriptions.{Taken, described}
 use Rattle.description_reader.specs.Answers.{replyOf, replied, recordOf, lawsLeft}
 use Rattle.description_reader.proofs.Described as D

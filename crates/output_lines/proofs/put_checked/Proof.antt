@@ -2,8 +2,8 @@
 -- Assumes nothing.
 use native.Mathlib.Omega.{arith}
 use mathlib.Core.List.{_++_}
-use Rattle.history.specs.Checks as Checks
-use Rattle.causal.specs.Readings.{replyOf}
+use Rattle.history_check.specs.Checks as Checks
+use Rattle.causal_reading.specs.Readings.{replyOf}
 use Rattle.output_lines.specs.Printed.{countLines}
 use Rattle.output_lines.specs.Internal.{verdictBytes, causalBytes, verdictShown, causalShownAfter}
 use Rattle.output_lines.proofs.Stores.{both}

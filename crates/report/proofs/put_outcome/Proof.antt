@@ -2,7 +2,7 @@
 -- Assumes nothing.
 use mathlib.Core.Path.{_≡_, sym, ap, _∙_}
 use Rattle.translation.specs.Translated.{outcomeOf}
-use Rattle.history.specs.Checks.{replyOf, checked}
+use Rattle.history_check.specs.Checks.{replyOf, checked}
 use borrow.Author.Needs.{needs}
 use Rattle.report.proofs.put_outcome.Statement.{statement}
 use Rattle.report.proofs.put_outcome.Tie as tie

@@ -5,8 +5,8 @@ use mathlib.Core.Path.{_≡_, refl, sym, _∙_}
 use Prim.Native.Nat.{_≤_, _-_}
 use borrow.Author.Tests.{not-true, not-false}
 use lib.ListN.{length, drop}
-use Rattle.search.specs.Search.{all}
-use Rattle.search.proofs.Loops.{all-stop, all-go, all-done}
+use Rattle.basics.specs.Search.{all}
+use Rattle.basics.proofs.Loops.{all-stop, all-go, all-done}
 use Rattle.spelling.specs.Letters.{isNameByte}
 use Rattle.spelling.proofs.all_name_bytes.Statement.{statement}
 use Rattle.spelling.proofs.all_name_bytes.Tie as tie

@@ -6,9 +6,9 @@ use Prim.Native.Nat.{_+_, _*_, _≤_}
 use native.Mathlib.Omega.{arith}
 use borrow.Author.Needs.{needs}
 use borrow.Author.Tests.{lt-ltb, le-ltb}
-use Rattle.description.proofs.Laws.{accepted-counts, accepted-horizon}
-use Rattle.search.proofs.Loops.{refused-at, not-refused}
-use Rattle.description.specs.Acceptance.{badRecord, badHorizon}
+use Rattle.action_language.proofs.Laws.{accepted-counts, accepted-horizon}
+use Rattle.basics.proofs.Loops.{refused-at, not-refused}
+use Rattle.action_language.specs.Acceptance.{badRecord, badHorizon}
 use Rattle.translation.specs.Translated.{outcome, tableAfter}
 use Rattle.translation.proofs.Writing.{product-bound}
 use Rattle.translation.proofs.measure.Statement.{statement}

@@ -1,6 +1,6 @@
 //! Times the proved causal reading by itself against the independent one, on the same inputs in one run.
 //!
-//! The C library reads a text at each call. So the crate `causal_times` is linked here, which reads a text once and its
+//! The C library reads a text at each call. So the crate `bench_causal_reading` is linked here, which reads a text once and its
 //! history causally so many times more: that leaves the time of one reading, on values and laws that are there
 //! already. The figures hold for the machine and the day they are taken on; nothing depends on them.
 
@@ -12,7 +12,7 @@ use readings::reading::MAX_HORIZON;
 use readings::recipes::{belt_recipe, full_recipe, inertia_recipe, largest_recipe};
 use std::hint::black_box;
 
-#[link(name = "causal_times", kind = "static")]
+#[link(name = "bench_causal_reading", kind = "static")]
 extern "C" {
     fn causal_times(input: *const u8, input_length: usize, times: usize) -> u64;
 }

@@ -1,4 +1,4 @@
-//! Stored texts as the reading and wrong readings answer them: the inputs of crates/vectors with their printed outputs,
+//! Stored texts as the reading and wrong readings answer them: the inputs of crates/test_vectors with their printed outputs,
 //! and the recipes of crates/solver_cases with clingo's lines.
 
 use crate::answer::{Answer, PASSES};
@@ -24,17 +24,17 @@ struct Stored {
     output: String,
 }
 
-/// The named inputs of crates/vectors. Behind its name stand the two lines of a refusal or the nine of a verdict.
+/// The named inputs of crates/test_vectors. Behind its name stand the two lines of a refusal or the nine of a verdict.
 fn vectors() -> Vec<Stored> {
-    let outputs = lines("vectors/stdout");
+    let outputs = lines("test_vectors/stdout");
     let mut rest = &outputs[..];
     let mut found = Vec::new();
-    for name in lines("vectors/args") {
+    for name in lines("test_vectors/args") {
         assert_eq!(rest[0], name);
         let count = if rest[1].starts_with("refused=") { 2 } else { 9 };
         let output = rest[1..=count].iter().map(|line| format!("{line}\n")).collect();
         found.push(Stored {
-            input: file(&format!("vectors/data/{name}")),
+            input: file(&format!("test_vectors/data/{name}")),
             output,
         });
         rest = &rest[count + 1..];

@@ -5,7 +5,7 @@ use native.Mathlib.Omega.{arith}
 use mathlib.Core.Path.{_≡_, refl, sym, ap}
 use Prim.Native.Nat.{ℕ, _≤_, _*_, _-_}
 use lib.ListN.{length}
-use Rattle.search.proofs.Loops.{at-place, no-place}
+use Rattle.basics.proofs.Loops.{at-place, no-place}
 use Rattle.logic_programs.specs.Words.{rulesOf}
 use Rattle.rule_tables.specs.Marks.{marked}
 use Rattle.rule_tables.proofs.Walking.{accepted-sound}

@@ -6,8 +6,8 @@ use mathlib.Core.Path.{_≡_, _∙_}
 use Prim.Native.Nat.{_≤_, _-_}
 use borrow.Author.Tests.{eq-eqb, ne-eqb}
 use lib.ListN.{length}
-use Rattle.search.specs.Search.{first, range}
-use Rattle.search.proofs.Loops.{range-stop, range-go, range-done}
+use Rattle.basics.specs.Search.{first, range}
+use Rattle.basics.proofs.Loops.{range-stop, range-go, range-done}
 use Rattle.logic_programs.specs.Literals.{setOf}
 use Rattle.answer_sets.specs.Verdicts.{bothValues}
 use Rattle.answer_sets.proofs.Stores.{both-values}

@@ -4,9 +4,9 @@ use native.Mathlib.Nat.{sub-zero}
 use native.Mathlib.Omega.{arith}
 use mathlib.Core.Path.{_≡_, sym, _∙_}
 use Prim.Native.Nat.{_≤_, _-_}
-use Rattle.search.specs.Search.{first, range}
+use Rattle.basics.specs.Search.{first, range}
 use Rattle.rule_tables.specs.Marks.{marked}
-use Rattle.search.proofs.Loops.{range-stop, range-go, range-done}
+use Rattle.basics.proofs.Loops.{range-stop, range-go, range-done}
 use Rattle.answer_sets.specs.Verdicts.{isUnfounded}
 use Rattle.answer_sets.proofs.Judging.{none-unfounded}
 use Rattle.answer_sets.proofs.faults.first_unfounded.Statement.{statement}

@@ -1,6 +1,6 @@
 -- `answer_sets::faults::is_unfounded` meets its contract.
 -- Assumes nothing.
-use Rattle.search.proofs.Loops.{and-stop, and-go}
+use Rattle.basics.proofs.Loops.{and-stop, and-go}
 use mathlib.Core.Path.{ap}
 use mathlib.Core.Bool.{not}
 use borrow.Author.Needs.{needs}

@@ -7,7 +7,7 @@ use Prim.Native.Nat.{ℕ, _*_, _≤_, _-_}
 use borrow.Author.Tests.{ltb-false}
 use lib.Dec.{ltb}
 use lib.ListN.{length, getD, length-set}
-use Rattle.search.proofs.Tests.{first-none}
+use Rattle.basics.proofs.Tests.{first-none}
 use Rattle.rule_tables.specs.Marks.{marked}
 use Rattle.logic_programs.specs.Literals.{setOf}
 use Rattle.answer_sets.proofs.Stores.{fill-start, fill-step, fill-done}

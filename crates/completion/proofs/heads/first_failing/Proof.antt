@@ -5,10 +5,10 @@ use native.Mathlib.Omega.{arith}
 use mathlib.Core.Path.{_≡_, sym, _∙_}
 use Prim.Native.Nat.{_≤_, _-_, _*_}
 use lib.ListN.{length}
-use Rattle.search.specs.Search.{first, range}
-use Rattle.search.proofs.Loops.{range-stop, range-go, range-done}
+use Rattle.basics.specs.Search.{first, range}
+use Rattle.basics.proofs.Loops.{range-stop, range-go, range-done}
 use Rattle.logic_programs.specs.Literals.{setOf}
-use Rattle.literal_completion.specs.Findings.{differ}
+use Rattle.completion_theory.specs.Findings.{differ}
 use Rattle.completion.specs.Internal.{marked}
 use Rattle.completion.proofs.heads.first_failing.Statement.{statement}
 use Rattle.completion.proofs.heads.first_failing.Tie as tie

@@ -6,7 +6,7 @@ use mathlib.Core.Path.{_≡_, sym, _∙_, fun-ext}
 use mathlib.Core.Bool.{false, _||_, or-false}
 use Prim.Native.Nat.{ℕ, _≤_}
 use lib.ListN.{length, length-replicate}
-use Rattle.search.proofs.Stored.{getD-replicate}
+use Rattle.basics.proofs.Stored.{getD-replicate}
 use Rattle.logic_programs.specs.Literals.{setOf}
 use Rattle.logic_programs.specs.Words.{rulesOf}
 use Rattle.rule_tables.specs.Internal.{Sound}

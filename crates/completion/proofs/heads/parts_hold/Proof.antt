@@ -6,8 +6,8 @@ use native.Mathlib.Omega.{arith}
 use mathlib.Core.Path.{_≡_, refl, sym, ap, _∙_}
 use Prim.Native.Nat.{ℕ, _≤_, _-_}
 use lib.ListN.{length, drop}
-use Rattle.search.specs.Search.{all}
-use Rattle.search.proofs.Loops.{all-stop, all-go, all-done}
+use Rattle.basics.specs.Search.{all}
+use Rattle.basics.proofs.Loops.{all-stop, all-go, all-done}
 use Rattle.logic_programs.specs.Literals.{setOf}
 use Rattle.completion.specs.Internal.{readAs}
 use Rattle.completion.proofs.heads.parts_hold.Statement.{statement}

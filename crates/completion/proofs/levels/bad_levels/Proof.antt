@@ -1,6 +1,6 @@
 -- `completion::levels::bad_levels` meets its contract.
 -- Assumes nothing.
-use Rattle.search.proofs.Loops.{at-place, no-place}
+use Rattle.basics.proofs.Loops.{at-place, no-place}
 use Rattle.completion.proofs.Judging.{says-count, says-rules}
 use borrow.Author.Needs.{needs}
 use Rattle.completion.proofs.levels.bad_levels.Statement.{statement}

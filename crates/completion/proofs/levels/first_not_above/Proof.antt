@@ -5,10 +5,10 @@ use mathlib.Core.Path.{_≡_, refl, sym, ap, _∙_}
 use mathlib.Core.Bool.{not}
 use Prim.Native.Nat.{_≤_, _+_}
 use lib.ListN.{length}
-use Rattle.search.specs.Search.{first}
+use Rattle.basics.specs.Search.{first}
 use Rattle.logic_programs.specs.Words.{rulesOf}
 use Rattle.rule_tables.specs.Internal.{Sound}
-use Rattle.literal_completion.specs.LevelLists.{standsAbove}
+use Rattle.completion_theory.specs.LevelLists.{standsAbove}
 use Rattle.rule_tables.proofs.Fronts.{left-behind, shorter}
 use Rattle.rule_tables.proofs.Walking.{rule-stop, rule-go, rule-end, sound-size, sound-rest}
 use Rattle.completion.proofs.levels.first_not_above.Statement.{statement}

@@ -5,9 +5,9 @@ use native.Mathlib.Omega.{arith}
 use mathlib.Core.Path.{_≡_, refl}
 use Prim.Native.Nat.{ℕ, _≤_, _-_}
 use lib.ListN.{length, getD, drop}
-use Rattle.search.specs.Search.{all}
-use Rattle.search.proofs.Loops.{all-stop, all-go, all-done}
-use Rattle.literal_completion.specs.LevelLists.{isBelow}
+use Rattle.basics.specs.Search.{all}
+use Rattle.basics.proofs.Loops.{all-stop, all-go, all-done}
+use Rattle.completion_theory.specs.LevelLists.{isBelow}
 use Rattle.completion.proofs.Fronts.{not-below, below}
 use Rattle.completion.proofs.levels.parts_below.Statement.{statement}
 use Rattle.completion.proofs.levels.parts_below.Tie as tie

@@ -4,7 +4,7 @@ use native.Mathlib.Omega.{arith}
 use mathlib.Core.Path.{_≡_, sym, _∙_, ap}
 use Prim.Native.Nat.{_<_}
 use lib.ListN.{length, length-map}
-use Rattle.search.specs.Search.{placeOf}
+use Rattle.basics.specs.Search.{placeOf}
 use Rattle.description_reader.specs.Internal.{listedOf}
 use Rattle.description_reader.proofs.Gathering.{item-unknown, unknown-refused, item-seventh, item-room, more-taken, padded-more}
 use borrow.Author.Needs.{needs}

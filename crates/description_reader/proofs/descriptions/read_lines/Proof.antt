@@ -6,7 +6,7 @@ use mathlib.Core.Path.{_≡_, refl, sym, _∙_, ap}
 use mathlib.Core.List.{List, []}
 use Prim.Native.Nat.{ℕ, _+_, _-_, _≤_, _<_}
 use lib.ListN.{length, take, drop, length-take, length-drop}
-use Rattle.description.specs.Laws.{noLaw}
+use Rattle.action_language.specs.Laws.{noLaw}
 use Rattle.text.specs.declared.lines.LineAt.{LineAt}
 use Rattle.description_reader.specs.declared.states.State.{State}
 use Rattle.text.specs.Lists as lists

@@ -3,7 +3,7 @@
 use mathlib.Core.Path.{_∙_, ap}
 use Rattle.description_reader.specs.LineSteps.{next, lawDue, whole}
 use Rattle.description_reader.specs.Internal.{draftOf}
-use Rattle.description.specs.declared.Kind.the-variants.{Dynamic}
+use Rattle.action_language.specs.declared.Kind.the-variants.{Dynamic}
 use Rattle.line_values.specs.Internal.{noPlaces, lawWith}
 use borrow.Author.Needs.{needs}
 use Rattle.description_reader.proofs.steps.by_line.Statement.{statement}

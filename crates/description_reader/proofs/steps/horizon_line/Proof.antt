@@ -1,6 +1,6 @@
 -- `steps::horizon_line` meets its contract: no horizon, or one.
 -- Assumes nothing.
-use Rattle.search.proofs.Loops.{at-place, no-place}
+use Rattle.basics.proofs.Loops.{at-place, no-place}
 use Rattle.description_reader.specs.Internal.{stepOf}
 use Rattle.line_values.proofs.Digits.{horizon-30}
 use Rattle.description_reader.proofs.Stepping.{sound-64}

@@ -2,7 +2,7 @@
 -- Assumes nothing.
 use mathlib.Core.Path.{_∙_, ap}
 use lib.ListN.{take}
-use Rattle.description.specs.declared.Kind.the-variants.{Static, Dynamic}
+use Rattle.action_language.specs.declared.Kind.the-variants.{Static, Dynamic}
 use Rattle.description_reader.specs.LineSteps.{next, lawDue, afterDue, whole}
 use Rattle.description_reader.specs.Internal.{draftOf, stepOf}
 use Rattle.description_reader.proofs.Stepping.{law-if, if-static, if-dynamic}

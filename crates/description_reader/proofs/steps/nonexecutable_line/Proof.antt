@@ -7,8 +7,8 @@ use Prim.Native.Nat.{ℕ}
 use borrow.Author.Tests.{not-true, not-false}
 use lib.ListN.{take}
 use Rattle.text.specs.Lists.{codes}
-use Rattle.description.specs.declared.Head.the-variants.{False}
-use Rattle.description.specs.declared.Kind.the-variants.{Dynamic}
+use Rattle.action_language.specs.declared.Head.the-variants.{False}
+use Rattle.action_language.specs.declared.Kind.the-variants.{Dynamic}
 use Rattle.line_values.specs.Internal.{noPlaces, lawWith}
 use Rattle.description_reader.specs.LineSteps.{roomFor}
 use Rattle.description_reader.specs.Internal.{draftOf}

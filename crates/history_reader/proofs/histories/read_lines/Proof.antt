@@ -9,7 +9,7 @@ use mathlib.Core.Option.{Option}
 use Prim.Native.Nat.{ℕ, suc, _+_, _-_, _*_, _≤_}
 use native.Mathlib.Numerals.{add-one}
 use lib.ListN.{length, take, drop, replicate, length-take, length-drop}
-use Rattle.search.proofs.Loops.{at-place, no-place}
+use Rattle.basics.proofs.Loops.{at-place, no-place}
 use Rattle.text.specs.Names.{literal}
 use Rattle.text.specs.declared.lines.LineAt.{LineAt}
 use Rattle.history_reader.specs.declared.histories.Wanted.{Wanted}

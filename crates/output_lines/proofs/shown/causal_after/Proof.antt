@@ -1,7 +1,7 @@
 -- `shown::causal_after` meets its contract, arm by arm.
 -- Assumes nothing.
 use mathlib.Core.Path.{sym, _∙_}
-use Rattle.causal.specs.Readings.{replyOf}
+use Rattle.causal_reading.specs.Readings.{replyOf}
 use Rattle.output_lines.proofs.Showing.{otherwise-shown}
 use borrow.Author.Needs.{needs}
 use Rattle.output_lines.proofs.shown.causal_after.Statement.{statement}

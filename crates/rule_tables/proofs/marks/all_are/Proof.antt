@@ -6,10 +6,10 @@ use mathlib.Core.Path.{_≡_, refl}
 use mathlib.Core.Bool.{true, false}
 use Prim.Native.Nat.{ℕ, _≤_, _-_}
 use lib.ListN.{length, drop}
-use Rattle.search.specs.Search.{all}
+use Rattle.basics.specs.Search.{all}
 use Rattle.rule_tables.specs.Bodies.{is}
 use Rattle.rule_tables.specs.Marks.{marked}
-use Rattle.search.proofs.Loops.{all-stop, all-go, all-done}
+use Rattle.basics.proofs.Loops.{all-stop, all-go, all-done}
 use Rattle.rule_tables.proofs.Lookups.{differs}
 use Rattle.rule_tables.proofs.marks.all_are.Statement.{statement}
 use Rattle.rule_tables.proofs.marks.all_are.Tie as tie

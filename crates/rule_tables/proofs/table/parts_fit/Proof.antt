@@ -6,7 +6,7 @@ use mathlib.Core.Path.{_≡_, refl, sym, _∙_}
 use Prim.Native.Nat.{ℕ, _≤_, _-_}
 use lib.ListN.{length, getD, drop}
 use Rattle.logic_programs.specs.Words.{partsFit}
-use Rattle.search.proofs.Loops.{all-stop, all-go, all-done}
+use Rattle.basics.proofs.Loops.{all-stop, all-go, all-done}
 use borrow.Author.Tests.{lt-ltb, le-ltb}
 use Rattle.rule_tables.proofs.Fronts.{half-below}
 use Rattle.rule_tables.proofs.table.parts_fit.Statement.{statement}

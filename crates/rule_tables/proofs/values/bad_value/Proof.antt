@@ -5,10 +5,10 @@ use mathlib.Core.Path.{_≡_, refl, ap}
 use Prim.Native.Nat.{ℕ, _≤_, _-_}
 use lib.ListN.{length, drop}
 use lib.Dec.{ltb}
-use Rattle.search.specs.Search.{first}
-use Rattle.search.specs.Replies.{refusal}
+use Rattle.basics.specs.Search.{first}
+use Rattle.basics.specs.Replies.{refusal}
 use Rattle.logic_programs.specs.Literals.{badValue}
-use Rattle.search.proofs.Loops.{first-stop, first-go, first-done}
+use Rattle.basics.proofs.Loops.{first-stop, first-go, first-done}
 use borrow.Author.Tests.{lt-ltb, le-ltb}
 use Rattle.rule_tables.proofs.values.bad_value.Statement.{statement}
 use Rattle.rule_tables.proofs.values.bad_value.Tie as tie

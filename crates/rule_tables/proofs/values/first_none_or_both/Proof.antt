@@ -4,8 +4,8 @@ use native.Mathlib.Omega.{arith}
 use mathlib.Core.Path.{_≡_, refl, sym, _∙_}
 use Prim.Native.Nat.{ℕ, _≤_, _-_}
 use lib.ListN.{length, drop}
-use Rattle.search.specs.Search.{first}
-use Rattle.search.proofs.Loops.{first-stop, first-go, first-done}
+use Rattle.basics.specs.Search.{first}
+use Rattle.basics.proofs.Loops.{first-stop, first-go, first-done}
 use Rattle.logic_programs.specs.Literals.{noneOrBoth}
 use Rattle.rule_tables.proofs.values.first_none_or_both.Statement.{statement}
 use Rattle.rule_tables.proofs.values.first_none_or_both.Tie as tie

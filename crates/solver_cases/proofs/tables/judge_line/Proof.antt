@@ -2,7 +2,7 @@
 -- Assumes nothing.
 use native.Mathlib.Omega.{arith}
 use borrow.Author.Needs.{needs}
-use Rattle.search.proofs.Loops.{at-place}
+use Rattle.basics.proofs.Loops.{at-place}
 use Rattle.number_lines.proofs.Taking.{run-within}
 use Rattle.solver_cases.proofs.tables.judge_line.Statement.{statement}
 use Rattle.solver_cases.proofs.tables.judge_line.Tie as tie

@@ -6,8 +6,8 @@ use Prim.Native.Nat.{_≤_, _-_}
 use borrow.Author.Tests.{eq-eqb, ne-eqb}
 use lib.Dec.{eqb}
 use lib.ListN.{length, drop}
-use Rattle.search.specs.Search.{first}
-use Rattle.search.proofs.Loops.{first-stop, first-go, first-done}
+use Rattle.basics.specs.Search.{first}
+use Rattle.basics.proofs.Loops.{first-stop, first-go, first-done}
 use Rattle.text.proofs.bytes.find.Statement.{statement}
 use Rattle.text.proofs.bytes.find.Tie as tie
 

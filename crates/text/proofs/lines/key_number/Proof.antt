@@ -6,8 +6,8 @@ use mathlib.Core.List.{[]}
 use Prim.Native.Nat.{_≤_, _-_}
 use borrow.Author.Tests.{lt-ltb}
 use lib.ListN.{drop}
-use Rattle.search.specs.Search.{first}
-use Rattle.search.proofs.Loops.{first-stop, first-go, first-done}
+use Rattle.basics.specs.Search.{first}
+use Rattle.basics.proofs.Loops.{first-stop, first-go, first-done}
 use Rattle.spelling.specs.Letters.{same}
 use Rattle.text.specs.Lines.{keys, noKey, keyNumber}
 use Rattle.text.proofs.lines.key_number.Statement.{statement}

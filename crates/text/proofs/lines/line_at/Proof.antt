@@ -4,7 +4,7 @@ use native.Mathlib.Omega.{arith}
 use mathlib.Core.Path.{_≡_, _∙_}
 use Prim.Native.Nat.{_+_, _<_}
 use lib.ListN.{length, drop}
-use Rattle.search.proofs.Loops.{at-place, no-place}
+use Rattle.basics.proofs.Loops.{at-place, no-place}
 use Rattle.text.specs.Internal.{lineOf}
 use Rattle.text.proofs.Runs.{part-all}
 use Rattle.text.proofs.Cutting.{cut-size, line-none, line-bare, line-whole, line-inside, sign-inside, line-fits, none-fits}

@@ -1,7 +1,7 @@
 -- `lines::line_size` meets its contract: up to the ending byte, or all.
 -- Assumes nothing.
 use native.Mathlib.Omega.{arith}
-use Rattle.search.proofs.Loops.{at-place, no-place}
+use Rattle.basics.proofs.Loops.{at-place, no-place}
 use Rattle.text.proofs.Placing.{size-all, size-cut}
 use borrow.Author.Needs.{needs}
 use Rattle.text.proofs.lines.line_size.Statement.{statement}

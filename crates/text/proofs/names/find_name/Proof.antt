@@ -4,8 +4,8 @@ use native.Mathlib.Omega.{arith}
 use borrow.Author.Needs.{needs}
 use mathlib.Core.Path.{_≡_, sym, _∙_}
 use Prim.Native.Nat.{_≤_, _-_}
-use Rattle.search.specs.Search.{first, range}
-use Rattle.search.proofs.Loops.{range-stop, range-go, range-done}
+use Rattle.basics.specs.Search.{first, range}
+use Rattle.basics.proofs.Loops.{range-stop, range-go, range-done}
 use Rattle.spelling.specs.Spelling.{sameName}
 use Rattle.text.specs.Names.{declaredAt}
 use Rattle.text.specs.Internal.{nameAt, spelled}

@@ -1,7 +1,7 @@
 -- `names::is_new` meets its contract: a name, and declared nowhere.
 -- Assumes nothing.
 use borrow.Author.Tests.{not-true, not-false}
-use Rattle.search.proofs.Loops.{at-place, no-place}
+use Rattle.basics.proofs.Loops.{at-place, no-place}
 use borrow.Author.Needs.{needs}
 use Rattle.text.proofs.names.is_new.Statement.{statement}
 use Rattle.text.proofs.names.is_new.Tie as tie

@@ -3,7 +3,7 @@
 use native.Mathlib.Omega.{arith}
 use mathlib.Core.Path.{_≡_, sym, _∙_}
 use lib.ListN.{length, drop, length-map}
-use Rattle.search.proofs.Loops.{to-the-end}
+use Rattle.basics.proofs.Loops.{to-the-end}
 use Rattle.text.proofs.Spelling.{literal-empty, literal-hyphen, literal-plain, place-fits}
 use borrow.Author.Needs.{needs}
 use Rattle.text.proofs.names.literal.Statement.{statement}

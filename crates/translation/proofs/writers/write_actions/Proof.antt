@@ -4,7 +4,7 @@ use mathlib.Core.Path.{refl}
 use Prim.Native.Nat.{ℕ, _+_, _-_, _*_, _<_, _≤_}
 use native.Mathlib.Nat.{sub-zero, add-zero}
 use native.Mathlib.Omega.{arith}
-use Rattle.search.specs.Search.{range}
+use Rattle.basics.specs.Search.{range}
 use Rattle.logic_programs.specs.Words.{words}
 use Rattle.rule_words.specs.RuleForms.{choices}
 use Rattle.translation.specs.Rules.{actionAtoms}

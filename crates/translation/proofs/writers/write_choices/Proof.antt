@@ -5,8 +5,8 @@ use Prim.Native.Nat.{ℕ, _+_, _*_, _/_, _-_, _<_}
 use native.Mathlib.Omega.{arith}
 use borrow.Author.Tests.{lt-ltb}
 use lib.ListN.{length}
-use Rattle.search.specs.Search.{range}
-use Rattle.search.proofs.Tests.{length-range}
+use Rattle.basics.specs.Search.{range}
+use Rattle.basics.proofs.Tests.{length-range}
 use Rattle.logic_programs.specs.Words.{words}
 use Rattle.rule_words.specs.RuleForms.{choices}
 use Rattle.translation.proofs.Counts.{length-words-choices}

@@ -7,9 +7,9 @@ use native.Mathlib.Omega.{arith}
 use lib.ListN.{length, take, drop, getD}
 use Rattle.logic_programs.specs.Rules.{Rule}
 use Rattle.logic_programs.specs.Words.{words}
-use Rattle.search.proofs.Loops.{rest-cons, rest-done}
-use Rattle.description.specs.declared.Kind.{Kind}
-use Rattle.description.specs.declared.Law.{Law}
+use Rattle.basics.proofs.Loops.{rest-cons, rest-done}
+use Rattle.action_language.specs.declared.Kind.{Kind}
+use Rattle.action_language.specs.declared.Law.{Law}
 use Rattle.translation.specs.Rules.{perLaw}
 use Rattle.translation.specs.Internal.{rulesOf}
 use Rattle.translation.proofs.Counts.{words-append}

@@ -7,7 +7,7 @@ use native.Mathlib.Nat.{zero-add}
 use native.Mathlib.Omega.{arith}
 use lib.ListN.{length}
 use borrow.Author.Needs.{needs}
-use Rattle.description.specs.Laws.{lawsOf}
+use Rattle.action_language.specs.Laws.{lawsOf}
 use Rattle.translation.specs.Translated.{tableFor}
 use Rattle.translation.proofs.Writing.{Left, front, last, begun, wrote, room, ended, stored, staticWords, dynamicWords, fluentWords, actionWords, passes, sets-front}
 use Rattle.translation.proofs.writers.write_table.Statement.{statement}

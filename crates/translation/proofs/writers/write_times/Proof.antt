@@ -5,9 +5,9 @@ use mathlib.Core.Path.{refl}
 use Prim.Native.Nat.{ℕ, _-_, _<_}
 use native.Mathlib.Nat.{sub-zero}
 use native.Mathlib.Omega.{arith}
-use Rattle.search.specs.Search.{range}
+use Rattle.basics.specs.Search.{range}
 use Rattle.logic_programs.specs.Words.{ruleWords, words}
-use Rattle.description.specs.declared.Law.{Law}
+use Rattle.action_language.specs.declared.Law.{Law}
 use Rattle.rule_words.specs.Internal.{ruleFor}
 use Rattle.translation.proofs.Turns.{Turns, counted, Before, starts, fits, turned, finished}
 use Rattle.translation.proofs.writers.write_times.Statement.{statement}

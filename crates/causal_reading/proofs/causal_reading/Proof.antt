@@ -1,0 +1,132 @@
+-- `causal_reading` meets its contract: the refusals in their order, then the verdict.
+-- Assumes nothing.
+use mathlib.Core.Path.{_≡_, sym, _∙_, ap}
+use mathlib.Core.Option.{none, some}
+use Prim.Native.Nat.{_+_, _*_, _≤_}
+use native.Mathlib.Nat.{mul-le-mul}
+use native.Mathlib.Omega.{arith}
+use borrow.Author.Tests.{eq-eqb, ne-eqb}
+use Rattle.basics.specs.Search.{first, placeOf}
+use Rattle.basics.proofs.Loops.{refused-at, not-refused}
+use Rattle.action_language.specs.Acceptance.{badRecord, badHorizon}
+use Rattle.action_language.proofs.Laws.{accepted-counts, accepted-horizon}
+use Rattle.causal_reading.specs.Readings.{notOneValue, reading}
+use borrow.Author.Needs.{needs}
+use Rattle.causal_reading.proofs.causal_reading.Statement.{statement}
+use Rattle.causal_reading.proofs.causal_reading.Tie as tie
+
+-- the record is not refused
+record-fits : (c : tie.After-enum-told) → let a = c .before .before .before .before .args in badRecord (a .d) (a .laws) (a .lent) ≡ none
+record-fits c = not-refused 8 (c .before .before .bad-record .ensures) (c .enum-told .given .1)
+
+-- nor is the horizon
+horizon-fits : (c : tie.After-enum-told2) → badHorizon (c .before .before .before .before .before .before .before .args .d .horizon) ≡ none
+horizon-fits c = not-refused 3 (c .before .before .bad-horizon .ensures) (c .enum-told2 .given .1)
+
+-- what acceptance gives
+limits : (c : tie.After-enum-told2) → let d = c .before .before .before .before .before .before .before .args .d in
+    (d .fluents ≤ 24) × (d .actions ≤ 8) × (d .horizon ≤ 30) × (d .horizon * (d .fluents + d .actions) ≤ 960)
+limits c =
+    let a = c .before .before .before .before .before .before .before .args in
+    let r = accepted-counts (a .d) (a .laws) (a .lent) (record-fits (c .before .before .before)) in
+    let h = accepted-horizon (a .d .horizon) (horizon-fits c) in
+    let sum : a .d .fluents + a .d .actions ≤ 32 = omega arith in
+    (r .1, r .2, h .1, mul-le-mul (h .1) sum)
+
+bad-record-requires : tie.Need-bad-record-requires
+bad-record-requires c κs = search needs
+
+enum-known-record-at : tie.Need-enum-known-record-at
+enum-known-record-at c = search needs
+
+returns : tie.Need-returns
+unfolding reading
+returns c =
+    let e : badRecord _ _ _ ≡ some _ = refused-at 8 (c .before .before .before .bad-record .ensures) (c .before .record-at .given .1) in
+    rw e
+
+enum-told : tie.Need-enum-told
+enum-told c = search needs
+
+bad-horizon-requires : tie.Need-bad-horizon-requires
+bad-horizon-requires c κs = search needs
+
+enum-known-horizon-at : tie.Need-enum-known-horizon-at
+enum-known-horizon-at c = search needs
+
+returns-2 : tie.Need-returns-2
+unfolding reading
+returns-2 c =
+    let e : badHorizon _ ≡ some _ = refused-at 3 (c .before .before .before .bad-horizon .ensures) (c .before .horizon-at .given .1) in
+    rw (record-fits (c .before .before .before .before), e)
+
+enum-told-2 : tie.Need-enum-told-2
+enum-told-2 c = search needs
+
+add-atoms : tie.Need-add-atoms
+add-atoms c = let l = limits (c .before) in omega arith
+
+mul-atoms : tie.Need-mul-atoms
+mul-atoms c = let l = limits (c .before .before) in omega arith
+
+add-atoms-2 : tie.Need-add-atoms-2
+add-atoms-2 c = let l = limits (c .before .before .before) in omega arith
+
+returns-3 : tie.Need-returns-3
+unfolding reading
+returns-3 c = rw (record-fits (c .before .before .before .before .before .before .before), horizon-fits (c .before .before .before .before), ne-eqb _ _ (c .if1 .taken))
+
+bad-value-requires : tie.Need-bad-value-requires
+bad-value-requires c κs = search needs
+
+enum-known-value-at : tie.Need-enum-known-value-at
+enum-known-value-at c = search needs
+
+returns-4 : tie.Need-returns-4
+unfolding reading
+returns-4 c =
+    rw (
+      record-fits (c .before .before .before .before .before .before .before .before .before .before .before),
+      horizon-fits (c .before .before .before .before .before .before .before .before),
+      eq-eqb _ _ (c .before .before .before .before .if1 .left),
+      sym (c .before .before .before .bad-value .ensures) ∙ ap placeOf (c .before .value-at .given .1),
+    )
+
+enum-told-3 : tie.Need-enum-told-3
+enum-told-3 c = search needs
+
+verdict-requires : tie.Need-verdict-requires
+verdict-requires c κs = let l = limits (c .before .before .before .before .before .before .before) in (omega arith, c .before .before .before .if1 .left)
+
+returns-5 : tie.Need-returns-5
+unfolding reading
+returns-5 c =
+    rw (
+      record-fits (c .before .before .before .before .before .before .before .before .before .before .before),
+      horizon-fits (c .before .before .before .before .before .before .before .before),
+      eq-eqb _ _ (c .before .before .before .before .if1 .left),
+      sym (c .before .before .before .bad-value .ensures) ∙ ap placeOf (c .before .enum-told3 .given .1),
+    ) (c .verdict .ensures)
+
+pub causal-reading-spec : {M : Type 1} → statement M
+causal-reading-spec =
+    tie.close
+    (tie.spec
+    bad-record-requires
+    enum-known-record-at
+    returns
+    enum-told
+    bad-horizon-requires
+    enum-known-horizon-at
+    returns-2
+    enum-told-2
+    add-atoms
+    mul-atoms
+    add-atoms-2
+    returns-3
+    bad-value-requires
+    enum-known-value-at
+    returns-4
+    enum-told-3
+    verdict-requires
+    returns-5)
