@@ -16,7 +16,7 @@ use Rattle.basics.proofs.Tests.{and-iff, not-iff}
 use Rattle.basics.proofs.Loops.{to-the-end}
 use Rattle.logic_programs.specs.Literals.{Lits}
 use Rattle.logic_programs.specs.Words.{ruleSize}
-use Rattle.answer_sets.specs.Waiting.{outside, waitsFor, headAt, plainAt, Waiting}
+use Rattle.answer_sets.specs.Waiting.{outside, waitsFor, headWordAt, plainAt, Waiting}
 
 -- the search for it, element by element
 module _ (Y : Lits) (cs : List ℕ) (i : ℕ) {R : ℕ} where
@@ -75,11 +75,11 @@ module _ (rest : List ℕ) (w : ℕ) (Y : Lits) where
 -- a rule that waits for nothing has its head in Y, or its body holds there; one that waits for something has neither, and goes on
 -- waiting
 module _ (ws : List ℕ) (s w : ℕ) (Y : Lits) (held : Waiting ws s w) where
-  pub settled : waitsFor (drop s ws) w Y ≡ 65535 → (Y (headAt ws s) ≡ false) → all Y (plainAt ws s) ≡ true
+  pub settled : waitsFor (drop s ws) w Y ≡ 65535 → (Y (headWordAt ws s) ≡ false) → all Y (plainAt ws s) ≡ true
   unfolding waitsFor
   settled e head = go (ltb w 2048 && not (Y w)) refl e
     where
-      go : (b : Bool) → (ltb w 2048 && not (Y w)) ≡ b → cond b w (cond (Y (headAt ws s)) 65535 (outside Y (plainAt ws s))) ≡ 65535 → all Y (plainAt ws s) ≡ true
+      go : (b : Bool) → (ltb w 2048 && not (Y w)) ≡ b → cond b w (cond (Y (headWordAt ws s)) 65535 (outside Y (plainAt ws s))) ≡ 65535 → all Y (plainAt ws s) ≡ true
       go true t q = absurd (omega (arith, ltb-true w 2048 (and-iff (ltb w 2048) (not (Y w)) .0 t .0)))
       go false f q = none-outside Y (plainAt ws s) (held .parts) (rw head at q)
 
@@ -87,12 +87,12 @@ module _ (ws : List ℕ) (s w : ℕ) (Y : Lits) (held : Waiting ws s w) where
   unfolding waitsFor
   still n = go (ltb w 2048 && not (Y w)) refl n
     where
-      go : (b : Bool) → (ltb w 2048 && not (Y w)) ≡ b → cond b w (cond (Y (headAt ws s)) 65535 (outside Y (plainAt ws s))) ≢ 65535
-          → (all Y (plainAt ws s) ≡ false) × Waiting ws s (cond b w (cond (Y (headAt ws s)) 65535 (outside Y (plainAt ws s))))
+      go : (b : Bool) → (ltb w 2048 && not (Y w)) ≡ b → cond b w (cond (Y (headWordAt ws s)) 65535 (outside Y (plainAt ws s))) ≢ 65535
+          → (all Y (plainAt ws s) ≡ false) × Waiting ws s (cond b w (cond (Y (headWordAt ws s)) 65535 (outside Y (plainAt ws s))))
       go true t m =
           let both = and-iff (ltb w 2048) (not (Y w)) .0 t in
           (held .body (ltb-true w 2048 (both .0)) Y (not-iff (Y w) .0 (both .1)), held)
-      go false f m = part (Y (headAt ws s)) m
+      go false f m = part (Y (headWordAt ws s)) m
         where
           part : (b : Bool) → cond b 65535 (outside Y (plainAt ws s)) ≢ 65535
               → (all Y (plainAt ws s) ≡ false) × Waiting ws s (cond b 65535 (outside Y (plainAt ws s)))

@@ -23,7 +23,7 @@ use Rattle.rule_tables.specs.Marks.{marked}
 use Rattle.rule_tables.proofs.Bits.{withMark, in-clear, in-stored, length-with}
 use Rattle.answer_sets.specs.Verdicts.{round, rounds}
 use Rattle.answer_sets.specs.Derived.{Derived}
-use Rattle.answer_sets.specs.Waiting.{headAt, plainAt, heads, waitsFor, Waiting, EachWaiting, Begun, Made}
+use Rattle.answer_sets.specs.Waiting.{headWordAt, plainAt, heads, waitsFor, Waiting, EachWaiting, Begun, Made}
 use Rattle.answer_sets.proofs.Least.{HeadsBelow, rounds-within, rounds-below, least-closed}
 use Rattle.answer_sets.proofs.Sets.{all-within, within-subset}
 use Rattle.answer_sets.proofs.Outside.{wordsFrom, settled, still}
@@ -67,7 +67,7 @@ module _ (table : List ℕ) (Y : Lits) (before : List ℕ) (n m count : ℕ) (ne
       rw (add-one, drop-cons (take count starts) i 0 size, getD-take)
 
   -- the rule leaves, and its head is marked
-  leaves : i < count → waitsFor (drop (getD starts i 0) table) (getD waits i 0) Y ≡ 65535 → (head : ℕ) → head ≡ headAt table (getD starts i 0)
+  leaves : i < count → waitsFor (drop (getD starts i 0) table) (getD waits i 0) Y ≡ 65535 → (head : ℕ) → head ≡ headWordAt table (getD starts i 0)
       → Turned table Y before n m count (withMark new head) starts waits left (i + 1)
   leaves h e head is = record {
     packed = omega (arith, inv .packed);
@@ -127,7 +127,7 @@ module _ (table : List ℕ) (Y : Lits) (before : List ℕ) (n m count : ℕ) (ne
             (rw (getD-set-same starts left s 0 (omega arith), getD-set-same waits left w 0 (omega arith), is) held);
         ahead = λ j l k.
             rw (getD-set-other starts left j s 0 (λ q. omega arith), getD-set-other waits left j w 0 (λ q. omega arith)) (inv .ahead j (omega arith) k);
-        bodies = λ c. rw (more, heads-append table Y c (take left starts) (s ∷ []), inv .bodies c, lacks, and-false (eqb (headAt table s) c));
+        bodies = λ c. rw (more, heads-append table Y c (take left starts) (s ∷ []), inv .bodies c, lacks, and-false (eqb (headWordAt table s) c));
         same = λ Z sub c. rw (more, rest, append-snoc (take left starts) s (drop (i + 1) (take count starts)), ← front h) (inv .same Z sub c);
       }
 

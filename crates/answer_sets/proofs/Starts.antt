@@ -23,7 +23,7 @@ use Rattle.rule_tables.specs.Internal.{Sound}
 use Rattle.rule_tables.proofs.Fronts.{whole-applies}
 use Rattle.rule_tables.proofs.Walking.{rules-front, rules-end, rule-stop, rule-go, rule-end, sound-size, sound-head, sound-few, sound-fits, sound-rest, sound-before}
 use Rattle.answer_sets.specs.Verdicts.{round, headIs, isBroken}
-use Rattle.answer_sets.specs.Waiting.{headAt, plainAt, heads, Waiting, Begun, Roomy}
+use Rattle.answer_sets.specs.Waiting.{headWordAt, plainAt, heads, Waiting, Begun, Roomy}
 use Rattle.answer_sets.proofs.Least.{applies-subset}
 use Rattle.answer_sets.proofs.Passes.{unbroken-closed}
 use Rattle.answer_sets.proofs.Decoding.{accepted-rule}
@@ -34,7 +34,7 @@ or-assoc false b c = refl
 
 pub heads-append : (ws : List ℕ) (Z : Lits) (c : ℕ) (ss rs : List ℕ) → heads ws (ss ++ rs) Z c ≡ (heads ws ss Z c || heads ws rs Z c)
 heads-append ws Z c [] rs = refl
-heads-append ws Z c (s ∷ ss) rs = rw (heads-append ws Z c ss rs) (or-assoc (eqb (headAt ws s) c && all Z (plainAt ws s)) (heads ws ss Z c) (heads ws rs Z c))
+heads-append ws Z c (s ∷ ss) rs = rw (heads-append ws Z c ss rs) (or-assoc (eqb (headWordAt ws s) c && all Z (plainAt ws s)) (heads ws ss Z c) (heads ws rs Z c))
 
 -- the array of starts has n places; before word `at` are as many rules as `rule` says, none of them broken, and `count` of them apply in X; rest is what is left. A rule
 -- takes 131,073 words at most

@@ -18,7 +18,7 @@ use Rattle.logic_programs.specs.AnswerSets.{reduct, AnswerSet, literalHeaded, I
 use Rattle.answer_sets.specs.Verdicts.{Verdict, clash, broken, unfounded, passes, rounds, verdict}
 use Rattle.logic_programs.specs.Words.{rulesOf}
 use Rattle.answer_sets.specs.Answers.{tooManyValues, answer}
-use Rattle.answer_sets.specs.Demand2.{Accepted, Clashing, BrokenAt, Unfounded, Judged, Demand2}
+use Rattle.answer_sets.specs.Demand2.{Accepted, Clashing, BrokenAt, Unfounded, RightVerdict, Demand2}
 use Rattle.basics.proofs.Tests.{true-or-false, not-both}
 use Rattle.answer_sets.proofs.Least.{HeadsBelow, Below, least-closed}
 use Rattle.answer_sets.proofs.FirstFault.{clash-iff, broken-iff, unfounded-iff}
@@ -74,7 +74,7 @@ module _ (vs ws : List ℕ) (accepted : Accepted vs ws) where
   pub rounds-least : IsLeastClosed (literalHeaded (reduct (rulesOf ws) (setOf vs))) (rounds (2 * length vs) (rulesOf ws) (setOf vs))
   rounds-least = least-closed (length vs) (rulesOf ws) (setOf vs) heads-below
 
-  judged : Judged (length vs) (rulesOf ws) (setOf vs) (answer vs ws)
+  judged : RightVerdict (length vs) (rulesOf ws) (setOf vs) (answer vs ws)
   judged = record {
     clash-exactly = clash-exactly;
     broken-exactly = broken-exactly;

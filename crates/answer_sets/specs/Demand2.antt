@@ -42,7 +42,7 @@ Unfounded Π X c = (X c ≡ true) × ((L : Lits) × IsLeastClosed (literalHeaded
 
 -- the reply to the program Π and the set X over n atoms: the first that holds of clash, broken and unfounded, each with the
 -- lowest of its kind, and passes exactly if X is an answer set
-pub record Judged (n : ℕ) (Π : List Rule) (X : Lits) (reply : Reply Verdict) : Type 0 where
+pub record RightVerdict (n : ℕ) (Π : List Rule) (X : Lits) (reply : Reply Verdict) : Type 0 where
   pub clash-exactly : (a : ℕ) → reply ≡ answered (clash a) ↔ Lowest (Clashing X) n a
   pub broken-exactly : (r : ℕ) → reply ≡ answered (broken r)
       ↔ (Nowhere (Clashing X) n × Lowest (BrokenAt Π X) (length Π) r)
@@ -51,4 +51,4 @@ pub record Judged (n : ℕ) (Π : List Rule) (X : Lits) (reply : Reply Verdict) 
   pub passes-exactly : reply ≡ answered passes ↔ AnswerSet Π X
 
 unfoldable pub Demand2 : List ℕ → List ℕ → Reply Verdict → Type 0
-Demand2 vs ws reply = Accepted vs ws → Judged (length vs) (rulesOf ws) (setOf vs) reply
+Demand2 vs ws reply = Accepted vs ws → RightVerdict (length vs) (rulesOf ws) (setOf vs) reply

@@ -16,8 +16,8 @@ use Rattle.answer_sets.specs.Verdicts.{round}
 use Rattle.rule_tables.specs.Marks.{marked}
 
 -- the head's word and the plain parts of the rule that starts at word s
-abbrev pub headAt : List ℕ → ℕ → ℕ
-headAt ws s = getD (drop s ws) 0 0
+abbrev pub headWordAt : List ℕ → ℕ → ℕ
+headWordAt ws s = getD (drop s ws) 0 0
 
 abbrev pub plainAt : List ℕ → ℕ → List ℕ
 plainAt ws s = ruleAt (drop s ws) .plain
@@ -25,7 +25,7 @@ plainAt ws s = ruleAt (drop s ws) .plain
 -- the heads of the rules that start at these words and whose plain parts are all in Z
 abbrev pub heads : List ℕ → List ℕ → Lits → Lits
 heads ws [] Z c = false
-heads ws (s ∷ ss) Z c = (eqb (headAt ws s) c && all Z (plainAt ws s)) || heads ws ss Z c
+heads ws (s ∷ ss) Z c = (eqb (headWordAt ws s) c && all Z (plainAt ws s)) || heads ws ss Z c
 
 -- the first of some literals that is not in Y, or 65535
 abbrev pub outside : Lits → List ℕ → ℕ
@@ -43,7 +43,7 @@ waitsFor rest w Y =
 -- a rule starts at word s, whole, with codes below 2,048, and while it waits for w its body holds in no set without w
 pub record Waiting (ws : List ℕ) (s w : ℕ) : Type 0 where
   pub whole : s + ruleSize (drop s ws) ≤ length ws
-  pub head : headAt ws s < 2048
+  pub head : headWordAt ws s < 2048
   pub parts : Each (λ c. c < 2048) (plainAt ws s)
   pub body : w < 2048 → (Z : Lits) → Z w ≡ false → all Z (plainAt ws s) ≡ false
 

@@ -1,7 +1,7 @@
 // The least set closed under the reduct's rules with literal heads, by rounds from 2,048 clear marks.
 use crate::pending;
-use rule_tables::marks;
 use basics::Found;
+use rule_tables::marks;
 ghost use mathlib.Core.Path.{_≡_};
 ghost use mathlib.Core.Option.{none};
 ghost use Prim.Native.Nat.{_≤_};

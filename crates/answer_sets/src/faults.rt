@@ -2,8 +2,8 @@
 use crate::Answer;
 use crate::derivation;
 use crate::values;
-use rule_tables::marks;
 use basics::Found;
+use rule_tables::marks;
 ghost use mathlib.Core.Path.{_≡_};
 ghost use mathlib.Core.Option.{none};
 ghost use Prim.Native.Nat.{_*_, _≤_};

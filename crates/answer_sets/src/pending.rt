@@ -1,8 +1,8 @@
 // The rules that a derivation still has to look at: the words at which they start and, beside each, a literal that its body waits
 // for, or 65535 if none is known.
+use basics::Found;
 use rule_tables::marks;
 use rule_tables::table;
-use basics::Found;
 ghost use mathlib.Core.Path.{_≡_};
 ghost use mathlib.Core.Bool.{not, _&&_};
 ghost use mathlib.Core.Option.{none};

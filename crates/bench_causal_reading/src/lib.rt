@@ -1,8 +1,8 @@
 // The causal reading by itself, for the benchmark (tests/benchmark): the C library reads the text at each call, and here only
 // the reading of the values is made again.
-use causal_reading::Reading;
 use action_language::Description;
 use action_language::Law;
+use causal_reading::Reading;
 use history_reader::HistoryAnswer;
 ghost use mathlib.Core.Path.{_≡_};
 ghost use Rattle.causal_reading.specs.Readings.{replyOf, reading};

@@ -21,7 +21,7 @@ use Rattle.action_language.specs.declared.Head.the-variants.{Lit, False}
 use Rattle.action_language.specs.declared.Law.{Law}
 use Rattle.action_language.specs.Meaning.{Interpretation, satisfies, satisfiesHead, caused}
 use Rattle.causal_steps.specs.Applying.{appliesInStep, literalIn, headIs, someCause, contradicts}
-use Rattle.causal_steps.specs.Marked.{before, marked, MarksOf}
+use Rattle.causal_steps.specs.Marked.{before, markedCaused, MarksOf}
 use Rattle.causal_steps.specs.Internal.{effectOf, isCause, headMarked}
 use Rattle.causal_steps.specs.declared.laws.Effect.{Effect}
 use Rattle.causal_steps.specs.declared.laws.Effect.the-variants.{Idle, Causes, Contradicts}
@@ -67,10 +67,10 @@ causes-nothing (Causes d) told c = absurd (⊎-elim (λ z. omega arith) (λ z. o
 causes-nothing Contradicts told c = refl
 
 -- marks after a store
-pub stored : (marks : List Bool) (code : ℕ) → code < length marks → (c : ℕ) → marked (set marks code true) c ≡ (eqb code c || marked marks c)
+pub stored : (marks : List Bool) (code : ℕ) → code < length marks → (c : ℕ) → markedCaused (set marks code true) c ≡ (eqb code c || markedCaused marks c)
 stored marks code h c = getD-set marks code true false h c ∙ go (eqb code c)
   where
-    go : (b : Bool) → cond b true (marked marks c) ≡ (b || marked marks c)
+    go : (b : Bool) → cond b true (markedCaused marks c) ≡ (b || markedCaused marks c)
     go true = refl
     go false = refl
 
@@ -86,12 +86,12 @@ before-none p k (x ∷ xs) e = go (p x) e (before-none p (suc k) xs)
 
 -- marks of what some law causes are marks of what is caused
 pub marks-caused : (n : ℕ) (s a s′ : Interpretation) (ls : List Law) (marks : List Bool) → length marks ≡ 256
-    → ((c : ℕ) → marked marks c ≡ someCause (appliesInStep n s a s′) c ls) → MarksOf (caused n s a s′ ls) marks
+    → ((c : ℕ) → markedCaused marks c ≡ someCause (appliesInStep n s a s′) c ls) → MarksOf (caused n s a s′ ls) marks
 marks-caused n s a s′ ls marks size is = (size, λ c. rw (is c) (cause-iff-caused n s a s′ c ls))
 
 pub caused-marks : (n : ℕ) (s a s′ : Interpretation) (ls : List Law) (marks : List Bool) → MarksOf (caused n s a s′ ls) marks
-    → (c : ℕ) → marked marks c ≡ someCause (appliesInStep n s a s′) c ls
-caused-marks n s a s′ ls marks h c = go (marked marks c) (someCause (appliesInStep n s a s′) c ls) (h .1 c) (cause-iff-caused n s a s′ c ls)
+    → (c : ℕ) → markedCaused marks c ≡ someCause (appliesInStep n s a s′) c ls
+caused-marks n s a s′ ls marks h c = go (markedCaused marks c) (someCause (appliesInStep n s a s′) c ls) (h .1 c) (cause-iff-caused n s a s′ c ls)
   where
     go : (x y : Bool) {M : Type 0} → x ≡ true ↔ M → y ≡ true ↔ M → x ≡ y
     go true true f g = refl
@@ -100,7 +100,7 @@ caused-marks n s a s′ ls marks h c = go (marked marks c) (someCause (appliesIn
     go false false f g = refl
 
 -- a law whose head is marked or not, where all that is marked holds in the new state
-module _ (s′ : Interpretation) (marks : List Bool) (held : (c : ℕ) → marked marks c ≡ true → satisfies s′ c ≡ true) where
+module _ (s′ : Interpretation) (marks : List Bool) (held : (c : ℕ) → markedCaused marks c ≡ true → satisfies s′ c ≡ true) where
   -- it contradicts only where its head is not marked
   pub known-contradicting : (h : Head) (b known : Bool) → effectOf s′ h (not known && b) ≡ Contradicts → (b && not (satisfiesHead s′ h)) ≡ true
   known-contradicting h b true e = let z : _≡_ {A = ℕ} 0 1 = cc in absurd (omega arith)
@@ -109,7 +109,7 @@ module _ (s′ : Interpretation) (marks : List Bool) (held : (c : ℕ) → marke
   -- and where it is, nothing is left to be marked
   pub known-agreeing : (h : Head) (b known : Bool) → known ≡ headMarked marks h → OneOf (0 ∷ 1 ∷ []) (tagOf the-type (effectOf s′ h (not known && b)))
       → ((b && not (satisfiesHead s′ h)) ≡ false)
-      × ((c : ℕ) → (isCause (effectOf s′ h (not known && b)) c || marked marks c) ≡ ((b && headIs h c) || marked marks c))
+      × ((c : ℕ) → (isCause (effectOf s′ h (not known && b)) c || markedCaused marks c) ≡ ((b && headIs h c) || markedCaused marks c))
   known-agreeing h b false is told = let agrees = agreeing s′ h b told in (agrees .0, λ c. rw (agrees .1 c))
   known-agreeing (Lit d) b true is told = (rw (held d (sym is)) (none-against b), λ c. same c (eqb d c) refl b)
     where
@@ -117,7 +117,7 @@ module _ (s′ : Interpretation) (marks : List Bool) (held : (c : ℕ) → marke
       none-against true = refl
       none-against false = refl
 
-      same : (c : ℕ) (e : Bool) → eqb d c ≡ e → (v : Bool) → marked marks c ≡ ((v && e) || marked marks c)
+      same : (c : ℕ) (e : Bool) → eqb d c ≡ e → (v : Bool) → markedCaused marks c ≡ ((v && e) || markedCaused marks c)
       same c true q true = rw (← eqb-true d c q) (sym is)
       same c false q true = refl
       same c e q false = refl
@@ -136,14 +136,14 @@ module _ (n : ℕ) (s a s′ : Interpretation) (ls : List Law) (count end : ℕ)
   abbrev pub Ahead : ℕ → List Bool → Type 0
   Ahead i marks =
       (first against i (drop i (take end ls)) ≡ first against 0 (take count ls))
-      × ((c : ℕ) → (marked marks c || someCause applied c (before against (drop i (take end ls)))) ≡ someCause applied c (before against (take count ls)))
-      × ((c : ℕ) → marked marks c ≡ true → satisfies s′ c ≡ true)
+      × ((c : ℕ) → (markedCaused marks c || someCause applied c (before against (drop i (take end ls)))) ≡ someCause applied c (before against (take count ls)))
+      × ((c : ℕ) → markedCaused marks c ≡ true → satisfies s′ c ≡ true)
 
   pub try-start : take end ls ≡ take count ls → (marks : List Bool) → marks ≡ replicate 256 false → Ahead 0 marks
   try-start all marks is = (
     rw all,
     λ c. rw (is, getD-replicate 256 c false, all),
-    λ c e. absurd (not-both e (ap (λ l. marked l c) is ∙ getD-replicate 256 c false)),
+    λ c e. absurd (not-both e (ap (λ l. markedCaused l c) is ∙ getD-replicate 256 c false)),
   )
 
   module _ (i : ℕ) (d : Law) (marks : List Bool) (known : Bool) where
@@ -154,19 +154,19 @@ module _ (n : ℕ) (s a s′ : Interpretation) (ls : List Law) (count end : ℕ)
         let found = known-contradicting s′ marks (inv .2) (getD ls i d .head) (applied (getD ls i d)) known (sym is ∙ told) in (
           prefix-stop against ls end i d h within (inv .0) found,
           marks-caused n s a s′ (before against (take count ls)) marks size
-              (λ c. sym (or-false (marked marks c)) ∙ (rw (rest-cons ls end i d h within, found) at (inv .1 c))),
+              (λ c. sym (or-false (markedCaused marks c)) ∙ (rw (rest-cons ls end i d h within, found) at (inv .1 c))),
         )
 
     pub try-go : i < end → end ≤ length ls → Ahead i marks → known ≡ headMarked marks (getD ls i d .head)
         → (e : Effect) → e ≡ effectOf s′ (getD ls i d .head) (not known && applied (getD ls i d)) → OneOf (0 ∷ 1 ∷ []) (tagOf the-type e)
-        → (next : List Bool) → ((c : ℕ) → marked next c ≡ (isCause e c || marked marks c)) → Ahead (i + 1) next
+        → (next : List Bool) → ((c : ℕ) → markedCaused next c ≡ (isCause e c || markedCaused marks c)) → Ahead (i + 1) next
     try-go h within inv head-known e is told next marking =
         let agrees = known-agreeing s′ marks (inv .2) (getD ls i d .head) (applied (getD ls i d)) known head-known (rw is at told) in (
           prefix-go against ls end i d h within (inv .0) (agrees .0),
           λ c. rw (marking c, is, agrees .1 c)
-              (exchange (applied (getD ls i d) && headIs (getD ls i d .head) c) (marked marks c) _ ∙ (rw (rest-cons ls end i d h within, agrees .0) at (inv .1 c))),
+              (exchange (applied (getD ls i d) && headIs (getD ls i d .head) c) (markedCaused marks c) _ ∙ (rw (rest-cons ls end i d h within, agrees .0) at (inv .1 c))),
           λ c q. ⊎-elim (λ now. caused-holds s′ (getD ls i d .head) (not known && applied (getD ls i d)) c (rw is at now)) (inv .2 c)
-              (or-iff (isCause e c) (marked marks c) .0 (sym (marking c) ∙ q)),
+              (or-iff (isCause e c) (markedCaused marks c) .0 (sym (marking c) ∙ q)),
         )
       where
         exchange : (x y z : Bool) → ((x || y) || z) ≡ (y || (x || z))
@@ -178,13 +178,13 @@ module _ (n : ℕ) (s a s′ : Interpretation) (ls : List Law) (count end : ℕ)
       → (none ≡ first against 0 (take count ls)) × MarksOf (caused n s a s′ (before against (take count ls))) marks
   try-done i marks h size inv = (
     prefix-done against ls end i h (inv .0),
-    marks-caused n s a s′ (before against (take count ls)) marks size (λ c. sym (or-false (marked marks c)) ∙ (rw (rest-done ls end i h) at (inv .1 c))),
+    marks-caused n s a s′ (before against (take count ls)) marks size (λ c. sym (or-false (markedCaused marks c)) ∙ (rw (rest-done ls end i h) at (inv .1 c))),
   )
 
 -- where no law contradicts, the lowest fluent that is not marked is the lowest without a cause
 pub unmarked-uncaused : (n : ℕ) (s a s′ : Interpretation) (ls : List Law) (marks : List Bool)
     → let against = contradicts (appliesInStep n s a s′) s′ in first against 0 ls ≡ none → MarksOf (caused n s a s′ (before against ls)) marks
-    → first (λ f. not (marked marks (literalIn s′ f))) 0 (range 0 n)
+    → first (λ f. not (markedCaused marks (literalIn s′ f))) 0 (range 0 n)
     ≡ first (λ f. not (someCause (appliesInStep n s a s′) (literalIn s′ f) ls)) 0 (range 0 n)
 unmarked-uncaused n s a s′ ls marks e h =
     let all = before-none (contradicts (appliesInStep n s a s′) s′) 0 ls e in

@@ -7,7 +7,7 @@ use lib.Dec.{eqb}
 use Rattle.action_language.specs.declared.Head.{Head}
 use Rattle.action_language.specs.declared.Head.the-variants.{Lit, False}
 use Rattle.action_language.specs.Meaning.{Interpretation, satisfies}
-use Rattle.causal_steps.specs.Marked.{marked}
+use Rattle.causal_steps.specs.Marked.{markedCaused}
 use Rattle.causal_steps.specs.declared.laws.Effect.{Effect}
 use Rattle.causal_steps.specs.declared.laws.Effect.the-variants.{Idle, Causes, Contradicts}
 
@@ -28,5 +28,5 @@ isCause Contradicts c = false
 
 -- a head is marked; false never is
 abbrev pub headMarked : List Bool → Head → Bool
-headMarked marks (Lit c) = marked marks c
+headMarked marks (Lit c) = markedCaused marks c
 headMarked marks False = false

@@ -15,9 +15,9 @@ before p [] = []
 before p (x ∷ xs) = cond (p x) [] (x ∷ before p xs)
 
 -- a code past the last mark is not marked
-abbrev pub marked : List Bool → ℕ → Bool
-marked marks c = getD marks c false
+abbrev pub markedCaused : List Bool → ℕ → Bool
+markedCaused marks c = getD marks c false
 
 -- code c is marked exactly if its literal is among the heads; a head's code is a byte
 abbrev pub MarksOf : List Head → List Bool → Type 0
-MarksOf heads marks = (length marks ≡ 256) × ((c : ℕ) → marked marks c ≡ true ↔ List·Memᴰ (Lit c) heads)
+MarksOf heads marks = (length marks ≡ 256) × ((c : ℕ) → markedCaused marks c ≡ true ↔ List·Memᴰ (Lit c) heads)

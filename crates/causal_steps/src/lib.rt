@@ -5,15 +5,15 @@ mod marks;
 mod values;
 
 use action_language::Law;
-use laws::Effect;
 use basics::Found;
+use laws::Effect;
 ghost use mathlib.Core.Path.{_≡_};
 ghost use mathlib.Core.Bool.{not};
 ghost use lib.ListN.{take};
 ghost use Rattle.basics.specs.Search.{first, range, placeOf};
 ghost use Rattle.action_language.specs.Meaning.{caused};
 ghost use Rattle.causal_steps.specs.Applying.{read, literalIn, contradicts, appliesAtStart, appliesInStep};
-ghost use Rattle.causal_steps.specs.Marked.{before, marked, MarksOf};
+ghost use Rattle.causal_steps.specs.Marked.{before, markedCaused, MarksOf};
 
 // The lowest law that contradicts the new state, and the marks of what the laws before it cause, one mark a code.
 pub struct Tried {
@@ -65,7 +65,7 @@ pub fn try_laws(
 
 // The lowest of the n fluents whose literal in the state is not marked.
 pub fn first_uncaused(marks: &[bool], n: usize, state: &[u8]) -> Found
-    ensures { λ r. ⌜ placeOf r ≡ first (λ f. not (marked (now (marks .entry)) (literalIn (read (now (state .entry))) f))) 0 (range 0 n) ⌝ }
+    ensures { λ r. ⌜ placeOf r ≡ first (λ f. not (markedCaused (now (marks .entry)) (literalIn (read (now (state .entry))) f))) 0 (range 0 n) ⌝ }
 {
     let mut f = 0;
     while f < n {

@@ -6,7 +6,7 @@ ghost use mathlib.Core.Path.{_≡_};
 ghost use mathlib.Core.Bool.{false, cond, _||_};
 ghost use Prim.Native.Nat.{ℕ, _+_, _*_, _≤_};
 ghost use lib.ListN.{length, replicate};
-ghost use Rattle.causal_steps.specs.Marked.{marked};
+ghost use Rattle.causal_steps.specs.Marked.{markedCaused};
 ghost use Rattle.causal_steps.specs.Internal.{headMarked, isCause};
 
 // A mark for each code that a law can hold as its head, all clear.
@@ -20,7 +20,7 @@ pub(crate) fn clear() -> [bool; 256]
 pub(crate) fn mark(marks: &mut [bool], effect: Effect)
     requires { ⌜ 256 ≤ length (now marks) ⌝ }
     ensures { λ _. ⌜ (length (now (marks .exit)) ≡ length (now (marks .entry)))
-        × ((c : ℕ) → marked (now (marks .exit)) c ≡ (isCause effect c || marked (now (marks .entry)) c)) ⌝ }
+        × ((c : ℕ) → markedCaused (now (marks .exit)) c ≡ (isCause effect c || markedCaused (now (marks .entry)) c)) ⌝ }
 {
     match effect {
         Effect::Causes(code) => {
@@ -31,7 +31,7 @@ pub(crate) fn mark(marks: &mut [bool], effect: Effect)
 }
 
 fn has(marks: &[bool], code: usize) -> bool
-    ensures { λ r. ⌜ r ≡ marked (now (marks .entry)) code ⌝ }
+    ensures { λ r. ⌜ r ≡ markedCaused (now (marks .entry)) code ⌝ }
 {
     if code < marks.len() {
         return marks[code];
@@ -51,7 +51,7 @@ pub(crate) fn has_head(marks: &[bool], head: Head) -> bool
 
 // Whether the literal of fluent f with this value is marked.
 pub(crate) fn has_literal(marks: &[bool], f: usize, value: bool) -> bool
-    ensures { λ r. ⌜ r ≡ marked (now (marks .entry)) (cond value (2 * f) (2 * f + 1)) ⌝ }
+    ensures { λ r. ⌜ r ≡ markedCaused (now (marks .entry)) (cond value (2 * f) (2 * f + 1)) ⌝ }
 {
     if marks.len() <= f {
         return false;

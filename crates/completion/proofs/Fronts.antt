@@ -19,7 +19,7 @@ use Rattle.rule_tables.specs.Internal.{Sound}
 use Rattle.rule_tables.proofs.Walking.{rules-front, sound-size, sound-head}
 use Rattle.completion_theory.specs.Findings.{bodyHolds, sameHead, differ}
 use Rattle.completion_theory.specs.LevelLists.{isBelow, levelOf, standsAbove}
-use Rattle.completion.specs.Internal.{marked, readAs, frontHolds, markOf, headOfMark, heldAt, failingFalse}
+use Rattle.completion.specs.Internal.{markedHead, readAs, frontHolds, markOf, headOfMark, heldAt, failingFalse}
 
 -- a body: first its negated parts are looked at, then its plain ones
 module _ (X : Lits) (ws : List ℕ) where
@@ -82,19 +82,19 @@ module _ (ws : List ℕ) (h : 0 < length ws) (s : Sound ws) where
 
   -- what is marked, or will be by the rules that are left
   module _ (X : Lits) (held : List Bool) (k : ℕ) where
-    held-front : (marked held k || heldAt (rulesOf ws) X k)
-        ≡ (marked held k || ((sameHead (headOf (getD ws 0 0)) (headOfMark k) && bodyHolds X (ruleAt ws)) || heldAt (rulesOf (drop (ruleSize ws) ws)) X k))
+    held-front : (markedHead held k || heldAt (rulesOf ws) X k)
+        ≡ (markedHead held k || ((sameHead (headOf (getD ws 0 0)) (headOfMark k) && bodyHolds X (ruleAt ws)) || heldAt (rulesOf (drop (ruleSize ws) ws)) X k))
     held-front = rw (rules-front ws h)
 
-    held-idle : {R : Bool} → (marked held k || heldAt (rulesOf ws) X k) ≡ R → bodyHolds X (ruleAt ws) ≡ false
-        → (marked held k || heldAt (rulesOf (drop (ruleSize ws) ws)) X k) ≡ R
+    held-idle : {R : Bool} → (markedHead held k || heldAt (rulesOf ws) X k) ≡ R → bodyHolds X (ruleAt ws) ≡ false
+        → (markedHead held k || heldAt (rulesOf (drop (ruleSize ws) ws)) X k) ≡ R
     held-idle inv e = rw (held-front, e, and-false (sameHead (headOf (getD ws 0 0)) (headOfMark k))) at inv
 
-    held-mark : {R : Bool} → (marked held k || heldAt (rulesOf ws) X k) ≡ R → bodyHolds X (ruleAt ws) ≡ true → markOf (getD ws 0 0) < length held
-        → (marked (set held (markOf (getD ws 0 0)) true) k || heldAt (rulesOf (drop (ruleSize ws) ws)) X k) ≡ R
+    held-mark : {R : Bool} → (markedHead held k || heldAt (rulesOf ws) X k) ≡ R → bodyHolds X (ruleAt ws) ≡ true → markOf (getD ws 0 0) < length held
+        → (markedHead (set held (markOf (getD ws 0 0)) true) k || heldAt (rulesOf (drop (ruleSize ws) ws)) X k) ≡ R
     held-mark inv e below =
         rw (getD-set held (markOf (getD ws 0 0)) true false below k, mark-head k)
-        (joined (sameHead (headOf (getD ws 0 0)) (headOfMark k)) (marked held k) _ ∙ (rw (held-front, e) at inv))
+        (joined (sameHead (headOf (getD ws 0 0)) (headOfMark k)) (markedHead held k) _ ∙ (rw (held-front, e) at inv))
       where
         joined : (q m rest : Bool) → (cond q true m || rest) ≡ (m || ((q && true) || rest))
         joined true true rest = refl
@@ -105,8 +105,8 @@ module _ (ws : List ℕ) (h : 0 < length ws) (s : Sound ws) where
   -- a turn: the mark of the rule's head is set, or nothing is
   pub held-turn : (X : Lits) (old new : List Bool) (r : Bool) (m : ℕ) → r ≡ frontHolds X ws → m ≡ markOf (getD ws 0 0)
       → ((r ≡ true) × (new ≡ set old m true)) ⊎ ((r ≡ false) × (new ≡ old)) → length old ≡ 2049 → {R : Lits}
-      → ((k : ℕ) → (marked old k || heldAt (rulesOf ws) X k) ≡ R k)
-      → (length new ≡ 2049) × ((k : ℕ) → (marked new k || heldAt (rulesOf (drop (ruleSize ws) ws)) X k) ≡ R k)
+      → ((k : ℕ) → (markedHead old k || heldAt (rulesOf ws) X k) ≡ R k)
+      → (length new ≡ 2049) × ((k : ℕ) → (markedHead new k || heldAt (rulesOf (drop (ruleSize ws) ws)) X k) ≡ R k)
   held-turn X old new r m is at-mark (inl w) size inv = (
     rw (w .1) (length-set old m true ∙ size),
     λ k. rw (w .1, at-mark) (held-mark X old k (inv k) (sym (whole-holds X ws (sound-size ws h s) is) ∙ w .0) (omega (arith, mark-below m at-mark))),

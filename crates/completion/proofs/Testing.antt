@@ -15,7 +15,7 @@ use Rattle.rule_tables.proofs.Walking.{accepted-sound}
 use Rattle.answer_sets.specs.Answers.{tooManyValues}
 use Rattle.answer_sets.specs.Demand2.{Accepted}
 use Rattle.answer_sets.proofs.Theorems.{few-values}
-use Rattle.completion_theory.specs.Findings.{Finding, finding}
+use Rattle.completion_theory.specs.Findings.{FormulaFinding, formulaFinding}
 use Rattle.completion_theory.specs.LevelLists.{badLevels}
 use Rattle.completion_theory.specs.Answers.{afterTests, answer, answerByLevels}
 use Rattle.completion_theory.proofs.Theorems.{comes-next}
@@ -69,15 +69,15 @@ module _ (vs ws : List ℕ) where
   -- the answers from there on
   pub says-refused : {number place : ℕ} → refused number place ≡ tested vs ws → refused number place ≡ answer vs ws
   unfolding answer
-  says-refused e = still-refused (answered (finding vs ws)) e
+  says-refused e = still-refused (answered (formulaFinding vs ws)) e
 
-  pub says-found : Accepted vs ws → answered (finding vs ws) ≡ answer vs ws
+  pub says-found : Accepted vs ws → answered (formulaFinding vs ws) ≡ answer vs ws
   unfolding answer
-  says-found accepted = comes-next vs ws (answered (finding vs ws)) accepted
+  says-found accepted = comes-next vs ws (answered (formulaFinding vs ws)) accepted
 
   module _ (levels : List ℕ) where
-    abbrev levelled : Reply Finding
-    levelled = orRefuse (badLevels (length vs) ws levels) 13 (answered (finding vs ws))
+    abbrev levelled : Reply FormulaFinding
+    levelled = orRefuse (badLevels (length vs) ws levels) 13 (answered (formulaFinding vs ws))
 
     pub says-tested : {number place : ℕ} → refused number place ≡ tested vs ws → refused number place ≡ answerByLevels vs ws levels
     unfolding answerByLevels
@@ -87,7 +87,7 @@ module _ (vs ws : List ℕ) where
     unfolding answerByLevels
     says-13 accepted e = rw (← comes-next vs ws levelled accepted, e)
 
-    pub says-levelled : Accepted vs ws → badLevels (length vs) ws levels ≡ none → answered (finding vs ws) ≡ answerByLevels vs ws levels
+    pub says-levelled : Accepted vs ws → badLevels (length vs) ws levels ≡ none → answered (formulaFinding vs ws) ≡ answerByLevels vs ws levels
     unfolding answerByLevels
     says-levelled accepted e = rw (← comes-next vs ws levelled accepted, e)
 

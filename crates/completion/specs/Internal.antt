@@ -40,8 +40,8 @@ abbrev pub headOfMark : ℕ → Head
 headOfMark k = cond (eqb k 2048) falsum (lit k)
 
 -- the heads that a list of marks stands for
-abbrev pub marked : List Bool → Lits
-marked held k = getD held k false
+abbrev pub markedHead : List Bool → Lits
+markedHead held k = getD held k false
 
 abbrev pub heldAt : List Rule → Lits → Lits
 heldAt Π X k = someBody Π X (headOfMark k)

@@ -1,7 +1,7 @@
 // The heads that have a body that holds, as marks: one for each literal code, and one behind them for false.
+use basics::Found;
 use rule_tables::table;
 use rule_tables::values;
-use basics::Found;
 ghost use mathlib.Core.Path.{_≡_};
 ghost use mathlib.Core.Bool.{false};
 ghost use Prim.Native.Nat.{_*_, _≤_, _<_};
@@ -11,7 +11,7 @@ ghost use Rattle.logic_programs.specs.Literals.{setOf};
 ghost use Rattle.logic_programs.specs.Words.{rulesOf};
 ghost use Rattle.rule_tables.specs.Internal.{Sound};
 ghost use Rattle.completion_theory.specs.Findings.{differ};
-ghost use Rattle.completion.specs.Internal.{readAs, frontHolds, markOf, marked, heldAt, failingFalse};
+ghost use Rattle.completion.specs.Internal.{readAs, frontHolds, markOf, markedHead, heldAt, failingFalse};
 
 // The literal that a part of a body asks for: a plain part itself, a negated part's complement.
 fn read_as(part: usize, negated: bool) -> usize
@@ -76,7 +76,7 @@ fn mark_of(head: usize) -> usize
 
 // Whether a mark is set; past the last none is.
 fn is_held(held: &[bool], mark: usize) -> bool
-    ensures { λ r. ⌜ r ≡ marked (now (held .entry)) mark ⌝ }
+    ensures { λ r. ⌜ r ≡ markedHead (now (held .entry)) mark ⌝ }
 {
     if mark < held.len() {
         return held[mark];
@@ -88,7 +88,7 @@ fn is_held(held: &[bool], mark: usize) -> bool
 // have to wait for the word that the rule before it changed.
 pub(crate) fn held_heads(table: &[u16], values: &[u8]) -> [bool; 2049]
     requires { ⌜ Sound (now table) ⌝ }
-    ensures { λ r. ⌜ marked r ≡ heldAt (rulesOf (now (table .entry))) (setOf (now (values .entry))) ⌝ }
+    ensures { λ r. ⌜ markedHead r ≡ heldAt (rulesOf (now (table .entry))) (setOf (now (values .entry))) ⌝ }
 {
     let mut held = no_heads();
     let mut rest = table;
@@ -105,7 +105,7 @@ pub(crate) fn held_heads(table: &[u16], values: &[u8]) -> [bool; 2049]
 
 // Whether a literal is in the set while no body for it holds, or the other way round.
 fn literal_fails(values: &[u8], held: &[bool], code: usize) -> bool
-    ensures { λ r. ⌜ r ≡ differ (setOf (now (values .entry)) code) (marked (now (held .entry)) code) ⌝ }
+    ensures { λ r. ⌜ r ≡ differ (setOf (now (values .entry)) code) (markedHead (now (held .entry)) code) ⌝ }
 {
     values::has(values, code) != is_held(held, code)
 }
@@ -113,7 +113,7 @@ fn literal_fails(values: &[u8], held: &[bool], code: usize) -> bool
 // The lowest literal whose formula fails.
 pub(crate) fn first_failing(values: &[u8], held: &[bool]) -> Found
     requires { ⌜ length (now values) ≤ 1024 ⌝ }
-    ensures { λ r. ⌜ placeOf r ≡ first (λ c. differ (setOf (now (values .entry)) c) (marked (now (held .entry)) c)) 0 (range 0 (2 * length (now (values .entry)))) ⌝ }
+    ensures { λ r. ⌜ placeOf r ≡ first (λ c. differ (setOf (now (values .entry)) c) (markedHead (now (held .entry)) c)) 0 (range 0 (2 * length (now (values .entry)))) ⌝ }
 {
     let codes = 2 * values.len();
     for code in 0..codes {
@@ -126,7 +126,7 @@ pub(crate) fn first_failing(values: &[u8], held: &[bool]) -> Found
 
 // The head word of false, if the formula of false fails.
 pub(crate) fn false_failing(held: &[bool]) -> Found
-    ensures { λ r. ⌜ placeOf r ≡ failingFalse (marked (now (held .entry))) ⌝ }
+    ensures { λ r. ⌜ placeOf r ≡ failingFalse (markedHead (now (held .entry))) ⌝ }
 {
     if is_held(held, 2048) {
         return Found::At(65535);

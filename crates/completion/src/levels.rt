@@ -1,6 +1,6 @@
 // A level for each literal code, and refusal 13: each literal head is to stand above the plain parts of its rule.
-use rule_tables::table;
 use basics::Found;
+use rule_tables::table;
 ghost use mathlib.Core.Path.{_≡_};
 ghost use mathlib.Core.Bool.{not};
 ghost use Prim.Native.Nat.{_≤_};

@@ -11,7 +11,7 @@ ghost use Prim.Native.Nat.{_≤_};
 ghost use lib.ListN.{length};
 ghost use Rattle.basics.specs.Replies.{answered};
 ghost use Rattle.logic_programs.specs.Words.{badRule};
-ghost use Rattle.completion_theory.specs.Findings.{finding};
+ghost use Rattle.completion_theory.specs.Findings.{formulaFinding};
 ghost use Rattle.completion_theory.specs.Answers.{answer, answerByLevels};
 ghost use Rattle.completion.specs.Answers.{replyOf};
 ghost use Rattle.completion.specs.Internal.{testedOf, tested};
@@ -54,7 +54,7 @@ fn test(values: &[u8], table: &[u16]) -> Tested
 fn judge(values: &[u8], table: &[u16]) -> Answer
     requires { ⌜ length (now values) ≤ 1024 ⌝ }
     requires { ⌜ badRule (length (now values)) (now table) ≡ none ⌝ }
-    ensures { λ r. ⌜ replyOf r ≡ answered (finding (now (values .entry)) (now (table .entry))) ⌝ }
+    ensures { λ r. ⌜ replyOf r ≡ answered (formulaFinding (now (values .entry)) (now (table .entry))) ⌝ }
 {
     if let Found::At(atom) = rule_tables::values::first_none_or_both(values) {
         if values[atom] == 0 {

@@ -1,9 +1,9 @@
 // Writes the answer of the completion formulas to each case in the file cases, a line each. A case is a line of decimal numbers
 // with single spaces between them: 0 for the call without levels or 1 for the call with them; how many atoms there are and a
 // value for each; with levels, how many there are and the levels; and the words of the table.
+use basics::Found;
 use completion::Answer;
 use libc::STDOUT_FILENO;
-use basics::Found;
 
 // Bytes as they are.
 fn write_word(word: &[u8]) {

@@ -19,7 +19,7 @@ use Rattle.logic_programs.specs.Rules.{Head, lit, falsum, Rule}
 use Rattle.logic_programs.specs.Words.{rulesOf}
 use Rattle.logic_programs.proofs.Values.{lowest-none-or-both, one-value-iff}
 use Rattle.tight_programs.specs.LiteralCompletion.{BodyHolds, SomeBody, Formula}
-use Rattle.completion_theory.specs.Findings.{Finding, missing, clash, fails, holds, bodyHolds, sameHead, someBody, differ, literalFails, judged, finding}
+use Rattle.completion_theory.specs.Findings.{FormulaFinding, missing, clash, fails, holds, bodyHolds, sameHead, someBody, differ, literalFails, judgedByFormulas, formulaFinding}
 use Rattle.completion_theory.specs.Meaning.{NoValue, BothValues, NoneOrBoth, ByFormulas}
 
 -- The formulas' tests
@@ -87,7 +87,7 @@ module _ (Π : List Rule) (X : Lits) where
 
 -- What is found, from the three searches
 
-abbrev of : Option ℕ → (ℕ → Bool) → Option ℕ → Bool → Finding
+abbrev of : Option ℕ → (ℕ → Bool) → Option ℕ → Bool → FormulaFinding
 of a lacks c d = orElse a (λ i. cond (lacks i) (missing i) (clash i)) (orElse c (λ k. fails (lit k)) (cond d (fails falsum) holds))
 
 of-missing : (a : Option ℕ) (lacks : ℕ → Bool) (c : Option ℕ) (d : Bool) (k : ℕ) → of a lacks c d ≡ missing k ↔ ((a ≡ some k) × (lacks k ≡ true))
@@ -137,7 +137,7 @@ of-holds none lacks (some i) d = (λ e. (cc, cc, cc), λ h. cc)
 of-holds none lacks none true = (λ e. (cc, cc, cc), λ h. cc)
 of-holds none lacks none false = (λ e. (cc, cc, cc), λ h. cc)
 
-module _ (vs ws : List ℕ) (few : badValue vs ≡ none) (reply : Reply Finding) (is : reply ≡ answered (finding vs ws)) where
+module _ (vs ws : List ℕ) (few : badValue vs ≡ none) (reply : Reply FormulaFinding) (is : reply ≡ answered (formulaFinding vs ws)) where
   abbrev Π : List Rule
   Π = rulesOf ws
 
@@ -157,8 +157,8 @@ module _ (vs ws : List ℕ) (few : badValue vs ≡ none) (reply : Reply Finding)
   abbrev d : Bool
   d = someBody Π X falsum
 
-  found : (f : Finding) → reply ≡ answered f ↔ of a lacks c d ≡ f
-  unfolding finding judged
+  found : (f : FormulaFinding) → reply ≡ answered f ↔ of a lacks c d ≡ f
+  unfolding formulaFinding judgedByFormulas
   found f = let same : reply ≡ answered (of a lacks c d) = is in (λ e. cc, λ e. cc)
 
   one-value : a ≡ none ↔ Each OneValue vs

@@ -23,7 +23,7 @@ use Rattle.answer_sets.specs.Demand2.{Accepted, noRule, Demand2}
 use Rattle.answer_sets.proofs.Decoding.{accepted-count}
 use Rattle.answer_sets.proofs.Theorems.{demand-2}
 use Rattle.tight_programs.specs.TightPrograms.{Tight}
-use Rattle.completion_theory.specs.Findings.{Finding, holds, finding}
+use Rattle.completion_theory.specs.Findings.{FormulaFinding, holds, formulaFinding}
 use Rattle.completion_theory.specs.LevelLists.{levelOf, standsAbove, badLevels}
 use Rattle.completion_theory.specs.Answers.{afterTests, answer, answerByLevels}
 use Rattle.completion_theory.specs.Meaning.{ByFormulas, SaysFormulas, NotAbove, ByLevels, SaysLevels}
@@ -35,23 +35,23 @@ pub comes-next : {A : Type 0} (vs ws : List ℕ) (next : Reply A) → Accepted v
 comes-next vs ws next h = rw (h .0, h .1, h .2)
 
 module _ (vs ws : List ℕ) (accepted : Accepted vs ws) where
-  pub answered-finding : answer vs ws ≡ answered (finding vs ws)
+  pub answered-finding : answer vs ws ≡ answered (formulaFinding vs ws)
   unfolding answer
-  answered-finding = sym (comes-next vs ws (answered (finding vs ws)) accepted)
+  answered-finding = sym (comes-next vs ws (answered (formulaFinding vs ws)) accepted)
 
   pub says : ByFormulas vs (rulesOf ws) (answer vs ws)
   says = by-formulas vs ws (accepted .1) (answer vs ws) answered-finding
 
   -- of a tight table, for one value an atom, what holds are the answer sets
   module _ (one : Each OneValue vs) (level : ℕ → ℕ) (tight : Tight level (rulesOf ws)) where
-    holds-iff : (reply : Reply Finding) → ByFormulas vs (rulesOf ws) reply → reply ≡ answered holds ↔ AnswerSet (rulesOf ws) (setOf vs)
+    holds-iff : (reply : Reply FormulaFinding) → ByFormulas vs (rulesOf ws) reply → reply ≡ answered holds ↔ AnswerSet (rulesOf ws) (setOf vs)
     holds-iff reply by =
         Iff·trans (by .holds-exactly) (Iff·trans (λ h. h .1, λ h. (one, h)) (completion-answer-set vs ws (accepted .2) one level tight))
 
     pub holds-answer-set : answer vs ws ≡ answered holds ↔ AnswerSet (rulesOf ws) (setOf vs)
     holds-answer-set = holds-iff (answer vs ws) says
 
-    engine-iff : (reply : Reply Finding) → ByFormulas vs (rulesOf ws) reply → reply ≡ answered holds ↔ engine.answer vs ws ≡ answered passes
+    engine-iff : (reply : Reply FormulaFinding) → ByFormulas vs (rulesOf ws) reply → reply ≡ answered holds ↔ engine.answer vs ws ≡ answered passes
     unfolding Demand2
     engine-iff reply by = Iff·trans (holds-iff reply by) (Iff·symm (demand-2 vs ws accepted .passes-exactly))
 
@@ -66,15 +66,15 @@ module _ (vs ws levels : List ℕ) (accepted : Accepted vs ws) where
   abbrev rules : Option ℕ
   rules = first (λ r. not (standsAbove levels r)) 0 Π
 
-  abbrev reply : Reply Finding
+  abbrev reply : Reply FormulaFinding
   reply = answerByLevels vs ws levels
 
   lowest : (i : ℕ) → rules ≡ some i ↔ Lowest (NotAbove levels Π) (length Π) i
   lowest = first-lowest (λ r. not (standsAbove levels r)) noRule Π (length Π) refl (NotAbove levels Π) (λ i b. not-above-iff levels (getD Π i noRule))
 
-  pub next : reply ≡ orRefuse (badLevels n ws levels) 13 (answered (finding vs ws))
+  pub next : reply ≡ orRefuse (badLevels n ws levels) 13 (answered (formulaFinding vs ws))
   unfolding answerByLevels
-  next = sym (comes-next vs ws (orRefuse (badLevels n ws levels) 13 (answered (finding vs ws))) accepted)
+  next = sym (comes-next vs ws (orRefuse (badLevels n ws levels) 13 (answered (formulaFinding vs ws))) accepted)
 
   -- a place that refusal 13 names: that of the count, or a rule's
   pub place-below : (k : ℕ) → badLevels n ws levels ≡ some k → k < 65536
@@ -87,17 +87,17 @@ module _ (vs ws levels : List ℕ) (accepted : Accepted vs ws) where
 
   -- the count is wrong, or the rules decide
   counted : {b : Bool} → eqb (length levels) (2 * n) ≡ b
-      → reply ≡ orRefuse (orElse (cond b none (some 65535)) some rules) 13 (answered (finding vs ws))
+      → reply ≡ orRefuse (orElse (cond b none (some 65535)) some rules) 13 (answered (formulaFinding vs ws))
   unfolding badLevels
   counted e = rw e at next
 
-  right : length levels ≡ 2 * n → reply ≡ orRefuse rules 13 (answered (finding vs ws))
+  right : length levels ≡ 2 * n → reply ≡ orRefuse rules 13 (answered (formulaFinding vs ws))
   right e = counted (eq-eqb (length levels) (2 * n) e)
 
-  found : length levels ≡ 2 * n → Tight (levelOf levels) Π → reply ≡ answered (finding vs ws)
+  found : length levels ≡ 2 * n → Tight (levelOf levels) Π → reply ≡ answered (formulaFinding vs ws)
   found e tight = rw (tight-iff levels Π .1 tight) at (right e)
 
-  by-rule : (i : ℕ) (o : Option ℕ) → orRefuse o 13 (answered (finding vs ws)) ≡ refused 13 i ↔ o ≡ some i
+  by-rule : (i : ℕ) (o : Option ℕ) → orRefuse o 13 (answered (formulaFinding vs ws)) ≡ refused 13 i ↔ o ≡ some i
   by-rule i (some k) = (λ e. cc, λ e. cc)
   by-rule i none = (λ e. cc, λ e. cc)
 
@@ -140,11 +140,11 @@ module _ (vs ws levels : List ℕ) (accepted : Accepted vs ws) where
   }
 
 -- the answer, and whatever equals it
-pub keeps-formulas : (vs ws : List ℕ) {r : Reply Finding} → r ≡ answer vs ws → (r ≡ answer vs ws) × SaysFormulas vs ws r
+pub keeps-formulas : (vs ws : List ℕ) {r : Reply FormulaFinding} → r ≡ answer vs ws → (r ≡ answer vs ws) × SaysFormulas vs ws r
 unfolding SaysFormulas
 keeps-formulas vs ws e = (e, rw e (λ accepted. says vs ws accepted))
 
-pub keeps-levels : (vs ws levels : List ℕ) {r : Reply Finding} → r ≡ answerByLevels vs ws levels
+pub keeps-levels : (vs ws levels : List ℕ) {r : Reply FormulaFinding} → r ≡ answerByLevels vs ws levels
     → (r ≡ answerByLevels vs ws levels) × SaysLevels vs ws levels r
 unfolding SaysLevels
 keeps-levels vs ws levels e = (e, rw e (λ accepted. by-levels vs ws levels accepted))

@@ -7,7 +7,7 @@ use Rattle.basics.specs.Replies.{Reply, answered, orRefuse}
 use Rattle.logic_programs.specs.Literals.{badValue}
 use Rattle.logic_programs.specs.Words.{badRule}
 use Rattle.answer_sets.specs.Answers.{tooManyValues}
-use Rattle.completion_theory.specs.Findings.{Finding, finding}
+use Rattle.completion_theory.specs.Findings.{FormulaFinding, formulaFinding}
 use Rattle.completion_theory.specs.LevelLists.{badLevels}
 
 -- refusals 10, 11 and 12, which are the engine's, before what comes next
@@ -18,9 +18,9 @@ afterTests vs ws next =
     (orRefuse (badRule (length vs) ws) 12
     next))
 
-unfoldable pub answer : List ℕ → List ℕ → Reply Finding
-answer vs ws = afterTests vs ws (answered (finding vs ws))
+unfoldable pub answer : List ℕ → List ℕ → Reply FormulaFinding
+answer vs ws = afterTests vs ws (answered (formulaFinding vs ws))
 
 -- with levels: refusal 13 after 12
-unfoldable pub answerByLevels : List ℕ → List ℕ → List ℕ → Reply Finding
-answerByLevels vs ws levels = afterTests vs ws (orRefuse (badLevels (length vs) ws levels) 13 (answered (finding vs ws)))
+unfoldable pub answerByLevels : List ℕ → List ℕ → List ℕ → Reply FormulaFinding
+answerByLevels vs ws levels = afterTests vs ws (orRefuse (badLevels (length vs) ws levels) 13 (answered (formulaFinding vs ws)))

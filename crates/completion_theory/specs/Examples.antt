@@ -5,14 +5,14 @@ use mathlib.Core.List.{List, [], _∷_}
 use Prim.Native.Nat.{ℕ}
 use Rattle.basics.specs.Replies.{Reply, refused, answered}
 use Rattle.logic_programs.specs.Rules.{lit, falsum}
-use Rattle.completion_theory.specs.Findings.{Finding, missing, clash, fails, holds}
+use Rattle.completion_theory.specs.Findings.{FormulaFinding, missing, clash, fails, holds}
 use Rattle.completion_theory.specs.Answers.{answer, answerByLevels}
 
 -- values and a table, and what is answered
 pub record Example : Type 0 where
   pub values : List ℕ
   pub table : List ℕ
-  pub reply : Reply Finding
+  pub reply : Reply FormulaFinding
 
 abbrev pub Holds : Example → Type 0
 Holds e = answer (e .values) (e .table) ≡ e .reply
@@ -67,7 +67,7 @@ pub record LevelExample : Type 0 where
   pub values : List ℕ
   pub table : List ℕ
   pub levels : List ℕ
-  pub reply : Reply Finding
+  pub reply : Reply FormulaFinding
 
 abbrev pub HoldsByLevels : LevelExample → Type 0
 HoldsByLevels e = answerByLevels (e .values) (e .table) (e .levels) ≡ e .reply

@@ -12,11 +12,11 @@ use Rattle.logic_programs.specs.Literals.{Lits, complement, setOf, noneOrBoth}
 use Rattle.logic_programs.specs.Rules.{Head, lit, falsum, Rule}
 use Rattle.logic_programs.specs.Words.{rulesOf}
 
-pub data Finding : Type 0 where
-  missing : ℕ → Finding
-  clash : ℕ → Finding
-  fails : Head → Finding
-  holds : Finding
+pub data FormulaFinding : Type 0 where
+  missing : ℕ → FormulaFinding
+  clash : ℕ → FormulaFinding
+  fails : Head → FormulaFinding
+  holds : FormulaFinding
 
 -- the complement of each negated part is in X, and each plain part
 abbrev pub bodyHolds : Lits → Rule → Bool
@@ -42,14 +42,14 @@ abbrev pub literalFails : List Rule → Lits → ℕ → Bool
 literalFails Π X c = differ (X c) (someBody Π X (lit c))
 
 -- the lowest literal of n atoms whose formula fails, else false if its formula does
-unfoldable pub judged : ℕ → List Rule → Lits → Finding
-judged n Π X =
+unfoldable pub judgedByFormulas : ℕ → List Rule → Lits → FormulaFinding
+judgedByFormulas n Π X =
     orElse (first (literalFails Π X) 0 (range 0 (2 * n))) (λ c. fails (lit c)) (cond (someBody Π X falsum) (fails falsum) holds)
 
 -- an atom that has no value is missing, one that has both is a clash
-abbrev pub faultAt : List ℕ → ℕ → Finding
-faultAt vs atom = cond (eqb (getD vs atom 0) 0) (missing atom) (clash atom)
+abbrev pub formulaFault : List ℕ → ℕ → FormulaFinding
+formulaFault vs atom = cond (eqb (getD vs atom 0) 0) (missing atom) (clash atom)
 
 -- the lowest atom of value 0 or 3 decides; else the formulas
-unfoldable pub finding : List ℕ → List ℕ → Finding
-finding vs ws = orElse (first noneOrBoth 0 vs) (faultAt vs) (judged (length vs) (rulesOf ws) (setOf vs))
+unfoldable pub formulaFinding : List ℕ → List ℕ → FormulaFinding
+formulaFinding vs ws = orElse (first noneOrBoth 0 vs) (formulaFault vs) (judgedByFormulas (length vs) (rulesOf ws) (setOf vs))

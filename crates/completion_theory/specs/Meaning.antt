@@ -15,7 +15,7 @@ use Rattle.answer_sets.specs.Answers as engine
 use Rattle.answer_sets.specs.Demand2.{Accepted, noRule}
 use Rattle.tight_programs.specs.TightPrograms.{LowerParts, Tight}
 use Rattle.tight_programs.specs.LiteralCompletion.{Formula, Completion}
-use Rattle.completion_theory.specs.Findings.{Finding, missing, clash, fails, holds}
+use Rattle.completion_theory.specs.Findings.{FormulaFinding, missing, clash, fails, holds}
 use Rattle.completion_theory.specs.LevelLists.{levelOf}
 
 -- atom a has no value, or both
@@ -30,7 +30,7 @@ NoneOrBoth vs a = NoValue vs a ⊎ BothValues vs a
 
 -- the reply to values and a program: missing or clash at the lowest atom that has no value or both; then, each atom having one
 -- value, the lowest literal whose formula fails; false where only its formula does; and holds exactly if all formulas do
-pub record ByFormulas (vs : List ℕ) (Π : List Rule) (reply : Reply Finding) : Type 0 where
+pub record ByFormulas (vs : List ℕ) (Π : List Rule) (reply : Reply FormulaFinding) : Type 0 where
   pub missing-exactly : (a : ℕ) → reply ≡ answered (missing a) ↔ (Lowest (NoneOrBoth vs) (length vs) a × NoValue vs a)
   pub clash-exactly : (a : ℕ) → reply ≡ answered (clash a) ↔ (Lowest (NoneOrBoth vs) (length vs) a × BothValues vs a)
   pub fails-exactly : (c : ℕ) → reply ≡ answered (fails (lit c))
@@ -40,7 +40,7 @@ pub record ByFormulas (vs : List ℕ) (Π : List Rule) (reply : Reply Finding) :
   pub holds-exactly : reply ≡ answered holds ↔ (Each OneValue vs × Completion (length vs) Π (setOf vs))
 
 -- where neither 10 nor 11 nor 12 refuses
-unfoldable pub SaysFormulas : List ℕ → List ℕ → Reply Finding → Type 0
+unfoldable pub SaysFormulas : List ℕ → List ℕ → Reply FormulaFinding → Type 0
 SaysFormulas vs ws reply = Accepted vs ws → ByFormulas vs (rulesOf ws) reply
 
 -- rule i's head is a literal whose level is not above that of each of its plain parts
@@ -49,7 +49,7 @@ NotAbove levels Π i = LowerParts (levelOf levels) ((getD Π i noRule) .plain) (
 
 -- with levels: refusal 13 by their count, else by the lowest such rule; else the levels show that the program is tight, the reply
 -- is as without levels, and for one value an atom it is holds exactly if the engine passes (000, Proposition 3)
-pub record ByLevels (vs ws levels : List ℕ) (reply : Reply Finding) : Type 0 where
+pub record ByLevels (vs ws levels : List ℕ) (reply : Reply FormulaFinding) : Type 0 where
   pub count-exactly : reply ≡ refused 13 65535 ↔ (length levels ≡ 2 * length vs → ⊥)
   pub rule-exactly : (i : ℕ) → i < length (rulesOf ws) → reply ≡ refused 13 i
       ↔ ((length levels ≡ 2 * length vs) × Lowest (NotAbove levels (rulesOf ws)) (length (rulesOf ws)) i)
@@ -57,5 +57,5 @@ pub record ByLevels (vs ws levels : List ℕ) (reply : Reply Finding) : Type 0 w
   pub holds-engine : length levels ≡ 2 * length vs → Tight (levelOf levels) (rulesOf ws) → Each OneValue vs
       → reply ≡ answered holds ↔ engine.answer vs ws ≡ answered passes
 
-unfoldable pub SaysLevels : List ℕ → List ℕ → List ℕ → Reply Finding → Type 0
+unfoldable pub SaysLevels : List ℕ → List ℕ → List ℕ → Reply FormulaFinding → Type 0
 SaysLevels vs ws levels reply = Accepted vs ws → ByLevels vs ws levels reply

@@ -18,7 +18,7 @@ use Rattle.translation.proofs.Counts.{sumLaws, lawWordsOf, word-count}
 use Rattle.correctness.specs.Demand3.{Complete, PathOf}
 use Rattle.correctness.proofs.Demand3.{demand-3}
 use Rattle.cut_and_join.specs.Halves.{withHorizon, firstSteps, laterSteps, lastState, firstState, joined}
-use Rattle.cut_and_join.specs.Passing.{Reading, byPath, byAnswerSet, byEngine, byFormulas, byHistory, byCauses, Passed}
+use Rattle.cut_and_join.specs.Passing.{Criterion, byPath, byAnswerSet, byEngine, byFormulas, byHistory, byCauses, Passed}
 use Rattle.cut_and_join.specs.CutAndJoin.{ForReading, CuttingAndJoining}
 use Rattle.cut_and_join.proofs.Within.{path-part, path-whole}
 use Rattle.cut_and_join.proofs.Lists.{first-within, later-within, join-begins, join-goes-on, each-undoes-the-other}
@@ -53,12 +53,12 @@ module _ (d : Description) (ls : List Law) (lent : ℕ) where
 -- Readings
 
 -- it passes a complete set exactly if the set is a path
-abbrev Exact : Reading → Type 0
+abbrev Exact : Criterion → Type 0
 Exact Passes =
     (d : Description) (ls : List Law) (lent : ℕ) (vs table : List ℕ) → Complete d ls lent vs → length (tableFor d ls) ≤ length table
     → Passes d ls lent vs table ↔ PathOf d ls vs
 
-module _ (Passes : Reading) (exact : Exact Passes) (ls : List Law) (lent : ℕ) where
+module _ (Passes : Criterion) (exact : Exact Passes) (ls : List Law) (lent : ℕ) where
   passed-path : (d : Description) (vs : List ℕ) → Passed Passes d ls lent vs → PathOf d ls vs
   passed-path d vs h = exact d ls lent vs (tableFor d ls) (h .complete) (omega arith) .0 (h .passes (tableFor d ls) (omega arith))
 

@@ -17,10 +17,10 @@ use Rattle.causal_reading.specs.Verdicts.{path}
 use Rattle.causal_reading.specs.Readings as causal
 use Rattle.correctness.specs.Demand3.{Complete}
 use Rattle.cut_and_join.specs.Halves.{withHorizon, firstSteps, laterSteps, lastState, firstState, joined}
-use Rattle.cut_and_join.specs.Passing.{Reading, byPath, byAnswerSet, byEngine, byFormulas, byHistory, byCauses, Passed}
+use Rattle.cut_and_join.specs.Passing.{Criterion, byPath, byAnswerSet, byEngine, byFormulas, byHistory, byCauses, Passed}
 
 -- what is said of each reading, of a description and laws of which some number is lent
-pub record ForReading (Passes : Reading) (d : Description) (ls : List Law) (lent : ℕ) : Type 0 where
+pub record ForReading (Passes : Criterion) (d : Description) (ls : List Law) (lent : ℕ) : Type 0 where
   -- a passed history, cut after k steps, gives two
   pub cut : (vs : List ℕ) (k : ℕ) → Passed Passes d ls lent vs → 1 ≤ k → k < d .horizon
       → Passed Passes (withHorizon d k) ls lent (firstSteps (d .fluents) (d .actions) k vs)

@@ -21,35 +21,35 @@ use Rattle.causal_reading.specs.Readings as causal
 use Rattle.correctness.specs.Demand3.{Complete, PathOf}
 
 -- what passes: a description, a run of laws, the number of them lent, values, and a table lent
-abbrev pub Reading : Type 1
-Reading = Description → List Law → ℕ → List ℕ → List ℕ → Type 0
+abbrev pub Criterion : Type 1
+Criterion = Description → List Law → ℕ → List ℕ → List ℕ → Type 0
 
 -- a path of causally explained transitions
-abbrev pub byPath : Reading
+abbrev pub byPath : Criterion
 byPath d ls lent vs table = PathOf d ls vs
 
 -- an answer set of the published translation
-abbrev pub byAnswerSet : Reading
+abbrev pub byAnswerSet : Criterion
 byAnswerSet d ls lent vs table = AnswerSet (rulesFor d ls) (setOf vs)
 
 -- the engine passes, on the words that the translation leaves in front
-abbrev pub byEngine : Reading
+abbrev pub byEngine : Criterion
 byEngine d ls lent vs table = engine.answer vs (take (length (tableFor d ls)) (tableAfter d ls lent table)) ≡ answered passes
 
 -- the completion formulas of these words hold
-abbrev pub byFormulas : Reading
+abbrev pub byFormulas : Criterion
 byFormulas d ls lent vs table = completion.answer vs (take (length (tableFor d ls)) (tableAfter d ls lent table)) ≡ answered holds
 
 -- the history check passes
-abbrev pub byHistory : Reading
+abbrev pub byHistory : Criterion
 byHistory d ls lent vs table = history.checked d ls lent vs (length table) ≡ answered (history.judged passes)
 
 -- the causal reading says path
-abbrev pub byCauses : Reading
+abbrev pub byCauses : Criterion
 byCauses d ls lent vs table = causal.reading d ls lent vs ≡ answered path
 
 -- passed: the description is accepted, the values are one for each atom, and the reading passes them, whatever table is lent that
 -- is long enough
-pub record Passed (Passes : Reading) (d : Description) (ls : List Law) (lent : ℕ) (vs : List ℕ) : Type 0 where
+pub record Passed (Passes : Criterion) (d : Description) (ls : List Law) (lent : ℕ) (vs : List ℕ) : Type 0 where
   pub complete : Complete d ls lent vs
   pub passes : (table : List ℕ) → length (tableFor d ls) ≤ length table → Passes d ls lent vs table

@@ -20,24 +20,24 @@ module _ (text : List ℕ) (e : Ending) where
   unfolding takenOf
   ends-refused h = rw (ne-eqb (e .state .refused) 0 (λ z. absurd (omega arith)))
 
-  pub ends-read : e .state .refused ≤ 0 → takenOf text e ≡ answered (read (draftOf text (e .state .reading)) (drop (e .at) text) (e .line))
+  pub ends-read : e .state .refused ≤ 0 → takenOf text e ≡ answered (read (draftOf text (e .state .draft)) (drop (e .at) text) (e .line))
   unfolding takenOf
   ends-read h = rw (eq-eqb (e .state .refused) 0 (omega arith))
 
 -- a description that was read
 module _ (text : List ℕ) (e : Ending) (laws : List Law) (ended : Ended laws text e) where
-  taken : length (take (e .state .reading .run .count) (e .state .reading .run .laws)) ≡ e .state .reading .run .count
+  taken : length (take (e .state .draft .run .count) (e .state .draft .run .laws)) ≡ e .state .draft .run .count
   taken =
-      omega (arith, length-take (e .state .reading .run .count) (e .state .reading .run .laws), ended .sound .held, sound-64 (ended .sound))
+      omega (arith, length-take (e .state .draft .run .count) (e .state .draft .run .laws), ended .sound .held, sound-64 (ended .sound))
 
-  pub read-reply : answered (behind (e .at) (e .line)) ≡ replied text (answered (read (draftOf text (e .state .reading)) (drop (e .at) text) (e .line)))
+  pub read-reply : answered (behind (e .at) (e .line)) ≡ replied text (answered (read (draftOf text (e .state .draft)) (drop (e .at) text) (e .line)))
   read-reply =
       let at : length text - length (drop (e .at) text) ≡ e .at = omega (arith, length-drop (e .at) text, ended .within) in
       rw at
 
-  pub read-record : record { fluents = e .state .reading .fluents; actions = e .state .reading .names .count - e .state .reading .fluents; laws = e .state .reading .run .count; horizon = e .state .reading .horizon }
-      ≡ descriptionOf (draftOf text (e .state .reading))
+  pub read-record : record { fluents = e .state .draft .fluents; actions = e .state .draft .names .count - e .state .draft .fluents; laws = e .state .draft .run .count; horizon = e .state .draft .horizon }
+      ≡ descriptionOf (draftOf text (e .state .draft))
   read-record = rw (spelled-length, taken)
 
-  pub read-laws : e .state .reading .run .laws ≡ lawsLeft (answered (read (draftOf text (e .state .reading)) (drop (e .at) text) (e .line))) laws
-  read-laws = rw (taken, ← ended .follows) (sym (take-append-drop (e .state .reading .run .count) (e .state .reading .run .laws)))
+  pub read-laws : e .state .draft .run .laws ≡ lawsLeft (answered (read (draftOf text (e .state .draft)) (drop (e .at) text) (e .line))) laws
+  read-laws = rw (taken, ← ended .follows) (sym (take-append-drop (e .state .draft .run .count) (e .state .draft .run .laws)))

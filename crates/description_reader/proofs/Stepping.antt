@@ -19,7 +19,7 @@ use Rattle.description_reader.specs.declared.codes.Codes.{Codes}
 use Rattle.description_reader.specs.declared.Run.{Run}
 use Rattle.description_reader.specs.declared.states.Due as code
 use Rattle.description_reader.specs.declared.states.Due.the-variants as code-due
-use Rattle.description_reader.specs.declared.states.Reading.{Reading}
+use Rattle.description_reader.specs.declared.states.HeldDraft.{HeldDraft}
 use Rattle.description_reader.specs.LineSteps.{Due, horizonDue, firstFluentDue, fluentDue, actionDue, lawDue, ifDue, afterDue, byDue, allowed, withAfter}
 use Rattle.action_language.specs.Laws.{lawOf}
 use Rattle.text.specs.Lines.{ifKey, afterKey, byKey}
@@ -53,10 +53,10 @@ room-any (ifDue l) n h = h
 room-any (afterDue l) n h = h
 room-any (byDue l) n h = h
 
-pub sound-64 : {due : Due} {r : Reading} → Sound due r → r .run .count ≤ 64
+pub sound-64 : {due : Due} {r : HeldDraft} → Sound due r → r .run .count ≤ 64
 sound-64 {due} {r} s = at-most-64 due (r .run .count) (s .room)
 
-pub sound-limits : {due : Due} {r : Reading} → Sound due r → Limits r
+pub sound-limits : {due : Due} {r : HeldDraft} → Sound due r → Limits r
 sound-limits s = record { time = s .time; few = s .few; declared = s .declared; actions = s .actions }
 
 or-left : (a b : Bool) → a ≡ true → (a || b) ≡ true
@@ -122,7 +122,7 @@ module _ (l : Codes) (fits : Padded l) where
   list-places = rw (← fits .padding, gathered-length)
 
 -- where a law is whole, a law or the end is due
-pub pushed-sound : {due : Due} (s r : Reading) → Sound due s → s .run .count < 64 → Pushed s r → Sound lawDue r
+pub pushed-sound : {due : Due} (s r : HeldDraft) → Sound due s → s .run .count < 64 → Pushed s r → Sound lawDue r
 pushed-sound s r h few p =
     let names = ap (λ n. n .count) (p .names) in
     record {
@@ -141,7 +141,7 @@ pub if-dynamic : (d : Draft) (l : Law) (cs : List ℕ) → l .kind ≡ Dynamic �
 if-dynamic d l cs e = rw e
 
 -- the run has room where the draft has
-pub room-here : {due : Due} (text : List ℕ) (lent : ℕ) (r : Reading) → Sound due r → ltb (r .run .count) (min 64 lent) ≡ roomFor lent (draftOf text r)
+pub room-here : {due : Due} (text : List ℕ) (lent : ℕ) (r : HeldDraft) → Sound due r → ltb (r .run .count) (min 64 lent) ≡ roomFor lent (draftOf text r)
 room-here text lent r s = rw (counted (r .run .laws) (r .run .count) (s .held) (sound-64 s))
 
 pub room-64 : (n lent : ℕ) → ltb n (min 64 lent) ≡ true → n < 64

@@ -21,8 +21,8 @@ use Rattle.description_reader.specs.LineSteps.{Step, next, finish, lineS
 use Rattle.basics.specs.Replies.{Reply, refused}
 use Rattle.description_reader.specs.Descriptions.{Taken, afterStep, afterFirst, linesFrom, described}
 use Rattle.text.specs.declared.lines.LineAt.{LineAt}
-use Rattle.description_reader.specs.declared.states.Reading.{Reading}
-use Rattle.description_reader.specs.declared.states.State.{State}
+use Rattle.description_reader.specs.declared.states.HeldDraft.{HeldDraft}
+use Rattle.description_reader.specs.declared.states.ReaderState.{ReaderState}
 use Rattle.text.specs.Lists as lists
 use Rattle.text.specs.Lists.{Listed, codes, listFrom, listOf}
 use Rattle.text.specs.Internal.{lineOf, spelled, itemsAt}
@@ -131,7 +131,7 @@ by-test P true t f = t refl
 by-test P false t f = f refl
 
 -- a line's step with its list read is the line's step
-module _ (text : List ℕ) (lent : ℕ) (due : Due) (r : Reading) (key : ℕ) (list : List ℕ) (may : allowed due key ≡ true) where
+module _ (text : List ℕ) (lent : ℕ) (due : Due) (r : HeldDraft) (key : ℕ) (list : List ℕ) (may : allowed due key ≡ true) where
   abbrev d : Draft
   d = draftOf text r
 
@@ -178,7 +178,7 @@ module _ (text : List ℕ) (lent : ℕ) (due : Due) (r : Reading) (key : ℕ) (l
       (λ a. by-test Same (eqb key 13) same-by
       (λ b. by-test Same (eqb key 14) (λ e. same-nonexecutable e (roomFor lent d) refl) (λ n. same-other i a b n))))
 
-module _ (text : List ℕ) (lent : ℕ) (due : Due) (r : Reading) (key : ℕ) (list : List ℕ) where
+module _ (text : List ℕ) (lent : ℕ) (due : Due) (r : HeldDraft) (key : ℕ) (list : List ℕ) where
   abbrev Whole : Type 0
   Whole =
       stepWith lent due (draftOf text r) key list (lineList (spelled text (r .names)) (highFor key r) due key (roomFor lent (draftOf text r)) list)
@@ -220,8 +220,8 @@ module _ (lent : ℕ) (due : Due) (d : Draft) (key : ℕ) (list : List ℕ) (nam
   step-refused = rw no (with-list (allowed due key && isListKey key (roomFor lent d)) refl)
 
 -- the lines left from a place on
-abbrev pub leftAt : List ℕ → ℕ → State → ℕ → ℕ → Reply Taken
-leftAt text lent s at line = linesFrom (suc (length (drop at text))) lent line (dueAt s) (draftOf text (s .reading)) (drop at text)
+abbrev pub leftAt : List ℕ → ℕ → ReaderState → ℕ → ℕ → Reply Taken
+leftAt text lent s at line = linesFrom (suc (length (drop at text))) lent line (dueAt s) (draftOf text (s .draft)) (drop at text)
 
 pub left-start : (text : List ℕ) (lent : ℕ) (laws : List Law) → length text ≤ 65535 → leftAt text lent (blankState laws) 0 1 ≡ described lent text
 unfolding described spelled
@@ -231,20 +231,20 @@ left-start text lent laws h = rw (le-ltb 65535 (length text) h)
 abbrev pub Onward : List ℕ → ℕ → ℕ → ℕ → Step → ℕ → Reply Taken
 Onward text lent at line s behind = afterStep s line (drop behind text) (λ due d rest. linesFrom (length (drop at text)) lent (suc line) due d rest)
 
-module _ (text : List ℕ) (lent : ℕ) (s : State) (at line : ℕ) (l : LineAt) (is : lineOf text l ≡ firstLine (drop at text)) where
+module _ (text : List ℕ) (lent : ℕ) (s : ReaderState) (at line : ℕ) (l : LineAt) (is : lineOf text l ≡ firstLine (drop at text)) where
   keyed-turn : (b : Bool) → ltb (l .key) noKey ≡ b
-      → leftAt text lent s at line ≡ Onward text lent at line (lineStep lent (dueAt s) (draftOf text (s .reading)) (l .key) (take (l .to - l .from) (drop (l .from) text))) (l .next)
+      → leftAt text lent s at line ≡ Onward text lent at line (lineStep lent (dueAt s) (draftOf text (s .draft)) (l .key) (take (l .to - l .from) (drop (l .from) text))) (l .next)
   unfolding lineOf
   keyed-turn true e = rw (← is, e)
   keyed-turn false e =
-      rw (none-step (l .key) (ltb-false (l .key) noKey e) lent (dueAt s) (draftOf text (s .reading)) (take (l .to - l .from) (drop (l .from) text)), ← is, e)
+      rw (none-step (l .key) (ltb-false (l .key) noKey e) lent (dueAt s) (draftOf text (s .draft)) (take (l .to - l .from) (drop (l .from) text)), ← is, e)
 
   pub line-turn : leftAt text lent s at line
-      ≡ Onward text lent at line (lineStep lent (dueAt s) (draftOf text (s .reading)) (l .key) (take (l .to - l .from) (drop (l .from) text))) (l .next)
+      ≡ Onward text lent at line (lineStep lent (dueAt s) (draftOf text (s .draft)) (l .key) (take (l .to - l .from) (drop (l .from) text))) (l .next)
   line-turn = keyed-turn (ltb (l .key) noKey) refl
 
 -- an ending that is refused, and one where the reader stops
-outcome-by : (text : List ℕ) (s : State) (line at k : ℕ) (b : Bool) → eqb (s .refused) 0 ≡ b → stepOf text s ≡ step.refused k
+outcome-by : (text : List ℕ) (s : ReaderState) (line at k : ℕ) (b : Bool) → eqb (s .refused) 0 ≡ b → stepOf text s ≡ step.refused k
     → takenOf text (record { state = s; line = line; at = at }) ≡ refused k line
 unfolding stepOf takenOf
 outcome-by text s line at k true e h = go (s .ended) refl
@@ -257,12 +257,12 @@ outcome-by text s line at k false e h =
     let q : s .refused ≡ k = cc in
     rw (e, q)
 
-pub outcome-refused : (text : List ℕ) (s : State) (line at k : ℕ) → stepOf text s ≡ step.refused k
+pub outcome-refused : (text : List ℕ) (s : ReaderState) (line at k : ℕ) → stepOf text s ≡ step.refused k
     → takenOf text (record { state = s; line = line; at = at }) ≡ refused k line
 outcome-refused text s line at k h = outcome-by text s line at k (eqb (s .refused) 0) refl h
 
 -- the reader stops
-module _ (text : List ℕ) (lent at line : ℕ) (s : State) (behind : ℕ) where
+module _ (text : List ℕ) (lent at line : ℕ) (s : ReaderState) (behind : ℕ) where
   stop-by : (b : Bool) → eqb (s .refused) 0 ≡ b → (ltb 0 (s .refused) || s .ended) ≡ true
       → Onward text lent at line (stepOf text s) behind ≡ takenOf text (record { state = s; line = line; at = behind })
   unfolding stepOf takenOf
@@ -281,11 +281,11 @@ or-false true b h = (h, absurd (not-both refl h))
 or-false false b h = (refl, h)
 
 -- the reader goes on
-module _ (text : List ℕ) (s : State) (on : (ltb 0 (s .refused) || s .ended) ≡ false) where
+module _ (text : List ℕ) (s : ReaderState) (on : (ltb 0 (s .refused) || s .ended) ≡ false) where
   pub goes-refused : s .refused ≡ 0
   goes-refused = omega (arith, ltb-false 0 (s .refused) (or-false (ltb 0 (s .refused)) (s .ended) on .0))
 
-  pub goes-step : stepOf text s ≡ next (dueAt s) (draftOf text (s .reading))
+  pub goes-step : stepOf text s ≡ next (dueAt s) (draftOf text (s .draft))
   unfolding stepOf
   goes-step = rw (eq-eqb (s .refused) 0 goes-refused, or-false (ltb 0 (s .refused)) (s .ended) on .1)
 
@@ -304,33 +304,33 @@ module _ (text : List ℕ) (s : State) (on : (ltb 0 (s .refused) || s .ended) �
       → Onward text lent at line (stepOf text s) behind ≡ leftAt text lent s behind (line + 1)
   goes-left lent at line behind more within =
       rw (goes-step, add-one line)
-      (lines-enough (length (drop at text)) (suc (length (drop behind text))) lent (suc line) (dueAt s) (draftOf text (s .reading)) (drop behind text)
+      (lines-enough (length (drop at text)) (suc (length (drop behind text))) lent (suc line) (dueAt s) (draftOf text (s .draft)) (drop behind text)
       (omega (arith, length-drop at text, length-drop behind text)) (omega arith))
 
 -- the list of a line
-abbrev pub listHere : List ℕ → ℕ → State → LineAt → Listed
+abbrev pub listHere : List ℕ → ℕ → ReaderState → LineAt → Listed
 listHere text lent s l =
-    lineList (spelled text (s .reading .names)) (highFor (l .key) (s .reading)) (dueAt s) (l .key) (roomFor lent (draftOf text (s .reading)))
+    lineList (spelled text (s .draft .names)) (highFor (l .key) (s .draft)) (dueAt s) (l .key) (roomFor lent (draftOf text (s .draft)))
     (take (l .to - l .from) (drop (l .from) text))
 
 -- the line at a place, its list read or refused
-module _ (text : List ℕ) (lent : ℕ) (s : State) (at line : ℕ) (l : LineAt) (is : lineOf text l ≡ firstLine (drop at text)) where
+module _ (text : List ℕ) (lent : ℕ) (s : ReaderState) (at line : ℕ) (l : LineAt) (is : lineOf text l ≡ firstLine (drop at text)) where
   pub refused-left : (k : ℕ) → listHere text lent s l ≡ lists.refused k → leftAt text lent s at line ≡ refused k line
   refused-left k fails =
       let value = take (l .to - l .from) (drop (l .from) text) in
       line-turn text lent s at line l is
       ∙ ap (λ step. Onward text lent at line step (l .next))
-      (sym (step-whole text lent (dueAt s) (s .reading) (l .key) value)
-      ∙ step-refused lent (dueAt s) (draftOf text (s .reading)) (l .key) value (spelled text (s .reading .names)) (highFor (l .key) (s .reading)) k fails)
+      (sym (step-whole text lent (dueAt s) (s .draft) (l .key) value)
+      ∙ step-refused lent (dueAt s) (draftOf text (s .draft)) (l .key) value (spelled text (s .draft .names)) (highFor (l .key) (s .draft)) k fails)
 
-  module _ (r : State) (cs : List ℕ)
-      (steps : stepOf text r ≡ stepWith lent (dueAt s) (draftOf text (s .reading)) (l .key) (take (l .to - l .from) (drop (l .from) text)) (codes cs))
+  module _ (r : ReaderState) (cs : List ℕ)
+      (steps : stepOf text r ≡ stepWith lent (dueAt s) (draftOf text (s .draft)) (l .key) (take (l .to - l .from) (drop (l .from) text)) (codes cs))
       (whole : codes cs ≡ listHere text lent s l) where
-    pub stepped : stepOf text r ≡ lineStep lent (dueAt s) (draftOf text (s .reading)) (l .key) (take (l .to - l .from) (drop (l .from) text))
+    pub stepped : stepOf text r ≡ lineStep lent (dueAt s) (draftOf text (s .draft)) (l .key) (take (l .to - l .from) (drop (l .from) text))
     stepped =
         let value = take (l .to - l .from) (drop (l .from) text) in
-        steps ∙ ap (stepWith lent (dueAt s) (draftOf text (s .reading)) (l .key) value) whole
-        ∙ step-whole text lent (dueAt s) (s .reading) (l .key) value
+        steps ∙ ap (stepWith lent (dueAt s) (draftOf text (s .draft)) (l .key) value) whole
+        ∙ step-whole text lent (dueAt s) (s .draft) (l .key) value
 
     pub stepped-left : leftAt text lent s at line ≡ Onward text lent at line (stepOf text r) (l .next)
     stepped-left = line-turn text lent s at line l is ∙ ap (λ step. Onward text lent at line step (l .next)) (sym stepped)
@@ -342,7 +342,7 @@ part-stands (suc n) [] = refl
 part-stands (suc n) (x ∷ xs) = ap (λ ys. x ∷ ys) (part-stands n xs)
 
 -- bounds of a line's list
-pub high-32 : {due : Due} (key : ℕ) (r : Reading) → Sound due r → highFor key r ≤ 32
+pub high-32 : {due : Due} (key : ℕ) (r : HeldDraft) → Sound due r → highFor key r ≤ 32
 unfolding highFor
 high-32 key r s = go (eqb key 5)
   where
@@ -358,10 +358,10 @@ from-bound due key room size = go (ltb 0 size && (allowed due key && isListKey k
     go true = omega arith
     go false = omega arith
 
-pub blank-sound : (laws : List Law) → length laws ≡ 64 → Sound horizonDue (blankState laws .reading)
+pub blank-sound : (laws : List Law) → length laws ≡ 64 → Sound horizonDue (blankState laws .draft)
 blank-sound laws h = record { time = omega arith; few = omega arith; declared = omega arith; actions = omega arith; room = omega arith; held = h }
 
-pub list-here : (text : List ℕ) (lent : ℕ) (s : State) (l : LineAt) (high i : ℕ) → Sound (dueAt s) (s .reading) → high ≡ highFor (l .key) (s .reading)
-    → i ≡ itemsFrom (dueAt s) (l .key) (ltb (s .reading .run .count) (min 64 lent)) (length (take (l .to - l .from) (drop (l .from) text)))
-    → listFrom (spelled text (s .reading .names)) 0 high 6 [] (itemsAt (take (l .to - l .from) (drop (l .from) text)) i) ≡ listHere text lent s l
-list-here text lent s l high i sound e f = rw (e, f, room-here text lent (s .reading) sound)
+pub list-here : (text : List ℕ) (lent : ℕ) (s : ReaderState) (l : LineAt) (high i : ℕ) → Sound (dueAt s) (s .draft) → high ≡ highFor (l .key) (s .draft)
+    → i ≡ itemsFrom (dueAt s) (l .key) (ltb (s .draft .run .count) (min 64 lent)) (length (take (l .to - l .from) (drop (l .from) text)))
+    → listFrom (spelled text (s .draft .names)) 0 high 6 [] (itemsAt (take (l .to - l .from) (drop (l .from) text)) i) ≡ listHere text lent s l
+list-here text lent s l high i sound e f = rw (e, f, room-here text lent (s .draft) sound)

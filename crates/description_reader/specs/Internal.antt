@@ -9,8 +9,8 @@ use lib.Dec.{eqb, ltb}
 use lib.ListN.{length, take, drop, replicate}
 use Rattle.action_language.specs.declared.Law.{Law}
 use Rattle.description_reader.specs.declared.Run.{Run}
-use Rattle.description_reader.specs.declared.states.Reading.{Reading}
-use Rattle.description_reader.specs.declared.states.State.{State}
+use Rattle.description_reader.specs.declared.states.HeldDraft.{HeldDraft}
+use Rattle.description_reader.specs.declared.states.ReaderState.{ReaderState}
 use Rattle.description_reader.specs.declared.descriptions.Ending.{Ending}
 use Rattle.description_reader.specs.declared.states.Due as code
 use Rattle.description_reader.specs.declared.states.Due.the-variants as code-due
@@ -59,11 +59,11 @@ dueOf code-due.If l = ifDue l
 dueOf code-due.After l = afterDue l
 dueOf code-due.By l = byDue l
 
-abbrev pub dueAt : State → Due
+abbrev pub dueAt : ReaderState → Due
 dueAt s = dueOf (s .due) (s .law)
 
 -- the draft that the code's record stands for, and the step that its state does
-abbrev pub draftOf : List ℕ → Reading → Draft
+abbrev pub draftOf : List ℕ → HeldDraft → Draft
 draftOf text r =
     record {
       horizon = r .horizon;
@@ -72,10 +72,10 @@ draftOf text r =
       laws = take (r .run .count) (r .run .laws);
     }
 
-unfoldable pub stepOf : List ℕ → State → Step
+unfoldable pub stepOf : List ℕ → ReaderState → Step
 stepOf text s =
     cond (eqb (s .refused) 0)
-    (cond (s .ended) (finish (draftOf text (s .reading))) (next (dueAt s) (draftOf text (s .reading))))
+    (cond (s .ended) (finish (draftOf text (s .draft))) (next (dueAt s) (draftOf text (s .draft))))
     (step.refused (s .refused))
 
 -- a law that is being read has a place in the run
@@ -89,8 +89,8 @@ HasRoom (ifDue l) n = n < 64
 HasRoom (afterDue l) n = n < 64
 HasRoom (byDue l) n = n < 64
 
--- the counts that a reading keeps to
-pub record Sound (due : Due) (r : Reading) : Type 0 where
+-- the counts that a draft keeps to
+pub record Sound (due : Due) (r : HeldDraft) : Type 0 where
   pub time : r .horizon ≤ 30
   pub few : r .fluents ≤ 24
   pub declared : r .fluents ≤ r .names .count
@@ -103,9 +103,9 @@ abbrev pub Follows : List Law → Run → Type 0
 Follows old run = drop (run .count) (run .laws) ≡ drop (run .count) old
 
 -- what every line's step keeps
-pub record Goes (s r : State) : Type 0 where
-  pub sound : Sound (dueAt r) (r .reading)
-  pub follows : (old : List Law) → Follows old (s .reading .run) → Follows old (r .reading .run)
+pub record Goes (s r : ReaderState) : Type 0 where
+  pub sound : Sound (dueAt r) (r .draft)
+  pub follows : (old : List Law) → Follows old (s .draft .run) → Follows old (r .draft .run)
 
 -- whether one more action, or one more fluent, can be declared
 abbrev pub hasPlace : Bool → ℕ → ℕ → Bool
@@ -150,8 +150,8 @@ abbrev pub HeadFits : ℕ → HeadAt → Type 0
 HeadFits count (Refused k) = 0 < k
 HeadFits count (Read h) = count < 64
 
--- a reading with one more law
-pub record Pushed (s r : Reading) : Type 0 where
+-- a draft with one more law
+pub record Pushed (s r : HeldDraft) : Type 0 where
   pub horizon : r .horizon ≡ s .horizon
   pub fluents : r .fluents ≡ s .fluents
   pub names : r .names ≡ s .names
@@ -159,14 +159,14 @@ pub record Pushed (s r : Reading) : Type 0 where
   pub held : length (r .run .laws) ≡ 64
   pub follows : (old : List Law) → Follows old (s .run) → Follows old (r .run)
 
-abbrev pub blankState : List Law → State
+abbrev pub blankState : List Law → ReaderState
 blankState laws =
     record {
       refused = 0;
       ended = false;
       due = code-due.Horizon;
       law = noLaw;
-      reading =
+      draft =
           record {
             horizon = 0;
             fluents = 0;
@@ -183,21 +183,21 @@ isListKey key room = eqb key ifKey || eqb key afterKey || eqb key byKey || (eqb 
 unfoldable pub itemsFrom : Due → ℕ → Bool → ℕ → ℕ
 itemsFrom due key room size = cond (ltb 0 size && (allowed due key && isListKey key room)) 0 (size + 1)
 
-unfoldable pub highFor : ℕ → Reading → ℕ
+unfoldable pub highFor : ℕ → HeldDraft → ℕ
 highFor key r = cond (eqb key ifKey) (r .fluents) (r .names .count)
 
 -- what the reader's ending stands for
 unfoldable pub takenOf : List ℕ → Ending → Reply Taken
 takenOf text e =
-    cond (eqb (e .state .refused) 0) (answered (read (draftOf text (e .state .reading)) (drop (e .at) text) (e .line))) (refused (e .state .refused) (e .line))
+    cond (eqb (e .state .refused) 0) (answered (read (draftOf text (e .state .draft)) (drop (e .at) text) (e .line))) (refused (e .state .refused) (e .line))
 
 pub record Ended (old : List Law) (text : List ℕ) (e : Ending) : Type 0 where
-  pub sound : Sound (dueAt (e .state)) (e .state .reading)
-  pub follows : Follows old (e .state .reading .run)
+  pub sound : Sound (dueAt (e .state)) (e .state .draft)
+  pub follows : Follows old (e .state .draft .run)
   pub within : e .at ≤ length text
 
 -- the limits of a description that was read
-pub record Limits (r : Reading) : Type 0 where
+pub record Limits (r : HeldDraft) : Type 0 where
   pub time : r .horizon ≤ 30
   pub few : r .fluents ≤ 24
   pub declared : r .fluents ≤ r .names .count

@@ -81,8 +81,8 @@ abbrev pub litHead : Option ℕ → Option Head
 litHead none = none
 litHead (some c) = some (Lit c)
 
-unfoldable pub headOf : List (List ℕ) → ℕ → List ℕ → Option Head
-headOf names fluents value = cond (sameName value falseBytes) (some False) (litHead (literal names 0 fluents value))
+unfoldable pub readHead : List (List ℕ) → ℕ → List ℕ → Option Head
+readHead names fluents value = cond (sameName value falseBytes) (some False) (litHead (literal names 0 fluents value))
 
 -- a law begins, and the list that follows its head is due
 abbrev pub begun : (Law → Due) → Draft → Kind → Option Head → Step
@@ -95,7 +95,7 @@ roomFor lent d = ltb (length (d .laws)) (min 64 lent)
 
 -- a new law: 5 before its head's spelling
 abbrev pub lawLine : ℕ → (Law → Due) → Draft → Kind → List ℕ → Step
-lawLine lent due d kind value = cond (roomFor lent d) (begun due d kind (headOf (d .names) (d .fluents) value)) (refused 5)
+lawLine lent due d kind value = cond (roomFor lent d) (begun due d kind (readHead (d .names) (d .fluents) value)) (refused 5)
 
 -- a law is whole behind its if-list if it is static, else behind its after-list
 abbrev pub whole : Draft → Law → Draft

@@ -1,6 +1,6 @@
 // The codes of a law's list, gathered item by item.
-use line_values::orders;
 use basics::Found;
+use line_values::orders;
 ghost use mathlib.Core.Path.{_≡_};
 ghost use lib.ListN.{take};
 ghost use Rattle.basics.specs.Search.{placeOf};

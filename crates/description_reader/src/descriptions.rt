@@ -3,8 +3,8 @@ use crate::Run;
 use crate::codes;
 use crate::states;
 use crate::states::Due;
-use crate::states::Reading;
-use crate::states::State;
+use crate::states::HeldDraft;
+use crate::states::ReaderState;
 use crate::steps;
 use action_language::Head;
 use action_language::Kind;
@@ -24,13 +24,13 @@ ghost use Rattle.description_reader.specs.Internal.{dueOf, blankState, i
 
 // Where the reader stopped: its state, the line, and the place behind the line.
 pub struct Ending {
-    pub state: State,
+    pub state: ReaderState,
     pub line: usize,
     pub at: usize,
 }
 
 // Nothing is read yet.
-fn begun(laws: [Law; 64]) -> State
+fn begun(laws: [Law; 64]) -> ReaderState
     ensures { λ r. ⌜ r ≡ blankState laws ⌝ }
 {
     let names = Names {
@@ -40,18 +40,18 @@ fn begun(laws: [Law; 64]) -> State
     };
     let run = Run { laws, count: 0 };
     let law = law_forms::new_law(Kind::Static, Head::Lit(0));
-    let reading = Reading {
+    let draft = HeldDraft {
         horizon: 0,
         fluents: 0,
         names,
         run,
     };
-    State {
+    ReaderState {
         refused: 0,
         ended: false,
         due: Due::Horizon,
         law,
-        reading,
+        draft,
     }
 }
 
@@ -92,12 +92,12 @@ fn first_item(due: Due, key: usize, size: usize, count: usize, lent: usize) -> u
 }
 
 // Up to which place the names of a line's list go: the fluents in an if-list, all names in the others.
-fn sort_end(reading: Reading, key: usize) -> usize
-    ensures { λ r. ⌜ r ≡ highFor key reading ⌝ }
+fn sort_end(draft: HeldDraft, key: usize) -> usize
+    ensures { λ r. ⌜ r ≡ highFor key draft ⌝ }
 {
-    let names = reading.names;
+    let names = draft.names;
     if key == lines::IF {
-        return reading.fluents;
+        return draft.fluents;
     }
     names.count
 }
@@ -117,10 +117,10 @@ fn read_lines(text: &[u8], laws: [Law; 64], lent: usize) -> Ending
         let to = l.to;
         let list = &text[from..to];
         let due = state.due;
-        let reading = state.reading;
-        let names = reading.names;
-        let run = reading.run;
-        let high = sort_end(reading, l.key);
+        let draft = state.draft;
+        let names = draft.names;
+        let run = draft.run;
+        let high = sort_end(draft, l.key);
         let mut gathered = codes::no_codes();
         let mut i = first_item(due, l.key, list.len(), run.count, lent);
         while i <= list.len() {
@@ -168,7 +168,7 @@ fn no_laws() -> [Law; 64] {
 // Reads a description where no law run counts, for its names.
 pub fn read_alone(text: &[u8]) -> Ending
     ensures { λ r. ⌜ takenOf (now (text .entry)) r ≡ described 64 (now (text .entry)) ⌝ }
-    ensures { λ r. ⌜ Limits (r .state .reading) ⌝ }
+    ensures { λ r. ⌜ Limits (r .state .draft) ⌝ }
 {
     read(text, no_laws(), 64)
 }

@@ -50,16 +50,16 @@ pub fn read_description(text: &[u8], laws: [Law; 64], lent: usize) -> Described
             run: Run { laws, count: 0 },
         };
     }
-    let reading = state.reading;
-    let names = reading.names;
-    let run = reading.run;
+    let draft = state.draft;
+    let names = draft.names;
+    let run = draft.run;
     Described {
         answer: Answer::Read(end.at, end.line),
         description: Description {
-            fluents: reading.fluents,
-            actions: names.count - reading.fluents,
+            fluents: draft.fluents,
+            actions: names.count - draft.fluents,
             laws: run.count,
-            horizon: reading.horizon,
+            horizon: draft.horizon,
         },
         run,
     }

@@ -23,7 +23,7 @@ pub enum Due {
 }
 
 // What has been read: the horizon, how many of the names are fluents, the names, and the laws.
-pub struct Reading {
+pub struct HeldDraft {
     pub horizon: usize,
     pub fluents: usize,
     pub names: Names,
@@ -32,12 +32,12 @@ pub struct Reading {
 
 // Where the reader is: a refusal's number (0: none), whether the end line is read, what is due, the law whose lists are due, and
 // what has been read.
-pub struct State {
+pub struct ReaderState {
     pub refused: u8,
     pub ended: bool,
     pub due: Due,
     pub law: Law,
-    pub reading: Reading,
+    pub draft: HeldDraft,
 }
 
 // Whether there is a place for a new law, of at most 64 and of those lent.

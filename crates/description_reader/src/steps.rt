@@ -3,16 +3,16 @@ use crate::Run;
 use crate::codes::Codes;
 use crate::states;
 use crate::states::Due;
-use crate::states::Reading;
-use crate::states::State;
+use crate::states::HeldDraft;
+use crate::states::ReaderState;
 use action_language::Head;
 use action_language::Kind;
 use action_language::Law;
+use basics::Found;
 use line_values::horizons;
 use line_values::law_forms;
 use line_values::law_forms::Places;
 use line_values::orders;
-use basics::Found;
 use spelling;
 use text::lines;
 use text::names;
@@ -32,12 +32,12 @@ ghost use Rattle.line_values.specs.ShortLaws.{defaultLaw, inertialLaw, causesLa
 ghost use Rattle.line_values.specs.Internal.{placesOf};
 ghost use Rattle.description_reader.specs.LineSteps as step;
 ghost use Rattle.description_reader.specs.LineSteps.{actionDue, fluentDue, lawDue, ifDue, byDue, next, horizonLine, nameLine, lawLine};
-ghost use Rattle.description_reader.specs.LineSteps.{Draft, begun, headOf, whole, ifLine, afterLine, wholeByList, literalLine, nonexecutableLine, endLine};
+ghost use Rattle.description_reader.specs.LineSteps.{Draft, begun, readHead, whole, ifLine, afterLine, wholeByList, literalLine, nonexecutableLine, endLine};
 ghost use Rattle.description_reader.specs.Internal.{dueOf, dueAt, draftOf, stepOf, stepWith, otherLine, shortLine, hasPlace, Sound, Goes, Padded, Pushed, StandsAt, begunWith, HeadFits};
 
 // A line that is refused.
-pub(crate) fn refused(state: State, number: u8) -> State
-    requires { ⌜ (0 < number) × Sound (dueAt state) (state .reading) ⌝ }
+pub(crate) fn refused(state: ReaderState, number: u8) -> ReaderState
+    requires { ⌜ (0 < number) × Sound (dueAt state) (state .draft) ⌝ }
     ensures { λ r. ⌜ ((text : List ℕ) → stepOf text r ≡ step.refused number) ⌝ }
     ensures { λ r. ⌜ Goes state r ⌝ }
 {
@@ -46,23 +46,23 @@ pub(crate) fn refused(state: State, number: u8) -> State
     next
 }
 
-fn horizon_line(value: &[u8], state: State) -> State
-    requires { ⌜ Sound (dueAt state) (state .reading) ⌝ }
-    ensures { λ r. ⌜ ((text : List ℕ) → stepOf text r ≡ horizonLine (draftOf text (state .reading)) (horizonOf (now (value .entry)))) ⌝ }
+fn horizon_line(value: &[u8], state: ReaderState) -> ReaderState
+    requires { ⌜ Sound (dueAt state) (state .draft) ⌝ }
+    ensures { λ r. ⌜ ((text : List ℕ) → stepOf text r ≡ horizonLine (draftOf text (state .draft)) (horizonOf (now (value .entry)))) ⌝ }
     ensures { λ r. ⌜ Goes state r ⌝ }
 {
     let Found::At(t) = horizons::horizon_of(value) else {
         return refused(state, 3);
     };
     let law = state.law;
-    let mut reading = state.reading;
-    reading.horizon = t;
-    State {
+    let mut draft = state.draft;
+    draft.horizon = t;
+    ReaderState {
         refused: 0,
         ended: false,
         due: Due::FirstFluent,
         law,
-        reading,
+        draft,
     }
 }
 
@@ -96,36 +96,42 @@ fn with_name(names: Names, start: usize, length: usize) -> Names
 }
 
 // A new fluent or action: 5 before its spelling, then 4.
-fn name_line(text: &[u8], from: usize, value: &[u8], state: State, action: bool) -> State
-    requires { ⌜ StandsAt (now text) from (now value) × Sound (dueAt state) (state .reading) ⌝ }
+fn name_line(
+    text: &[u8],
+    from: usize,
+    value: &[u8],
+    state: ReaderState,
+    action: bool,
+) -> ReaderState
+    requires { ⌜ StandsAt (now text) from (now value) × Sound (dueAt state) (state .draft) ⌝ }
     ensures { λ r. ⌜ stepOf (now (text .entry)) r ≡ nameLine
-        (hasPlace action (state .reading .fluents) (state .reading .names .count)) (cond action actionDue fluentDue)
-        (cond action (state .reading .fluents) (suc (state .reading .fluents)))
-        (draftOf (now (text .entry)) (state .reading)) (now (value .entry)) ⌝ }
+        (hasPlace action (state .draft .fluents) (state .draft .names .count)) (cond action actionDue fluentDue)
+        (cond action (state .draft .fluents) (suc (state .draft .fluents)))
+        (draftOf (now (text .entry)) (state .draft)) (now (value .entry)) ⌝ }
     ensures { λ r. ⌜ Goes state r ⌝ }
 {
-    let mut reading = state.reading;
-    let names = reading.names;
-    if !has_place(action, reading.fluents, names.count) {
+    let mut draft = state.draft;
+    let names = draft.names;
+    if !has_place(action, draft.fluents, names.count) {
         return refused(state, 5);
     }
     if !names::is_new(text, names, value) {
         return refused(state, 4);
     }
     let more = with_name(names, from, value.len());
-    reading.names = more;
+    draft.names = more;
     let law = state.law;
     let mut due = Due::Action;
     if !action {
         due = Due::Fluent;
-        reading.fluents += 1;
+        draft.fluents += 1;
     }
-    State {
+    ReaderState {
         refused: 0,
         ended: false,
         due,
         law,
-        reading,
+        draft,
     }
 }
 
@@ -145,7 +151,7 @@ fn law_head(
     lent: usize,
 ) -> HeadAt
     requires { ⌜ fluents ≤ 24 ⌝ }
-    ensures { λ r. ⌜ ((due : Law → step.Due) (d : Draft) (kind : Kind) → begunWith due d kind r ≡ cond (ltb count (min 64 lent)) (begun due d kind (headOf (spelled (now (text .entry)) names) fluents (now (value .entry)))) (step.refused 5)) ⌝ }
+    ensures { λ r. ⌜ ((due : Law → step.Due) (d : Draft) (kind : Kind) → begunWith due d kind r ≡ cond (ltb count (min 64 lent)) (begun due d kind (readHead (spelled (now (text .entry)) names) fluents (now (value .entry)))) (step.refused 5)) ⌝ }
     ensures { λ r. ⌜ HeadFits count r ⌝ }
 {
     if !states::has_room(count, lent) {
@@ -161,23 +167,30 @@ fn law_head(
 }
 
 // A law begins: its if-list is due, or what causes its head.
-fn law_line(text: &[u8], value: &[u8], state: State, kind: Kind, short: bool, lent: usize) -> State
-    requires { ⌜ Sound (dueAt state) (state .reading) ⌝ }
-    ensures { λ r. ⌜ stepOf (now (text .entry)) r ≡ lawLine lent (cond short byDue ifDue) (draftOf (now (text .entry)) (state .reading)) kind (now (value .entry)) ⌝ }
+fn law_line(
+    text: &[u8],
+    value: &[u8],
+    state: ReaderState,
+    kind: Kind,
+    short: bool,
+    lent: usize,
+) -> ReaderState
+    requires { ⌜ Sound (dueAt state) (state .draft) ⌝ }
+    ensures { λ r. ⌜ stepOf (now (text .entry)) r ≡ lawLine lent (cond short byDue ifDue) (draftOf (now (text .entry)) (state .draft)) kind (now (value .entry)) ⌝ }
     ensures { λ r. ⌜ Goes state r ⌝ }
 {
-    let reading = state.reading;
-    let names = reading.names;
-    let run = reading.run;
-    let head_at = law_head(text, value, names, reading.fluents, run.count, lent);
+    let draft = state.draft;
+    let names = draft.names;
+    let run = draft.run;
+    let head_at = law_head(text, value, names, draft.fluents, run.count, lent);
     match head_at {
         HeadAt::Refused(number) => refused(state, number),
-        HeadAt::Read(head) => State {
+        HeadAt::Read(head) => ReaderState {
             refused: 0,
             ended: false,
             due: list_due(short),
             law: law_forms::new_law(kind, head),
-            reading,
+            draft,
         },
     }
 }
@@ -193,12 +206,12 @@ fn list_due(short: bool) -> Due
 }
 
 // The law joins those read.
-fn with_law(reading: Reading, law: Law) -> Reading
-    requires { ⌜ (reading .run .count < 64) × (length (reading .run .laws) ≡ 64) ⌝ }
-    ensures { λ r. ⌜ ((text : List ℕ) → draftOf text r ≡ whole (draftOf text reading) law) ⌝ }
-    ensures { λ r. ⌜ Pushed reading r ⌝ }
+fn with_law(draft: HeldDraft, law: Law) -> HeldDraft
+    requires { ⌜ (draft .run .count < 64) × (length (draft .run .laws) ≡ 64) ⌝ }
+    ensures { λ r. ⌜ ((text : List ℕ) → draftOf text r ≡ whole (draftOf text draft) law) ⌝ }
+    ensures { λ r. ⌜ Pushed draft r ⌝ }
 {
-    let run = reading.run;
+    let run = draft.run;
     let count = run.count;
     let mut laws = run.laws;
     laws[count] = law;
@@ -206,34 +219,34 @@ fn with_law(reading: Reading, law: Law) -> Reading
         laws,
         count: count + 1,
     };
-    let mut next = reading;
+    let mut next = draft;
     next.run = more;
     next
 }
 
 // A law is whole: it joins those read, and a law or the end is due.
-fn whole_law(state: State, law: Law) -> State
-    requires { ⌜ (state .reading .run .count < 64) × Sound (dueAt state) (state .reading) ⌝ }
-    ensures { λ r. ⌜ ((text : List ℕ) → stepOf text r ≡ next lawDue (whole (draftOf text (state .reading)) law)) ⌝ }
+fn whole_law(state: ReaderState, law: Law) -> ReaderState
+    requires { ⌜ (state .draft .run .count < 64) × Sound (dueAt state) (state .draft) ⌝ }
+    ensures { λ r. ⌜ ((text : List ℕ) → stepOf text r ≡ next lawDue (whole (draftOf text (state .draft)) law)) ⌝ }
     ensures { λ r. ⌜ Goes state r ⌝ }
 {
-    let reading = state.reading;
-    State {
+    let draft = state.draft;
+    ReaderState {
         refused: 0,
         ended: false,
         due: Due::NewLaw,
         law,
-        reading: with_law(reading, law),
+        draft: with_law(draft, law),
     }
 }
 
 // The if-list: a static law is whole behind it, a dynamic one wants its after-list.
-fn if_line(state: State, list: Codes) -> State
-    requires { ⌜ (state .reading .run .count < 64) × Sound (dueAt state) (state .reading) × Padded list ⌝ }
-    ensures { λ r. ⌜ ((text : List ℕ) → stepOf text r ≡ ifLine (draftOf text (state .reading)) (state .law) (codes (take (list .count) (list .codes)))) ⌝ }
+fn if_line(state: ReaderState, list: Codes) -> ReaderState
+    requires { ⌜ (state .draft .run .count < 64) × Sound (dueAt state) (state .draft) × Padded list ⌝ }
+    ensures { λ r. ⌜ ((text : List ℕ) → stepOf text r ≡ ifLine (draftOf text (state .draft)) (state .law) (codes (take (list .count) (list .codes)))) ⌝ }
     ensures { λ r. ⌜ Goes state r ⌝ }
 {
-    let reading = state.reading;
+    let draft = state.draft;
     let mut law = state.law;
     let kind = law.kind;
     let if_codes = list.codes;
@@ -243,19 +256,19 @@ fn if_line(state: State, list: Codes) -> State
     law.after_codes = [0; 6];
     match kind {
         Kind::Static => whole_law(state, law),
-        Kind::Dynamic => State {
+        Kind::Dynamic => ReaderState {
             refused: 0,
             ended: false,
             due: Due::After,
             law,
-            reading,
+            draft,
         },
     }
 }
 
-fn after_line(state: State, list: Codes) -> State
-    requires { ⌜ (state .reading .run .count < 64) × Sound (dueAt state) (state .reading) × Padded list ⌝ }
-    ensures { λ r. ⌜ ((text : List ℕ) → stepOf text r ≡ afterLine (draftOf text (state .reading)) (state .law) (codes (take (list .count) (list .codes)))) ⌝ }
+fn after_line(state: ReaderState, list: Codes) -> ReaderState
+    requires { ⌜ (state .draft .run .count < 64) × Sound (dueAt state) (state .draft) × Padded list ⌝ }
+    ensures { λ r. ⌜ ((text : List ℕ) → stepOf text r ≡ afterLine (draftOf text (state .draft)) (state .law) (codes (take (list .count) (list .codes)))) ⌝ }
     ensures { λ r. ⌜ Goes state r ⌝ }
 {
     let mut law = state.law;
@@ -278,9 +291,9 @@ fn places(list: Codes) -> Places
 }
 
 // The list of what causes a head.
-fn by_line(state: State, list: Codes) -> State
-    requires { ⌜ (state .reading .run .count < 64) × Sound (dueAt state) (state .reading) × Padded list ⌝ }
-    ensures { λ r. ⌜ ((text : List ℕ) → stepOf text r ≡ wholeByList (draftOf text (state .reading)) (causesLaw (state .law .head)) (codes (take (list .count) (list .codes)))) ⌝ }
+fn by_line(state: ReaderState, list: Codes) -> ReaderState
+    requires { ⌜ (state .draft .run .count < 64) × Sound (dueAt state) (state .draft) × Padded list ⌝ }
+    ensures { λ r. ⌜ ((text : List ℕ) → stepOf text r ≡ wholeByList (draftOf text (state .draft)) (causesLaw (state .law .head)) (codes (take (list .count) (list .codes)))) ⌝ }
     ensures { λ r. ⌜ Goes state r ⌝ }
 {
     let law = state.law;
@@ -289,13 +302,13 @@ fn by_line(state: State, list: Codes) -> State
 }
 
 // A law that is a list: 5 where there is no room for it.
-fn nonexecutable_line(state: State, list: Codes, lent: usize) -> State
-    requires { ⌜ Sound (dueAt state) (state .reading) × Padded list ⌝ }
-    ensures { λ r. ⌜ ((text : List ℕ) → stepOf text r ≡ nonexecutableLine lent (draftOf text (state .reading)) (codes (take (list .count) (list .codes)))) ⌝ }
+fn nonexecutable_line(state: ReaderState, list: Codes, lent: usize) -> ReaderState
+    requires { ⌜ Sound (dueAt state) (state .draft) × Padded list ⌝ }
+    ensures { λ r. ⌜ ((text : List ℕ) → stepOf text r ≡ nonexecutableLine lent (draftOf text (state .draft)) (codes (take (list .count) (list .codes)))) ⌝ }
     ensures { λ r. ⌜ Goes state r ⌝ }
 {
-    let reading = state.reading;
-    let run = reading.run;
+    let draft = state.draft;
+    let run = draft.run;
     if !states::has_room(run.count, lent) {
         return refused(state, 5);
     }
@@ -313,16 +326,22 @@ fn literal_law(inertial: bool, code: u8) -> Law
 }
 
 // A law of one fluent literal: 5 where there is no room for it, before its spelling, then 6.
-fn literal_line(text: &[u8], value: &[u8], state: State, inertial: bool, lent: usize) -> State
-    requires { ⌜ Sound (dueAt state) (state .reading) ⌝ }
-    ensures { λ r. ⌜ stepOf (now (text .entry)) r ≡ literalLine lent (draftOf (now (text .entry)) (state .reading)) (cond inertial inertialLaw defaultLaw) (now (value .entry)) ⌝ }
+fn literal_line(
+    text: &[u8],
+    value: &[u8],
+    state: ReaderState,
+    inertial: bool,
+    lent: usize,
+) -> ReaderState
+    requires { ⌜ Sound (dueAt state) (state .draft) ⌝ }
+    ensures { λ r. ⌜ stepOf (now (text .entry)) r ≡ literalLine lent (draftOf (now (text .entry)) (state .draft)) (cond inertial inertialLaw defaultLaw) (now (value .entry)) ⌝ }
     ensures { λ r. ⌜ Goes state r ⌝ }
 {
-    let reading = state.reading;
-    let names = reading.names;
-    let run = reading.run;
+    let draft = state.draft;
+    let names = draft.names;
+    let run = draft.run;
     let full = !states::has_room(run.count, lent);
-    let Found::At(code) = names::literal(text, names, value, 0, reading.fluents) else {
+    let Found::At(code) = names::literal(text, names, value, 0, draft.fluents) else {
         return refused(state, orders::refusal(full, true));
     };
     let number = orders::refusal(full, false);
@@ -332,9 +351,9 @@ fn literal_line(text: &[u8], value: &[u8], state: State, inertial: bool, lent: u
     whole_law(state, literal_law(inertial, code as u8))
 }
 
-fn end_line(value: &[u8], state: State) -> State
-    requires { ⌜ Sound (dueAt state) (state .reading) ⌝ }
-    ensures { λ r. ⌜ ((text : List ℕ) → stepOf text r ≡ endLine (draftOf text (state .reading)) (now (value .entry))) ⌝ }
+fn end_line(value: &[u8], state: ReaderState) -> ReaderState
+    requires { ⌜ Sound (dueAt state) (state .draft) ⌝ }
+    ensures { λ r. ⌜ ((text : List ℕ) → stepOf text r ≡ endLine (draftOf text (state .draft)) (now (value .entry))) ⌝ }
     ensures { λ r. ⌜ Goes state r ⌝ }
 {
     if 0 < value.len() {
@@ -347,9 +366,9 @@ fn end_line(value: &[u8], state: State) -> State
 }
 
 // A short law that is no list, or the end line, whose key is allowed.
-fn short_line(text: &[u8], value: &[u8], key: usize, state: State, lent: usize) -> State
-    requires { ⌜ Sound (dueAt state) (state .reading) ⌝ }
-    ensures { λ r. ⌜ stepOf (now (text .entry)) r ≡ shortLine lent (draftOf (now (text .entry)) (state .reading)) key (now (value .entry)) ⌝ }
+fn short_line(text: &[u8], value: &[u8], key: usize, state: ReaderState, lent: usize) -> ReaderState
+    requires { ⌜ Sound (dueAt state) (state .draft) ⌝ }
+    ensures { λ r. ⌜ stepOf (now (text .entry)) r ≡ shortLine lent (draftOf (now (text .entry)) (state .draft)) key (now (value .entry)) ⌝ }
     ensures { λ r. ⌜ Goes state r ⌝ }
 {
     if key == lines::DEFAULT {
@@ -370,11 +389,11 @@ fn other_line(
     from: usize,
     value: &[u8],
     key: usize,
-    state: State,
+    state: ReaderState,
     lent: usize,
-) -> State
-    requires { ⌜ StandsAt (now text) from (now value) × Sound (dueAt state) (state .reading) ⌝ }
-    ensures { λ r. ⌜ stepOf (now (text .entry)) r ≡ otherLine lent (draftOf (now (text .entry)) (state .reading)) key (now (value .entry)) ⌝ }
+) -> ReaderState
+    requires { ⌜ StandsAt (now text) from (now value) × Sound (dueAt state) (state .draft) ⌝ }
+    ensures { λ r. ⌜ stepOf (now (text .entry)) r ≡ otherLine lent (draftOf (now (text .entry)) (state .draft)) key (now (value .entry)) ⌝ }
     ensures { λ r. ⌜ Goes state r ⌝ }
 {
     if key == lines::HORIZON {
@@ -402,11 +421,11 @@ pub(crate) fn line_step(
     value: &[u8],
     key: usize,
     list: Codes,
-    state: State,
+    state: ReaderState,
     lent: usize,
-) -> State
-    requires { ⌜ StandsAt (now text) from (now value) × Sound (dueAt state) (state .reading) × Padded list ⌝ }
-    ensures { λ r. ⌜ stepOf (now (text .entry)) r ≡ stepWith lent (dueAt state) (draftOf (now (text .entry)) (state .reading)) key (now (value .entry)) (codes (take (list .count) (list .codes))) ⌝ }
+) -> ReaderState
+    requires { ⌜ StandsAt (now text) from (now value) × Sound (dueAt state) (state .draft) × Padded list ⌝ }
+    ensures { λ r. ⌜ stepOf (now (text .entry)) r ≡ stepWith lent (dueAt state) (draftOf (now (text .entry)) (state .draft)) key (now (value .entry)) (codes (take (list .count) (list .codes))) ⌝ }
     ensures { λ r. ⌜ Goes state r ⌝ }
 {
     let due = state.due;

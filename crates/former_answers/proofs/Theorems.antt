@@ -86,22 +86,22 @@ history-changed = checked-changed
 -- The completion formulas
 
 module _ (vs ws : List ℕ) where
-  abbrev FormulasBecame : Reply formulas.Finding → Reply formulas.Finding → Type 0
+  abbrev FormulasBecame : Reply formulas.FormulaFinding → Reply formulas.FormulaFinding → Type 0
   FormulasBecame former present = Changed formulas.missing formulas.clash vs former present
 
-  found-changed : FormulasBecame (answered (formerFormulas vs ws)) (answered (formulas.finding vs ws))
-  unfolding formulas.finding
+  found-changed : FormulasBecame (answered (formerFormulas vs ws)) (answered (formulas.formulaFinding vs ws))
+  unfolding formulas.formulaFinding
   found-changed =
       answers-changed formulas.missing formulas.clash apart vs (orElse (first (eqb 3) 0 vs) formulas.clash next) next
       (λ b low. rw (lowest-value vs 3 b .1 low) refl) (λ nowhere. rw (nowhere-value vs 3 .1 nowhere) refl) refl refl
     where
-      next : formulas.Finding
-      next = formulas.judged (length vs) (rulesOf ws) (setOf vs)
+      next : formulas.FormulaFinding
+      next = formulas.judgedByFormulas (length vs) (rulesOf ws) (setOf vs)
 
       apart : (a b : ℕ) → formulas.missing a ≡ formulas.clash b → ⊥
       apart a b q = let z : _≡_ {A = ℕ} 0 1 = cc in omega arith
 
-  tests-changed : {former present : Reply formulas.Finding} → FormulasBecame former present
+  tests-changed : {former present : Reply formulas.FormulaFinding} → FormulasBecame former present
       → FormulasBecame (completion.afterTests vs ws former) (completion.afterTests vs ws present)
   tests-changed next =
       tested-changed formulas.missing formulas.clash vs (engine.tooManyValues vs) 10

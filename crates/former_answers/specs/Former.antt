@@ -26,14 +26,14 @@ abbrev pub formerChecked : Description → List Law → ℕ → List ℕ → ℕ
 formerChecked d ls lent vs room =
     history.afterTranslation (translated.outcome d ls lent room) vs (formerFinding vs (translated.tableFor d ls))
 
-abbrev pub formerFormulas : List ℕ → List ℕ → formulas.Finding
+abbrev pub formerFormulas : List ℕ → List ℕ → formulas.FormulaFinding
 formerFormulas vs ws =
     orElse (first (eqb 0) 0 vs) formulas.missing
     (orElse (first (eqb 3) 0 vs) formulas.clash
-    (formulas.judged (length vs) (rulesOf ws) (setOf vs)))
+    (formulas.judgedByFormulas (length vs) (rulesOf ws) (setOf vs)))
 
-abbrev pub formerAnswer : List ℕ → List ℕ → Reply formulas.Finding
+abbrev pub formerAnswer : List ℕ → List ℕ → Reply formulas.FormulaFinding
 formerAnswer vs ws = afterTests vs ws (answered (formerFormulas vs ws))
 
-abbrev pub formerAnswerByLevels : List ℕ → List ℕ → List ℕ → Reply formulas.Finding
+abbrev pub formerAnswerByLevels : List ℕ → List ℕ → List ℕ → Reply formulas.FormulaFinding
 formerAnswerByLevels vs ws levels = afterTests vs ws (orRefuse (badLevels (length vs) ws levels) 13 (answered (formerFormulas vs ws)))

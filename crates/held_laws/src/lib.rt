@@ -1,8 +1,8 @@
 // The same functions for programs: each takes 64 law records by value, lends them to the function over a lent run, and hands back
 // what that says. Covered code can't lend a local array of records.
-use causal_reading::Reading;
 use action_language::Description;
 use action_language::Law;
+use causal_reading::Reading;
 use history_check::Checked;
 use lent_laws::Read;
 use translation::Translated;

@@ -1,7 +1,7 @@
 // The history check: whether values are a history of a description, by its translation and the answer-set engine.
-use answer_sets::Answer;
 use action_language::Description;
 use action_language::Law;
+use answer_sets::Answer;
 use basics::Found;
 use translation::Translated;
 ghost use mathlib.Core.Path.{_≡_};

@@ -17,7 +17,7 @@ use Rattle.text.specs.Lists as lists
 use Rattle.text.specs.Lists.{Listed, codes, listOf}
 use Rattle.description_reader.specs.LineSteps.{Draft}
 use Rattle.description_reader.specs.Descriptions.{Taken, read, described}
-use Rattle.history_values.specs.Values.{marked, filled, ActionsValued}
+use Rattle.history_values.specs.Values.{withLiterals, filled, ActionsValued}
 use Rattle.history_values.proofs.Filling.{length-marked, length-filled, marked-zero, filled-zero, filled-valued}
 use Rattle.history_reader.specs.declared.HistoryAnswer.the-variants.{Complete}
 use Rattle.history_reader.specs.Histories.{historyEnd, most, listed, listLine, undoneFalse, statesFrom, atoms, ActionsFilled}
@@ -41,7 +41,7 @@ module _ (P : List ℕ → Type 0) where
 
   -- a line of literals, with what follows it where the line is due and its list is taken
   pub list-keeps : (d : Draft) (key low high : ℕ) (o : Option Line) (line base : ℕ) (vs : List ℕ) (go : List ℕ → List ℕ → Reply (List ℕ))
-      → ((l : Line) → o ≡ some l → l .key ≡ key → (cs : List ℕ) → listOf (d .names) low high most (l .value) ≡ codes cs → OfAnswer P (go (marked base vs cs) (l .rest)))
+      → ((l : Line) → o ≡ some l → l .key ≡ key → (cs : List ℕ) → listOf (d .names) low high most (l .value) ≡ codes cs → OfAnswer P (go (withLiterals base vs cs) (l .rest)))
       → OfAnswer P (listLine d key low high o line base vs go)
   list-keeps d key low high none line base vs go h = tt
   list-keeps d key low high (some l) line base vs go h = by (eqb (l .key) key) refl (listOf (d .names) low high most (l .value)) refl
@@ -54,13 +54,13 @@ module _ (P : List ℕ → Type 0) where
 
 -- P holds of the values before the lines of a time; each list keeps it, and an act line's filling takes it to the next time
 module _ (d : Draft) (T : ℕ) (P : ℕ → List ℕ → Type 0)
-    (keeps-marked : (t base : ℕ) (vs cs : List ℕ) → P t vs → P t (marked base vs cs))
+    (keeps-marked : (t base : ℕ) (vs cs : List ℕ) → P t vs → P t (withLiterals base vs cs))
     (keeps-filled : (t : ℕ) → t < T → (vs : List ℕ) → P t vs → P (suc t) (undoneFalse d t vs)) where
   pub states-keep : (k t line : ℕ) (vs text : List ℕ) → t + k ≡ T → P t vs → OfAnswer (P T) (statesFrom k d t line vs text)
   states-keep zero t line vs text e p =
       let last : t ≡ T = omega arith in
       list-keeps (P T) d _ _ _ (firstLine text) line _ vs _
-      (λ l _ _ cs _. end-keeps (P T) (firstLine (l .rest)) (suc line) _ (subst (λ s. P s (marked (t * length (d .names)) vs cs)) last (keeps-marked t _ vs cs p)))
+      (λ l _ _ cs _. end-keeps (P T) (firstLine (l .rest)) (suc line) _ (subst (λ s. P s (withLiterals (t * length (d .names)) vs cs)) last (keeps-marked t _ vs cs p)))
   states-keep (suc k) t line vs text e p =
       list-keeps (P T) d _ _ _ (firstLine text) line _ vs _
       (λ l _ _ cs _. list-keeps (P T) d _ _ _ (firstLine (l .rest)) (suc line) _ _ _
@@ -72,7 +72,7 @@ module _ (d : Draft) (m : ℕ) (size : length (d .names) ≡ d .fluents + m) (T 
   abbrev Acted : ℕ → List ℕ → Type 0
   Acted t vs = (length vs ≡ atomCount (d .fluents) m T) × ActionsValued (d .fluents) m t vs
 
-  acted-marked : (t base : ℕ) (vs cs : List ℕ) → Acted t vs → Acted t (marked base vs cs)
+  acted-marked : (t base : ℕ) (vs cs : List ℕ) → Acted t vs → Acted t (withLiterals base vs cs)
   acted-marked t base vs cs a =
       (length-marked base vs cs ∙ a .0, λ s k before few e. a .1 s k before few (marked-zero base vs cs (actionAtom (d .fluents) m s k) e))
 

@@ -18,12 +18,12 @@ use Rattle.text.specs.Lists as lists
 use Rattle.text.specs.Lists.{Listed, codes, items, listFrom, listOf}
 use Rattle.text.specs.Names.{literal}
 use Rattle.description_reader.specs.LineSteps.{Draft}
-use Rattle.history_values.specs.Values.{withTrue, withFalse, marked}
+use Rattle.history_values.specs.Values.{withTrue, withFalse, withLiterals}
 use Rattle.history_reader.specs.Histories.{historyEnd, listed, listLine, undoneFalse, actLine, most, statesFrom}
 use Rattle.history_reader.specs.Internal.{recordFrom, isState, keyAt, placeFrom}
 
 -- one literal after others
-pub marked-more : (base : ℕ) (vs : List ℕ) (done : List ℕ) (c : ℕ) → marked base vs (done ++ (c ∷ [])) ≡ marked base (marked base vs done) (c ∷ [])
+pub marked-more : (base : ℕ) (vs : List ℕ) (done : List ℕ) (c : ℕ) → withLiterals base vs (done ++ (c ∷ [])) ≡ withLiterals base (withLiterals base vs done) (c ∷ [])
 marked-more base vs [] c = refl
 marked-more base vs (x ∷ done) c =
     marked-more base (set vs (base + x / 2) (cond (eqb (x % 2) 0) (withTrue (getD vs (base + x / 2) 0)) (withFalse (getD vs (base + x / 2) 0)))) done c
@@ -37,7 +37,7 @@ list-line d key low high (some l) line base vs f g h = go (eqb (l .key) key) (li
     go : (b : Bool) (list : Listed)
         → cond b (listed list line base vs (λ ws. f ws (l .rest))) (refused 2 line) ≡ cond b (listed list line base vs (λ ws. g ws (l .rest))) (refused 2 line)
     go true (lists.refused k) = refl
-    go true (codes cs) = h (marked base vs cs) (l .rest)
+    go true (codes cs) = h (withLiterals base vs cs) (l .rest)
     go false list = refl
 
 -- states and acts in turn are the lines in turn; behind a state line nothing is filled

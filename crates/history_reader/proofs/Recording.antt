@@ -13,7 +13,7 @@ use lib.Dec.{ltb}
 use lib.ListN.{length, getD, take, drop, set, replicate, length-append, drop-of-length-le}
 use lib.Seq.{length-take-le, take-suc, drop-cons, set-at}
 use Rattle.text.specs.declared.lines.LineAt.{LineAt}
-use Rattle.description_reader.specs.declared.states.Reading.{Reading}
+use Rattle.description_reader.specs.declared.states.HeldDraft.{HeldDraft}
 use Rattle.history_reader.specs.declared.histories.EndAt.{EndAt}
 use Rattle.history_reader.specs.declared.histories.Lines.{Lines}
 use Rattle.history_reader.specs.declared.histories.Record.{Record}
@@ -25,7 +25,7 @@ use Rattle.text.specs.Lists as lists
 use Rattle.text.specs.Lists.{Listed, codes, listFrom, listOf}
 use Rattle.description_reader.specs.LineSteps.{Draft}
 use Rattle.description_reader.specs.Descriptions.{read}
-use Rattle.history_values.specs.Values.{marked, filled}
+use Rattle.history_values.specs.Values.{withLiterals, filled}
 use Rattle.history_values.proofs.Filling.{take-marked, take-filled}
 use Rattle.history_reader.specs.Histories.{historyEnd, listed, listLine, most, statesFrom, byNames}
 use Rattle.text.specs.Internal.{lineOf, spelled, itemAt, nextAt, itemsAt}
@@ -40,7 +40,7 @@ use Rattle.history_reader.proofs.Marking.{marked-more, item-marked, ite
 pub record Marked (names : List (List ℕ)) (w : Wanted) (list : List ℕ) (start i : ℕ) (old new : List ℕ) : Type 0 where
   pub done : List ℕ
   pub few : length done ≤ i
-  pub values : new ≡ marked (w .base) old done
+  pub values : new ≡ withLiterals (w .base) old done
   pub left : listFrom names (w .low) (w .high) most done (itemsAt list i) ≡ listFrom names (w .low) (w .high) most [] (itemsAt list start)
 
 pub marked-none : (names : List (List ℕ)) (w : Wanted) (list : List ℕ) (i : ℕ) (old : List ℕ) → Marked names w list i i old old
@@ -48,17 +48,17 @@ marked-none names w list i old = record { done = []; few = omega arith; values =
 
 pub marked-one : (names : List (List ℕ)) (w : Wanted) (list : List ℕ) (start i : ℕ) (old new : List ℕ) → Marked names w list start i old new
     → i ≤ length list → length list ≤ 65535 → (c next : ℕ) → literal names (w .low) (w .high) (itemAt list i) ≡ some c → next ≡ nextAt list i
-    → (more : List ℕ) → more ≡ marked (w .base) new (c ∷ []) → Marked names w list start next old more
+    → (more : List ℕ) → more ≡ withLiterals (w .base) new (c ∷ []) → Marked names w list start next old more
 marked-one names w list start i old new m inside short c next e f more one =
     record {
       done = m .done ++ (c ∷ []);
       few = omega (arith, length-append (m .done) (c ∷ []), m .few, next-later list i inside);
-      values = one ∙ ap (λ vs. marked (w .base) vs (c ∷ [])) (m .values) ∙ sym (marked-more (w .base) old (m .done) c);
+      values = one ∙ ap (λ vs. withLiterals (w .base) vs (c ∷ [])) (m .values) ∙ sym (marked-more (w .base) old (m .done) c);
       left = item-marked names (w .low) (w .high) list i inside (m .done) (omega (arith, m .few)) (m .left) c next e f;
     }
 
 -- one line of literals
-module _ (names-text text : List ℕ) (r : Reading) (m line at : ℕ) (vs : List ℕ) (l : LineAt) (is : lineOf text l ≡ firstLine (drop at text)) where
+module _ (names-text text : List ℕ) (r : HeldDraft) (m line at : ℕ) (vs : List ℕ) (l : LineAt) (is : lineOf text l ≡ firstLine (drop at text)) where
   abbrev Here : Reply (List ℕ)
   Here = recordFrom (suc m) (draftOf names-text r) line vs (drop at text)
 
@@ -92,11 +92,11 @@ module _ (names-text text : List ℕ) (r : Reading) (m line at : ℕ) (vs : List
     pub turn-read : (done : List ℕ)
         → listOf (spelled names-text (r .names)) (lowAt (r .fluents) line) (highAt (r .fluents) (r .names .count) line) most (take (l .to - l .from) (drop (l .from) text)) ≡ codes done
         → Here
-        ≡ recordFrom m (draftOf names-text r) (suc line) (filledAt (r .fluents) (r .names .count) line (marked (baseAt (r .names .count) line) vs done)) (drop (l .next) text)
+        ≡ recordFrom m (draftOf names-text r) (suc line) (filledAt (r .fluents) (r .names .count) line (withLiterals (baseAt (r .names .count) line) vs done)) (drop (l .next) text)
     turn-read done e = due ∙ rw e
 
 -- the same, as the loops find it: w is what the line must be
-module _ (names-text text : List ℕ) (r : Reading) (m line at : ℕ) (old : List ℕ) (l : LineAt) (is : lineOf text l ≡ firstLine (drop at text))
+module _ (names-text text : List ℕ) (r : HeldDraft) (m line at : ℕ) (old : List ℕ) (l : LineAt) (is : lineOf text l ≡ firstLine (drop at text))
     (w : Wanted) (is-due : w ≡ wantedAt (r .fluents) (r .names .count) line) where
   abbrev Left : ℕ → Reply (List ℕ)
   Left n = recordFrom (suc m) (draftOf names-text r) line (take n old) (drop at text)
@@ -116,12 +116,12 @@ module _ (names-text text : List ℕ) (r : Reading) (m line at : ℕ) (old : Lis
 
     -- the values behind the line, of which the first n are asked for
     filled-first : (full : List ℕ) → full ≡ filled (w .base + r .fluents) (w .high - r .fluents) new → (n : ℕ)
-        → take n full ≡ filledAt (r .fluents) (r .names .count) line (marked (baseAt (r .names .count) line) (take n old) (passed .done))
+        → take n full ≡ filledAt (r .fluents) (r .names .count) line (withLiterals (baseAt (r .names .count) line) (take n old) (passed .done))
     filled-first full e n =
         ap (take n) e
         ∙ take-filled n (w .base + r .fluents) (w .high - r .fluents) new
         ∙ ap (filled (w .base + r .fluents) (w .high - r .fluents)) (ap (take n) (passed .values) ∙ take-marked n (w .base) old (passed .done))
-        ∙ ap (λ v. filled (v .base + r .fluents) (v .high - r .fluents) (marked (v .base) (take n old) (passed .done))) is-due
+        ∙ ap (λ v. filled (v .base + r .fluents) (v .high - r .fluents) (withLiterals (v .base) (take n old) (passed .done))) is-due
 
     pub line-read : length (take (l .to - l .from) (drop (l .from) text)) < i
         → (full : List ℕ) → full ≡ filled (w .base + r .fluents) (w .high - r .fluents) new → (n : ℕ)
@@ -166,7 +166,7 @@ pub left-done : (text : List ℕ) (n : ℕ) (r : Lines) (d : Draft) → r .refus
 unfolding leftOf
 left-done text n r d e = rw e
 
-pub atoms-bound : (r : Reading) → Limits r → r .horizon * r .names .count ≤ 960
+pub atoms-bound : (r : HeldDraft) → Limits r → r .horizon * r .names .count ≤ 960
 atoms-bound r h =
     let few : r .names .count ≤ 32 = omega (arith, h .few, h .actions) in
     omega (arith, mul-le-mul-left (r .horizon) few, h .time)
@@ -205,7 +205,7 @@ unfolding valuesRead
 record-values n r h = rw (eq-eqb (r .refused) 0 (omega arith))
 
 -- a history behind a description that was read: 10, then 1, then its lines
-module _ (names-text : List ℕ) (r : Reading) (rest : List ℕ) (line : ℕ) (text : List ℕ) (room : ℕ) where
+module _ (names-text : List ℕ) (r : HeldDraft) (rest : List ℕ) (line : ℕ) (text : List ℕ) (room : ℕ) where
   pub history-room : (room ≡ atomsOf r → ⊥) → byNames (answered (read (draftOf names-text r) rest line)) text room ≡ refused 10 room
   history-room h = rw (spelled-length names-text (r .names), ne-eqb room (atomsOf r) h)
 

@@ -16,7 +16,7 @@ use Rattle.text.specs.Lists as lists
 use Rattle.text.specs.Lists.{Listed, codes, listOf}
 use Rattle.description_reader.specs.LineSteps.{Draft}
 use Rattle.description_reader.specs.Descriptions.{Taken, read, described}
-use Rattle.history_values.specs.Values.{marked, filled, ActionsValued}
+use Rattle.history_values.specs.Values.{withLiterals, filled, ActionsValued}
 
 -- where bytes remain behind the end line: 7 at the next line
 abbrev pub atEnd : List ℕ → ℕ → List ℕ → Reply (List ℕ)
@@ -39,7 +39,7 @@ most = 65536
 
 abbrev pub listed : Listed → ℕ → ℕ → List ℕ → (List ℕ → Reply (List ℕ)) → Reply (List ℕ)
 listed (lists.refused k) line base vs go = refused k line
-listed (codes cs) line base vs go = go (marked base vs cs)
+listed (codes cs) line base vs go = go (withLiterals base vs cs)
 
 abbrev pub listLine : Draft → ℕ → ℕ → ℕ → Option Line → ℕ → ℕ → List ℕ → (List ℕ → List ℕ → Reply (List ℕ)) → Reply (List ℕ)
 listLine d key low high none line base vs go = refused 2 line

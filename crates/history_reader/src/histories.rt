@@ -1,6 +1,6 @@
 // Reading a history: state and act lines in turn, then the end line.
-use description_reader::states::Reading;
 use basics::Found;
+use description_reader::states::HeldDraft;
 use text::lines;
 use text::lists;
 ghost use mathlib.Core.Path.{_≡_};
@@ -55,23 +55,23 @@ struct Wanted {
 }
 
 // Odd lines are states, even ones acts.
-fn line_due(reading: Reading, line: usize) -> Wanted
-    requires { ⌜ Limits reading × (1 ≤ line) × (line < 100) ⌝ }
-    ensures { λ r. ⌜ r ≡ wantedAt (reading .fluents) (reading .names .count) line ⌝ }
+fn line_due(draft: HeldDraft, line: usize) -> Wanted
+    requires { ⌜ Limits draft × (1 ≤ line) × (line < 100) ⌝ }
+    ensures { λ r. ⌜ r ≡ wantedAt (draft .fluents) (draft .names .count) line ⌝ }
 {
-    let names = reading.names;
+    let names = draft.names;
     let base = (line - 1) / 2 * names.count;
     if line % 2 == 1 {
         return Wanted {
             key: lines::STATE,
             low: 0,
-            high: reading.fluents,
+            high: draft.fluents,
             base,
         };
     }
     Wanted {
         key: lines::ACT,
-        low: reading.fluents,
+        low: draft.fluents,
         high: names.count,
         base,
     }
@@ -97,20 +97,20 @@ struct Lines {
 }
 
 // Reads the state and act lines up to the end line or to the first bad line, by the names of the description.
-fn read_lines(description: &[u8], text: &[u8], reading: Reading) -> Lines
-    requires { ⌜ (length (now text) ≤ 65535) × Limits reading ⌝ }
-    ensures { λ r. ⌜ ((n : ℕ) → n ≤ 1024 → leftOf (now (text .entry)) n r ≡ statesFrom (reading .horizon) (draftOf (now (description .entry)) reading) 0 1 (replicate n 0) (now (text .entry))) ⌝ }
+fn read_lines(description: &[u8], text: &[u8], draft: HeldDraft) -> Lines
+    requires { ⌜ (length (now text) ≤ 65535) × Limits draft ⌝ }
+    ensures { λ r. ⌜ ((n : ℕ) → n ≤ 1024 → leftOf (now (text .entry)) n r ≡ statesFrom (draft .horizon) (draftOf (now (description .entry)) draft) 0 1 (replicate n 0) (now (text .entry))) ⌝ }
     ensures { λ r. ⌜ LinesFit (now (text .entry)) r ⌝ }
 {
-    let names = reading.names;
-    let last = 2 * reading.horizon + 1;
+    let names = draft.names;
+    let last = 2 * draft.horizon + 1;
     let mut values = no_values();
     let mut refused: u8 = 0;
     let mut at: usize = 0;
     let mut line: usize = 1;
     'lines: while line <= last {
         let l = lines::line_at(text, at);
-        let w = line_due(reading, line);
+        let w = line_due(draft, line);
         if l.key != w.key {
             refused = 2;
             break 'lines;
@@ -130,7 +130,7 @@ fn read_lines(description: &[u8], text: &[u8], reading: Reading) -> Lines
             values = marked;
             i = item.next;
         }
-        let whole = history_values::fill_absent(values, w.base, reading.fluents, w.high);
+        let whole = history_values::fill_absent(values, w.base, draft.fluents, w.high);
         values = whole;
         at = l.next;
         line += 1;
@@ -151,11 +151,11 @@ pub(crate) struct Record {
 }
 
 // Reads a history of at most 65,535 bytes by the names of the description.
-pub(crate) fn read(description: &[u8], text: &[u8], reading: Reading) -> Record
-    requires { ⌜ (length (now text) ≤ 65535) × Limits reading ⌝ }
-    ensures { λ r. ⌜ ((n : ℕ) → n ≤ 1024 → valuesRead n r ≡ statesFrom (reading .horizon) (draftOf (now (description .entry)) reading) 0 1 (replicate n 0) (now (text .entry))) ⌝ }
+pub(crate) fn read(description: &[u8], text: &[u8], draft: HeldDraft) -> Record
+    requires { ⌜ (length (now text) ≤ 65535) × Limits draft ⌝ }
+    ensures { λ r. ⌜ ((n : ℕ) → n ≤ 1024 → valuesRead n r ≡ statesFrom (draft .horizon) (draftOf (now (description .entry)) draft) 0 1 (replicate n 0) (now (text .entry))) ⌝ }
 {
-    let found = read_lines(description, text, reading);
+    let found = read_lines(description, text, draft);
     let values = found.values;
     if 0 < found.refused {
         return Record {
@@ -173,12 +173,12 @@ pub(crate) fn read(description: &[u8], text: &[u8], reading: Reading) -> Record
 }
 
 // How many atoms there are.
-pub(crate) fn atom_count(reading: Reading) -> usize
-    requires { ⌜ Limits reading ⌝ }
-    ensures { λ r. ⌜ (r ≡ atomsOf reading) × (r ≤ 1024) ⌝ }
+pub(crate) fn atom_count(draft: HeldDraft) -> usize
+    requires { ⌜ Limits draft ⌝ }
+    ensures { λ r. ⌜ (r ≡ atomsOf draft) × (r ≤ 1024) ⌝ }
 {
-    let names = reading.names;
-    reading.horizon * names.count + reading.fluents
+    let names = draft.names;
+    draft.horizon * names.count + draft.fluents
 }
 
 // Fills the buffer with the first values of a history that was read; after a refusal it stays as it was.

@@ -23,15 +23,15 @@ pub fn read_history(description: &[u8], text: &[u8], values: &mut [u8]) -> Histo
     if 0 < state.refused {
         return HistoryAnswer::Refused(state.refused, end.line);
     }
-    let reading = state.reading;
+    let draft = state.draft;
     let room = values.len();
-    if room != histories::atom_count(reading) {
+    if room != histories::atom_count(draft) {
         return HistoryAnswer::Refused(10, room);
     }
     if 65535 < text.len() {
         return HistoryAnswer::Refused(1, 0);
     }
-    let record = histories::read(description, text, reading);
+    let record = histories::read(description, text, draft);
     histories::copy_out(values, record);
     if 0 < record.refused {
         return HistoryAnswer::Refused(record.refused, record.line);

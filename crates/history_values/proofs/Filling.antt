@@ -9,7 +9,7 @@ use borrow.Author.Tests.{eqb-true, eqb-false}
 use lib.Dec.{eqb, ltb}
 use lib.ListN.{length, getD, take, set, length-set, length-append}
 use lib.Seq.{append-snoc, set-out, set-at, getD-at, getD-set-same}
-use Rattle.history_values.specs.Values.{withTrue, withFalse, marked, orFalse, filled}
+use Rattle.history_values.specs.Values.{withTrue, withFalse, withLiterals, orFalse, filled}
 
 -- the value of a code's atom, with the code's literal
 abbrev withSign : ℕ → ℕ → ℕ
@@ -22,11 +22,11 @@ take-changed f (suc n) [] at = refl
 take-changed f (suc n) (v ∷ vs) zero = refl
 take-changed f (suc n) (v ∷ vs) (suc at) = ap (λ (ws : List ℕ). v ∷ ws) (take-changed f n vs at)
 
-pub take-marked : (n base : ℕ) (vs cs : List ℕ) → take n (marked base vs cs) ≡ marked base (take n vs) cs
+pub take-marked : (n base : ℕ) (vs cs : List ℕ) → take n (withLiterals base vs cs) ≡ withLiterals base (take n vs) cs
 take-marked n base vs [] = refl
 take-marked n base vs (c ∷ cs) =
     take-marked n base (set vs (base + c / 2) (withSign c (getD vs (base + c / 2) 0))) cs
-    ∙ ap (λ ws. marked base ws cs) (take-changed (withSign c) n vs (base + c / 2))
+    ∙ ap (λ ws. withLiterals base ws cs) (take-changed (withSign c) n vs (base + c / 2))
 
 pub take-filled : (n at k : ℕ) (vs : List ℕ) → take n (filled at k vs) ≡ filled at k (take n vs)
 take-filled n at zero vs = refl
@@ -34,7 +34,7 @@ take-filled n at (suc k) vs =
     take-filled n (suc at) k (set vs at (orFalse (getD vs at 0))) ∙ ap (filled (suc at) k) (take-changed orFalse n vs at)
 
 -- places past the values
-pub marked-outside : (base : ℕ) (vs : List ℕ) (c : ℕ) → length vs ≤ base + c / 2 → vs ≡ marked base vs (c ∷ [])
+pub marked-outside : (base : ℕ) (vs : List ℕ) (c : ℕ) → length vs ≤ base + c / 2 → vs ≡ withLiterals base vs (c ∷ [])
 marked-outside base vs c h = sym (set-out vs (base + c / 2) _ h)
 
 pub filled-outside : (at k : ℕ) (vs : List ℕ) → length vs ≤ at → vs ≡ filled at k vs
@@ -62,7 +62,7 @@ filled-middle at p (x ∷ xs) zs there =
     here = ap (λ (w : ℕ). set (p ++ x ∷ (xs ++ zs)) at (orFalse w)) (getD-at p x (xs ++ zs) 0 at there) ∙ set-at p x (xs ++ zs) (orFalse x) at there
 
 -- as many values as before
-pub length-marked : (base : ℕ) (vs cs : List ℕ) → length (marked base vs cs) ≡ length vs
+pub length-marked : (base : ℕ) (vs cs : List ℕ) → length (withLiterals base vs cs) ≡ length vs
 length-marked base vs [] = refl
 length-marked base vs (c ∷ cs) = length-marked base _ cs ∙ length-set vs (base + c / 2) _
 
@@ -87,7 +87,7 @@ sign-zero c v = go (eqb (c % 2) 0) (eqb (v % 2) 0) (ltb v 2)
     go false b true e = omega arith
     go false b false e = e
 
-pub marked-zero : (base : ℕ) (vs cs : List ℕ) (i : ℕ) → getD (marked base vs cs) i 0 ≡ 0 → getD vs i 0 ≡ 0
+pub marked-zero : (base : ℕ) (vs cs : List ℕ) (i : ℕ) → getD (withLiterals base vs cs) i 0 ≡ 0 → getD vs i 0 ≡ 0
 marked-zero base vs [] i e = e
 marked-zero base vs (c ∷ cs) i e = changed-zero (withSign c) (sign-zero c) vs (base + c / 2) i (marked-zero base _ cs i e)
 

@@ -16,12 +16,12 @@ abbrev pub withFalse : ℕ → ℕ
 withFalse v = cond (ltb v 2) (v + 2) v
 
 -- the values with the literals of some codes at one time, where the values of that time begin at place `base`
-abbrev pub marked : ℕ → List ℕ → List ℕ → List ℕ
-marked base vs [] = vs
-marked base vs (c ∷ cs) =
+abbrev pub withLiterals : ℕ → List ℕ → List ℕ → List ℕ
+withLiterals base vs [] = vs
+withLiterals base vs (c ∷ cs) =
     let at = base + c / 2 in
     let v = getD vs at 0 in
-    marked base (set vs at (cond (eqb (c % 2) 0) (withTrue v) (withFalse v))) cs
+    withLiterals base (set vs at (cond (eqb (c % 2) 0) (withTrue v) (withFalse v))) cs
 
 -- an action that its act line does not list is false
 abbrev pub orFalse : ℕ → ℕ

@@ -5,7 +5,7 @@ ghost use mathlib.Core.Bool.{cond};
 ghost use mathlib.Core.List.{[], _∷_};
 ghost use Prim.Native.Nat.{_+_, _-_};
 ghost use lib.Dec.{eqb};
-ghost use Rattle.history_values.specs.Values.{withTrue, withFalse, marked, orFalse, filled};
+ghost use Rattle.history_values.specs.Values.{withTrue, withFalse, withLiterals, orFalse, filled};
 
 // A value byte with one more literal of its atom.
 fn with_literal(v: u8, sign: usize) -> u8
@@ -25,7 +25,7 @@ fn with_literal(v: u8, sign: usize) -> u8
 
 // The values with a literal of one time, whose values begin at place base. A place past the values is left out.
 pub fn with_code(values: [u8; 1024], base: usize, code: usize) -> [u8; 1024]
-    ensures { λ r. ⌜ r ≡ marked base values (code ∷ []) ⌝ }
+    ensures { λ r. ⌜ r ≡ withLiterals base values (code ∷ []) ⌝ }
 {
     if 1024 <= base {
         return values;

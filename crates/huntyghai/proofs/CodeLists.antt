@@ -71,13 +71,13 @@ abbrev pub levelCodes : List ℕ
 levelCodes = 10 ∷ 11 ∷ 12 ∷ 13 ∷ 65 ∷ 68 ∷ 72 ∷ 73 ∷ []
 
 -- the codes of what is found by the formulas are in every list that has these four
-formula-codes : (codes : List ℕ) → all (λ c. among c codes) (65 ∷ 68 ∷ 72 ∷ 73 ∷ []) ≡ true → (f : formulas.Finding) → CodeAmong codes (formulaCode f)
+formula-codes : (codes : List ℕ) → all (λ c. among c codes) (65 ∷ 68 ∷ 72 ∷ 73 ∷ []) ≡ true → (f : formulas.FormulaFinding) → CodeAmong codes (formulaCode f)
 formula-codes codes within f = of f
   where
     each : Each (λ c. among c codes ≡ true) (65 ∷ 68 ∷ 72 ∷ 73 ∷ [])
     each = all-each (λ c. among c codes) (65 ∷ 68 ∷ 72 ∷ 73 ∷ []) .0 within
 
-    of : (g : formulas.Finding) → CodeAmong codes (formulaCode g)
+    of : (g : formulas.FormulaFinding) → CodeAmong codes (formulaCode g)
     of (formulas.missing a) = listed codes 68 a (omega arith) (each .1 .0)
     of (formulas.clash a) = listed codes 65 a (omega arith) (each .0)
     of (formulas.fails h) = listed codes 73 _ (omega arith) (each .1 .1 .1 .0)

@@ -16,7 +16,7 @@ use Rattle.logic_programs.specs.Words.{headOf, headWord, rulesOf}
 use Rattle.answer_sets.specs.Demand2.{Accepted}
 use Rattle.answer_sets.proofs.Decoding.{accepted-count}
 use Rattle.answer_sets.proofs.Theorems.{few-values}
-use Rattle.completion_theory.specs.Findings.{Finding, missing, clash, fails, holds, finding}
+use Rattle.completion_theory.specs.Findings.{FormulaFinding, missing, clash, fails, holds, formulaFinding}
 use Rattle.completion_theory.specs.LevelLists.{badLevels}
 use Rattle.completion_theory.specs.Answers.{answer, answerByLevels}
 use Rattle.completion_theory.specs.Meaning.{ByFormulas, SaysFormulas, ByLevels, SaysLevels}
@@ -28,14 +28,14 @@ use Rattle.huntyghai.specs.FormulaNumbers.{NumberedByFormulas, Completio
 use Rattle.huntyghai.proofs.SetCodes.{same-value, other-code, passes-told}
 
 -- a reply's code and value
-abbrev tag : Reply Finding → ℕ
+abbrev tag : Reply FormulaFinding → ℕ
 tag (refused number place) = number
 tag (answered (missing a)) = 68
 tag (answered (clash a)) = 65
 tag (answered (fails h)) = 73
 tag (answered holds) = 72
 
-abbrev value : Reply Finding → ℕ
+abbrev value : Reply FormulaFinding → ℕ
 value (refused number place) = place
 value (answered (missing a)) = a
 value (answered (clash a)) = a
@@ -43,7 +43,7 @@ value (answered (fails h)) = headWord h
 value (answered holds) = 0
 
 -- and back
-abbrev reply : ℕ → ℕ → Reply Finding
+abbrev reply : ℕ → ℕ → Reply FormulaFinding
 reply k v =
     cond (eqb k 68) (answered (missing v))
     (cond (eqb k 65) (answered (clash v))
@@ -52,7 +52,7 @@ reply k v =
     (refused k v))))
 
 -- within bounds: a refusal's number is below 64, a literal's code is not the word of false, and the value has 56 bits
-abbrev Within : Reply Finding → Type 0
+abbrev Within : Reply FormulaFinding → Type 0
 Within (refused number place) = (number < 64) × (place < 72057594037927936)
 Within (answered (missing a)) = a < 72057594037927936
 Within (answered (clash a)) = a < 72057594037927936
@@ -60,7 +60,7 @@ Within (answered (fails (lit c))) = c < 65535
 Within (answered (fails falsum)) = Unit
 Within (answered holds) = Unit
 
-back : (r : Reply Finding) → Within r → reply (tag r) (value r) ≡ r
+back : (r : Reply FormulaFinding) → Within r → reply (tag r) (value r) ≡ r
 back (refused k p) w =
     rw (ne-eqb k 68 (omega (arith, w .0)), ne-eqb k 65 (omega (arith, w .0)), ne-eqb k 73 (omega (arith, w .0)), ne-eqb k 72 (omega (arith, w .0)))
 back (answered (missing a)) w = refl
@@ -69,14 +69,14 @@ back (answered (fails (lit c))) w = rw (ne-eqb c 65535 (omega arith))
 back (answered (fails falsum)) w = refl
 back (answered holds) w = refl
 
-number-of : (r : Reply Finding) → replyCode formulaCode r ≡ coded (tag r) (value r)
+number-of : (r : Reply FormulaFinding) → replyCode formulaCode r ≡ coded (tag r) (value r)
 number-of (refused k p) = refl
 number-of (answered (missing a)) = refl
 number-of (answered (clash a)) = refl
 number-of (answered (fails h)) = refl
 number-of (answered holds) = refl
 
-bounds : (r : Reply Finding) → Within r → (tag r < 256) × (value r < 72057594037927936)
+bounds : (r : Reply FormulaFinding) → Within r → (tag r < 256) × (value r < 72057594037927936)
 bounds (refused k p) w = (omega (arith, w .0), w .1)
 bounds (answered (missing a)) w = (omega arith, w)
 bounds (answered (clash a)) w = (omega arith, w)
@@ -85,15 +85,15 @@ bounds (answered (fails falsum)) w = (omega arith, omega arith)
 bounds (answered holds) w = (omega arith, omega arith)
 
 -- equal numbers are of equal replies
-told : (r s : Reply Finding) → Within r → Within s → replyCode formulaCode r ≡ replyCode formulaCode s → r ≡ s
+told : (r s : Reply FormulaFinding) → Within r → Within s → replyCode formulaCode r ≡ replyCode formulaCode s → r ≡ s
 told r s w u e =
     let same : coded (tag r) (value r) ≡ coded (tag s) (value s) = sym (number-of r) ∙ e ∙ number-of s in
     let tags : tag r ≡ tag s = other-code (tag r) (tag s) (value r) (value s) (bounds r w .0) (bounds s u .0) same in
     let values : value r ≡ value s = same-value (tag s) (value r) (value s) (bounds r w .1) (bounds s u .1) (rw tags at same) in
     sym (back r w) ∙ ap (λ (k : ℕ). reply k (value r)) tags ∙ ap (reply (tag s)) values ∙ back s u
 
-module _ (r : Reply Finding) (number : ℕ) (is : number ≡ replyCode formulaCode r) (within : Within r) where
-  tells : (s : Reply Finding) → Within s → number ≡ replyCode formulaCode s ↔ r ≡ s
+module _ (r : Reply FormulaFinding) (number : ℕ) (is : number ≡ replyCode formulaCode r) (within : Within r) where
+  tells : (s : Reply FormulaFinding) → Within s → number ≡ replyCode formulaCode s ↔ r ≡ s
   tells s u = (λ e. told r s within u (sym is ∙ e), λ e. is ∙ ap (replyCode formulaCode) e)
 
   by-formulas : (vs ws : List ℕ) → length vs ≤ 1024 → ByFormulas vs (rulesOf ws) r → NumberedByFormulas vs (rulesOf ws) number
@@ -106,7 +106,7 @@ module _ (r : Reply Finding) (number : ℕ) (is : number ≡ replyCode formulaCo
   }
 
 -- what is found is within bounds
-found-within : (vs ws : List ℕ) → length vs ≤ 1024 → (f : Finding) → ByFormulas vs (rulesOf ws) (answered f) → Within (answered f)
+found-within : (vs ws : List ℕ) → length vs ≤ 1024 → (f : FormulaFinding) → ByFormulas vs (rulesOf ws) (answered f) → Within (answered f)
 found-within vs ws few (missing a) by = omega (arith, few, by .missing-exactly a .0 refl .0 .0)
 found-within vs ws few (clash a) by = omega (arith, few, by .clash-exactly a .0 refl .0 .0)
 found-within vs ws few (fails (lit c)) by = omega (arith, few, by .fails-exactly c .0 refl .1 .0)
@@ -117,8 +117,8 @@ module _ (vs ws : List ℕ) (accepted : Accepted vs ws) where
   few : length vs ≤ 1024
   few = few-values vs (accepted .0)
 
-  found : Within (answered (finding vs ws))
-  found = found-within vs ws few (finding vs ws) (formulas.by-formulas vs ws (accepted .1) (answered (finding vs ws)) refl)
+  found : Within (answered (formulaFinding vs ws))
+  found = found-within vs ws few (formulaFinding vs ws) (formulas.by-formulas vs ws (accepted .1) (answered (formulaFinding vs ws)) refl)
 
   answer-within : Within (answer vs ws)
   answer-within = rw (completed.answered-finding vs ws accepted) found
@@ -126,7 +126,7 @@ module _ (vs ws : List ℕ) (accepted : Accepted vs ws) where
   levels-within : (levels : List ℕ) → Within (answerByLevels vs ws levels)
   levels-within levels = rw (completed.next vs ws levels accepted) (go (badLevels (length vs) ws levels) refl)
     where
-      go : (o : Option ℕ) → badLevels (length vs) ws levels ≡ o → Within (orRefuse o 13 (answered (finding vs ws)))
+      go : (o : Option ℕ) → badLevels (length vs) ws levels ≡ o → Within (orRefuse o 13 (answered (formulaFinding vs ws)))
       go (some k) e = (omega arith, omega (arith, completed.place-below vs ws levels accepted k e))
       go none e = found
 
@@ -146,7 +146,7 @@ levels-numbered vs ws levels number is promised accepted = record {
   holds-engine = λ e tight one. Iff·trans (tell (answered holds) tt) (Iff·trans (by .holds-engine e tight one) (Iff·symm (passes-told vs ws accepted)));
 }
   where
-    r : Reply Finding
+    r : Reply FormulaFinding
     r = answerByLevels vs ws levels
 
     by : ByLevels vs ws levels r
@@ -155,5 +155,5 @@ levels-numbered vs ws levels number is promised accepted = record {
     within : Within r
     within = levels-within vs ws accepted levels
 
-    tell : (s : Reply Finding) → Within s → number ≡ replyCode formulaCode s ↔ r ≡ s
+    tell : (s : Reply FormulaFinding) → Within s → number ≡ replyCode formulaCode s ↔ r ≡ s
     tell = tells r number is within

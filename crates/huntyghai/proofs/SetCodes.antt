@@ -11,7 +11,7 @@ use Rattle.logic_programs.specs.Literals.{setOf}
 use Rattle.answer_sets.specs.Verdicts.{Verdict, clash, broken, unfounded, passes, verdict}
 use Rattle.logic_programs.specs.Words.{rulesOf}
 use Rattle.answer_sets.specs.Answers.{answer}
-use Rattle.answer_sets.specs.Demand2.{Accepted, Judged, Demand2}
+use Rattle.answer_sets.specs.Demand2.{Accepted, RightVerdict, Demand2}
 use Rattle.answer_sets.proofs.Decoding.{accepted-count}
 use Rattle.answer_sets.proofs.Theorems.{few-values, accepted-judged, demand-2}
 use Rattle.answer_codes.specs.Codes.{coded, replyCode, verdictCode}
@@ -80,7 +80,7 @@ module _ (vs ws : List ℕ) (number : ℕ) (is : number ≡ replyCode verdictCod
   replies : answer vs ws ≡ answered v
   replies = accepted-judged vs ws accepted
 
-  judged : Judged (length vs) (rulesOf ws) (setOf vs) (answer vs ws)
+  judged : RightVerdict (length vs) (rulesOf ws) (setOf vs) (answer vs ws)
   unfolding Demand2
   judged = promised accepted
 

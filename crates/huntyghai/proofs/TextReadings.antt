@@ -41,7 +41,7 @@ passes-number (refused k p) by =
     (λ e. absurd (no-refusal (10 ∷ 11 ∷ 12 ∷ []) k p 64 0 (omega arith, (omega arith, (omega arith, tt))) by (omega arith) (omega arith) e), λ e. cc)
 passes-number (answered v) by = (λ e. ap answered (tells-passes v e), λ e. ap (replyCode verdictCode) e)
 
-holds-number : (r : Reply formulas.Finding) → RefusedBy (10 ∷ 11 ∷ 12 ∷ []) r → replyCode formulaCode r ≡ coded 72 0 ↔ r ≡ answered formulas.holds
+holds-number : (r : Reply formulas.FormulaFinding) → RefusedBy (10 ∷ 11 ∷ 12 ∷ []) r → replyCode formulaCode r ≡ coded 72 0 ↔ r ≡ answered formulas.holds
 holds-number (refused k p) by =
     (λ e. absurd (no-refusal (10 ∷ 11 ∷ 12 ∷ []) k p 72 0 (omega arith, (omega arith, (omega arith, tt))) by (omega arith) (omega arith) e), λ e. cc)
 holds-number (answered formulas.holds) by = (λ e. refl, λ e. refl)

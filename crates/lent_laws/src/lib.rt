@@ -1,7 +1,7 @@
 // The library's face over a lent run of law records: each function gathers the run and leaves the rest to code by value.
-use causal_reading::Reading;
 use action_language::Description;
 use action_language::Law;
+use causal_reading::Reading;
 use description_reader::Answer;
 use description_reader::Described;
 use history_check::Checked;

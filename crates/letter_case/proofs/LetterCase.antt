@@ -13,7 +13,7 @@ use Rattle.spelling.proofs.Comparing.{same-refl, same-equal}
 use Rattle.text.specs.Lines.{horizonKey, fluentKey, actionKey}
 use Rattle.text.specs.Names.{isNew, literal}
 use Rattle.text.specs.Lists.{listOf}
-use Rattle.description_reader.specs.LineSteps.{Due, Draft, endLine, headOf, fluentList, anyList, lineStep}
+use Rattle.description_reader.specs.LineSteps.{Due, Draft, endLine, readHead, fluentList, anyList, lineStep}
 use Rattle.letter_case.specs.Alike.{Alike, AlikeNames}
 use Rattle.letter_case.specs.LetterCase.{usesNames, LetterCase}
 use Rattle.letter_case.proofs.AlikeRuns.{lowers, alike-of, names-lower, names-refl}
@@ -45,8 +45,8 @@ line-alike : (lent : ℕ) (due : Due) (d : Draft) (key : ℕ) → usesNames key 
 unfolding lineStep
 line-alike lent due d key uses xs ys a =
     let same = names-refl (d .names) in
-    let head : headOf (d .names) (d .fluents) xs ≡ headOf (d .names) (d .fluents) ys =
-    reads-alike (λ names bs. headOf names (d .fluents) bs) (head-lowered (d .fluents)) (d .names) (d .names) same xs ys a in
+    let head : readHead (d .names) (d .fluents) xs ≡ readHead (d .names) (d .fluents) ys =
+    reads-alike (λ names bs. readHead names (d .fluents) bs) (head-lowered (d .fluents)) (d .names) (d .names) same xs ys a in
     let code : literal (d .names) 0 (d .fluents) xs ≡ literal (d .names) 0 (d .fluents) ys =
     reads-alike (λ names bs. literal names 0 (d .fluents) bs) (literal-lowered 0 (d .fluents)) (d .names) (d .names) same xs ys a in
     let fluents : fluentList d xs ≡ fluentList d ys =
@@ -63,7 +63,7 @@ letter-case = record {
   );
   declarations = reads-alike (λ names xs. isNew names xs) new-lowered;
   literals = λ low high. reads-alike (λ names xs. literal names low high xs) (literal-lowered low high);
-  heads = λ fluents. reads-alike (λ names xs. headOf names fluents xs) (head-lowered fluents);
+  heads = λ fluents. reads-alike (λ names xs. readHead names fluents xs) (head-lowered fluents);
   lists = λ low high most. reads-alike (λ names xs. listOf names low high most xs) (list-lowered low high most);
   lines = line-alike;
 }

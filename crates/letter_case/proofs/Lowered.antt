@@ -14,7 +14,7 @@ use Rattle.spelling.proofs.Lowering.{lowered-outside, no-letter, all-lowered-ag
 use Rattle.text.specs.Bytes.{comma, hyphen, cut}
 use Rattle.text.specs.Names.{declaredAt, inSort, literal, isNew}
 use Rattle.text.specs.Lists.{Listed, items, itemsIn, added, listFrom, listOf}
-use Rattle.description_reader.specs.LineSteps.{headOf}
+use Rattle.description_reader.specs.LineSteps.{readHead}
 
 -- declared names
 
@@ -46,8 +46,8 @@ literal-lowered low high names (x ∷ xs) =
     (ap (λ o. cond (eqb x hyphen) (inSort low high 1 (declaredAt names xs)) (inSort low high 0 o)) (declared-lowered names (x ∷ xs)))
 
 pub head-lowered : (fluents : ℕ) (names : List (List ℕ)) (xs : List ℕ)
-    → headOf (map (map lowered) names) fluents (map lowered xs) ≡ headOf names fluents xs
-unfolding headOf
+    → readHead (map (map lowered) names) fluents (map lowered xs) ≡ readHead names fluents xs
+unfolding readHead
 head-lowered fluents names xs = rw (all-lowered-again xs, literal-lowered 0 fluents names xs)
 
 -- lists

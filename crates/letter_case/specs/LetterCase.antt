@@ -10,7 +10,7 @@ use Rattle.spelling.specs.Spelling.{sameName}
 use Rattle.text.specs.Lines.{ifKey, afterKey, stateKey, actKey, byKey}
 use Rattle.text.specs.Names.{isNew, literal}
 use Rattle.text.specs.Lists.{listOf}
-use Rattle.description_reader.specs.LineSteps.{Due, Draft, startsLaw, headOf, lineStep}
+use Rattle.description_reader.specs.LineSteps.{Due, Draft, startsLaw, readHead, lineStep}
 use Rattle.letter_case.specs.Alike.{Alike, AlikeNames}
 
 -- the keys of the lines that use names: heads, literals and lists, in descriptions and histories
@@ -25,7 +25,7 @@ pub record LetterCase : Type 0 where
   pub literals : (low high : ℕ) (names names′ : List (List ℕ)) → AlikeNames names names′ → (xs ys : List ℕ) → Alike xs ys
       → literal names low high xs ≡ literal names′ low high ys
   pub heads : (fluents : ℕ) (names names′ : List (List ℕ)) → AlikeNames names names′ → (xs ys : List ℕ) → Alike xs ys
-      → headOf names fluents xs ≡ headOf names′ fluents ys
+      → readHead names fluents xs ≡ readHead names′ fluents ys
   pub lists : (low high most : ℕ) (names names′ : List (List ℕ)) → AlikeNames names names′ → (xs ys : List ℕ) → Alike xs ys
       → listOf names low high most xs ≡ listOf names′ low high most ys
   -- a line of a description that uses names, wherever the reader is

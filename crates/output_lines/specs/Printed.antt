@@ -11,8 +11,8 @@ use Rattle.output_lines.specs.Writing.{outputLine, decimal, horizonWord,
 use Rattle.output_lines.specs.Writing.{passesWord, missingWord, clashWord, brokenWord, unfoundedWord, noneWord, pathWord, contradictedWord, uncausedWord}
 
 -- a refusal prints its number and place only
-abbrev pub refusal : ℕ → ℕ → List ℕ
-refusal number place = outputLine refusedWord (decimal number) ++ outputLine placeWord (decimal place)
+abbrev pub refusalLines : ℕ → ℕ → List ℕ
+refusalLines number place = outputLine refusedWord (decimal number) ++ outputLine placeWord (decimal place)
 
 -- the verdict and its number, which is empty for passes
 abbrev pub verdictLines : Verdict → List ℕ
@@ -53,5 +53,5 @@ countLines T atoms rules words =
 
 -- the nine lines, or a refusal
 abbrev pub checkedLines : List ℕ → List ℕ → Reply Finding → Reply Causal → List ℕ
-checkedLines input counts (refused number place) reply = refusal number place
+checkedLines input counts (refused number place) reply = refusalLines number place
 checkedLines input counts (answered f) reply = counts ++ (findingLines f ++ causalAfter input f reply)

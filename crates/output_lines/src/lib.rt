@@ -28,7 +28,7 @@ ghost use lib.Seq.{sets};
 ghost use Rattle.history_check.specs.Checks;
 ghost use Rattle.causal_reading.specs.Readings;
 ghost use Rattle.output_lines.specs.Writing.{outputLine, decimal};
-ghost use Rattle.output_lines.specs.Printed.{refusal, countLines, checkedLines};
+ghost use Rattle.output_lines.specs.Printed.{refusalLines, countLines, checkedLines};
 ghost use Rattle.output_lines.specs.Internal.{wordAt, valueBytes, verdictBytes, causalBytes};
 
 // What the output says of a translation.
@@ -90,7 +90,7 @@ fn put_value(out: &mut [u8], at: usize, key: usize, input: &[u8], value: Value) 
 
 // A refusal's number and place, from the buffer's first byte on.
 pub fn put_refusal(out: &mut [u8], number: u8, place: usize) -> usize
-    ensures { λ r. ⌜ (let ws = refusal number place in
+    ensures { λ r. ⌜ (let ws = refusalLines number place in
         (r ≡ 0 + length ws) × (now (out .exit) ≡ sets (now (out .entry)) 0 ws)) ⌝ }
     ensures { λ r. ⌜ r ≤ 400 ⌝ }
 {

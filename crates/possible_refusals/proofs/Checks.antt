@@ -65,13 +65,13 @@ engine-by vs ws = tests-by (10 ∷ 11 ∷ 12 ∷ []) vs ws (answered (verdict (l
 
 completion-by : (vs ws : List ℕ) → RefusedBy (10 ∷ 11 ∷ 12 ∷ []) (completed.answer vs ws)
 unfolding completed.answer
-completion-by vs ws = tests-by (10 ∷ 11 ∷ 12 ∷ []) vs ws (answered (findings.finding vs ws)) refl tt
+completion-by vs ws = tests-by (10 ∷ 11 ∷ 12 ∷ []) vs ws (answered (findings.formulaFinding vs ws)) refl tt
 
 levels-by : (vs ws levels : List ℕ) → RefusedBy (10 ∷ 11 ∷ 12 ∷ 13 ∷ []) (completed.answerByLevels vs ws levels)
 unfolding completed.answerByLevels
 levels-by vs ws levels =
     tests-by (10 ∷ 11 ∷ 12 ∷ 13 ∷ []) vs ws _ refl
-    (or-refused (10 ∷ 11 ∷ 12 ∷ 13 ∷ []) (badLevels (length vs) ws levels) 13 (answered (findings.finding vs ws)) refl (λ _. tt))
+    (or-refused (10 ∷ 11 ∷ 12 ∷ 13 ∷ []) (badLevels (length vs) ws levels) 13 (answered (findings.formulaFinding vs ws)) refl (λ _. tt))
 
 -- a description that was taken, with its own laws
 module _ (text : List ℕ) (d : Draft) (rest : List ℕ) (lines : ℕ) (is : described 64 text ≡ answered (read d rest lines)) where

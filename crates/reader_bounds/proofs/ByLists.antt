@@ -22,7 +22,7 @@ use Rattle.text.specs.Lists.{Listed, codes, added, items, listFrom, listOf}
 use Rattle.text.specs.Names.{declaredAt, inSort, literal}
 use Rattle.description_reader.specs.LineSteps.{Draft}
 use Rattle.description_reader.specs.Descriptions.{read, described}
-use Rattle.history_values.specs.Values.{withTrue, withFalse, marked, orFalse, filled}
+use Rattle.history_values.specs.Values.{withTrue, withFalse, withLiterals, orFalse, filled}
 use Rattle.history_values.proofs.Filling.{filled-middle}
 use Rattle.history_reader.specs.Histories.{most, undoneFalse, statesFrom, atoms, recorded, byNames, readHistory}
 use Rattle.history_reader.proofs.Kept.{OfAnswer, end-keeps, list-keeps}
@@ -125,7 +125,7 @@ module _ (base : ℕ) (has : ℕ → Bool) (c : ℕ) where
 
   -- the first of these names, and a later one
   mark-here : (i k : ℕ) (p zs : List ℕ) → length p ≡ base + i → c / 2 ≡ i
-      → marked base (p ++ (valuesBy fluentValue has i (suc k) ++ zs)) (c ∷ []) ≡ p ++ (valuesBy fluentValue more i (suc k) ++ zs)
+      → withLiterals base (p ++ (valuesBy fluentValue has i (suc k) ++ zs)) (c ∷ []) ≡ p ++ (valuesBy fluentValue more i (suc k) ++ zs)
   mark-here i k p zs there e =
       let v = fluentValue (has (2 * i)) (has (2 * i + 1)) in
       let behind : List ℕ = valuesBy fluentValue has (suc i) k ++ zs in
@@ -142,18 +142,18 @@ module _ (base : ℕ) (has : ℕ → Bool) (c : ℕ) where
           rw (getD-at p v behind 0 (base + i) there) (set-at p v behind (cond (eqb (c % 2) 0) (withTrue v) (withFalse v)) (base + i) there)
 
   mark-later : (i k : ℕ) (p zs : List ℕ) → (c / 2 ≡ i → ⊥) → let v = fluentValue (has (2 * i)) (has (2 * i + 1)) in
-      marked base (p ++ (v ∷ []) ++ (valuesBy fluentValue has (suc i) k ++ zs)) (c ∷ []) ≡ p ++ (v ∷ []) ++ (valuesBy fluentValue more (suc i) k ++ zs)
-      → marked base (p ++ (valuesBy fluentValue has i (suc k) ++ zs)) (c ∷ []) ≡ p ++ (valuesBy fluentValue more i (suc k) ++ zs)
+      withLiterals base (p ++ (v ∷ []) ++ (valuesBy fluentValue has (suc i) k ++ zs)) (c ∷ []) ≡ p ++ (v ∷ []) ++ (valuesBy fluentValue more (suc i) k ++ zs)
+      → withLiterals base (p ++ (valuesBy fluentValue has i (suc k) ++ zs)) (c ∷ []) ≡ p ++ (valuesBy fluentValue more i (suc k) ++ zs)
   mark-later i k p zs differs next =
       let v = fluentValue (has (2 * i)) (has (2 * i + 1)) in
       let not-this = other-name c i differs in
-      ap (λ vs. marked base vs (c ∷ [])) (sym (append-snoc p v (valuesBy fluentValue has (suc i) k ++ zs)))
+      ap (λ vs. withLiterals base vs (c ∷ [])) (sym (append-snoc p v (valuesBy fluentValue has (suc i) k ++ zs)))
       ∙ next
       ∙ append-snoc p v (valuesBy fluentValue more (suc i) k ++ zs)
       ∙ rw (not-this .0, not-this .1) refl
 
   mark-one : (i k : ℕ) (p zs : List ℕ) → length p ≡ base + i → InSort i (i + k) c
-      → marked base (p ++ (valuesBy fluentValue has i k ++ zs)) (c ∷ []) ≡ p ++ (valuesBy fluentValue more i k ++ zs)
+      → withLiterals base (p ++ (valuesBy fluentValue has i k ++ zs)) (c ∷ []) ≡ p ++ (valuesBy fluentValue more i k ++ zs)
   mark-one i zero p zs there inside = absurd (omega (arith, inside .0, inside .1))
   mark-one i (suc k) p zs there inside =
       let v = fluentValue (has (2 * i)) (has (2 * i + 1)) in
@@ -161,8 +161,8 @@ module _ (base : ℕ) (has : ℕ → Bool) (c : ℕ) where
       (λ later. mark-one (suc i) k (p ++ (v ∷ [])) zs (omega (arith, length-append p (v ∷ []))) (later, omega (arith, inside .1)))
     where
       by : (b : Bool) → eqb (c / 2) i ≡ b → let v = fluentValue (has (2 * i)) (has (2 * i + 1)) in
-          (suc i ≤ c / 2 → marked base (p ++ (v ∷ []) ++ (valuesBy fluentValue has (suc i) k ++ zs)) (c ∷ []) ≡ p ++ (v ∷ []) ++ (valuesBy fluentValue more (suc i) k ++ zs))
-          → marked base (p ++ (valuesBy fluentValue has i (suc k) ++ zs)) (c ∷ []) ≡ p ++ (valuesBy fluentValue more i (suc k) ++ zs)
+          (suc i ≤ c / 2 → withLiterals base (p ++ (v ∷ []) ++ (valuesBy fluentValue has (suc i) k ++ zs)) (c ∷ []) ≡ p ++ (v ∷ []) ++ (valuesBy fluentValue more (suc i) k ++ zs))
+          → withLiterals base (p ++ (valuesBy fluentValue has i (suc k) ++ zs)) (c ∷ []) ≡ p ++ (valuesBy fluentValue more i (suc k) ++ zs)
       by true e next = mark-here i k p zs there (eqb-true (c / 2) i e)
       by false e next =
           let differs = eqb-false (c / 2) i e in
@@ -175,10 +175,10 @@ or-turned false true d = refl
 or-turned false false d = refl
 
 mark-all : (base : ℕ) (has : ℕ → Bool) (i k : ℕ) (p zs cs : List ℕ) → length p ≡ base + i → Each (InSort i (i + k)) cs
-    → marked base (p ++ (valuesBy fluentValue has i k ++ zs)) cs ≡ p ++ (valuesBy fluentValue (λ x. lists cs x || has x) i k ++ zs)
+    → withLiterals base (p ++ (valuesBy fluentValue has i k ++ zs)) cs ≡ p ++ (valuesBy fluentValue (λ x. lists cs x || has x) i k ++ zs)
 mark-all base has i k p zs [] there inside = refl
 mark-all base has i k p zs (c ∷ cs) there inside =
-    ap (λ vs. marked base vs cs) (mark-one base has c i k p zs there (inside .0))
+    ap (λ vs. withLiterals base vs cs) (mark-one base has c i k p zs there (inside .0))
     ∙ mark-all base (λ x. eqb c x || has x) i k p zs cs there (inside .1)
     ∙ ap (λ (ws : List ℕ). p ++ (ws ++ zs)) (values-alike fluentValue _ _ i k (λ x _. or-turned (lists cs x) (eqb c x) (has x)))
 
@@ -194,9 +194,9 @@ length-values value has i (suc k) = ap suc (length-values value has (suc i) k)
 
 -- a line's list marked in places that are 0
 mark-line : (base i k r : ℕ) (p cs : List ℕ) → length p ≡ base + i → Each (InSort i (i + k)) cs
-    → marked base (p ++ replicate (k + r) 0) cs ≡ p ++ (valuesBy fluentValue (lists cs) i k ++ replicate r 0)
+    → withLiterals base (p ++ replicate (k + r) 0) cs ≡ p ++ (valuesBy fluentValue (lists cs) i k ++ replicate r 0)
 mark-line base i k r p cs there inside =
-    ap (λ (vs : List ℕ). marked base (p ++ vs) cs)
+    ap (λ (vs : List ℕ). withLiterals base (p ++ vs) cs)
     (sym (replicate-append-replicate k r 0) ∙ ap (λ (vs : List ℕ). vs ++ replicate r 0) (sym (values-none i k)))
     ∙ mark-all base (λ x. false) i k p (replicate r 0) cs there inside
     ∙ ap (λ (ws : List ℕ). p ++ (ws ++ replicate r 0)) (values-alike fluentValue _ _ i k (λ x _. or-none (lists cs x)))
@@ -239,7 +239,7 @@ module _ (d : Draft) (m : ℕ) (size : length (d .names) ≡ d .fluents + m) whe
   -- the values behind a state line and an act line
   step-values : (t a : ℕ) (p cs cs′ : List ℕ) → length p ≡ t * length (d .names) → Each (InSort 0 (d .fluents)) cs → Each (InSort (d .fluents) (length (d .names))) cs′
       → let n = d .fluents in let base = t * length (d .names) in
-      undoneFalse d t (marked base (marked base (p ++ replicate (n + (m + a)) 0) cs) cs′)
+      undoneFalse d t (withLiterals base (withLiterals base (p ++ replicate (n + (m + a)) 0) cs) cs′)
       ≡ p ++ valuesBy fluentValue (lists cs) 0 n ++ valuesBy actionValue (lists cs′) n m ++ replicate a 0
   step-values t a p cs cs′ there inside inside′ =
       let n = d .fluents in
@@ -248,7 +248,7 @@ module _ (d : Draft) (m : ℕ) (size : length (d .names) ≡ d .fluents + m) whe
       let q : List ℕ = p ++ state in
       let behind : length q ≡ base + n = omega (arith, length-append p state, length-values fluentValue (lists cs) 0 n) in
       let width : length (d .names) - n ≡ m = omega arith in
-      ap (λ vs. undoneFalse d t (marked base vs cs′))
+      ap (λ vs. undoneFalse d t (withLiterals base vs cs′))
       (mark-line base 0 n (m + a) p cs (omega arith) (rw (zero-add n) inside) ∙ sym (append-assoc p state (replicate (m + a) 0)))
       ∙ ap (undoneFalse d t) (mark-line base n m a q cs′ behind (rw (← size) inside′))
       ∙ rw width (fill-line (base + n) n m (lists cs′) q (replicate a 0) behind)
@@ -266,7 +266,7 @@ module _ (d : Draft) (m : ℕ) (size : length (d .names) ≡ d .fluents + m) whe
       (record {
         lines = cs ∷ [];
         has = last text cs (l .rest) (record { line = l; is = is; due = due; list = list; behind = refl });
-        are = ap (λ (q : ℕ). marked base (p ++ replicate q 0) cs) alone
+        are = ap (λ (q : ℕ). withLiterals base (p ++ replicate q 0) cs) alone
             ∙ mark-line base 0 n 0 p cs (omega arith) (rw (zero-add n) (codes-in (d .names) 0 n (l .value) cs list))
             ∙ ap (λ (vs : List ℕ). p ++ vs) (append-nil (valuesBy fluentValue (lists cs) 0 n));
       }))
@@ -284,7 +284,7 @@ module _ (d : Draft) (m : ℕ) (size : length (d .names) ≡ d .fluents + m) whe
       let p′ : List ℕ = p ++ state ++ act in
       let there′ : length p′ ≡ suc t * length (d .names) =
       omega (arith, length-append (p ++ state) act, length-append p state, length-values fluentValue (lists cs) 0 n, length-values actionValue (lists cs′) n m, suc-mul t (length (d .names))) in
-      let values = ap (λ (q : ℕ). undoneFalse d t (marked base (marked base (p ++ replicate q 0) cs) cs′)) whole
+      let values = ap (λ (q : ℕ). undoneFalse d t (withLiterals base (withLiterals base (p ++ replicate q 0) cs) cs′)) whole
       ∙ step-values t a p cs cs′ there (codes-in (d .names) 0 n (l .value) cs list) (codes-in (d .names) n (length (d .names)) (l′ .value) cs′ list′) in
       subst (λ vs. OfAnswer (From d m (suc k) p text) (statesFrom k d (suc t) (suc (suc line)) vs (l′ .rest))) (sym values)
       (answer-map (From d m k p′ (l′ .rest)) (From d m (suc k) p text)

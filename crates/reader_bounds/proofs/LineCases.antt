@@ -32,7 +32,7 @@ use Rattle.line_values.specs.HorizonText.{inHorizon, horizonOf}
 use Rattle.line_values.specs.ShortLaws.{defaultLaw, inertialLaw, causesLaw, nonexecutableLaw}
 use Rattle.description_reader.specs.LineSteps as step
 use Rattle.description_reader.specs.LineSteps.{Due, horizonDue, firstFluentDue, fluentDue, actionDue, lawDue, ifDue, afterDue, byDue, Draft, startsLaw, allowed, Step, next, finish}
-use Rattle.description_reader.specs.LineSteps.{horizonLine, nameLine, litHead, headOf, begun, roomFor, whole, withIf, ifLine, withAfter, afterLine, wholeByLiteral, wholeByList, endLine, anyList, keyLine, lineStep}
+use Rattle.description_reader.specs.LineSteps.{horizonLine, nameLine, litHead, readHead, begun, roomFor, whole, withIf, ifLine, withAfter, afterLine, wholeByLiteral, wholeByList, endLine, anyList, keyLine, lineStep}
 
 -- a choice by what its test says
 pub chosen : {A : Type 0} (P : A → Type 0) (b : Bool) {x y : A} → (b ≡ true → P x) → (b ≡ false → P y) → P (cond b x y)
@@ -99,8 +99,8 @@ module _ (names : List (List ℕ)) (low high most : ℕ) (P : Listed → Type 0)
 
 -- a law's head, where there are n fluents
 head-cases : (names : List (List ℕ)) (n : ℕ) (P : Option Head → Type 0) → P none → ((h : Head) → headFits n h ≡ true → P (some h))
-    → (value : List ℕ) → P (headOf names n value)
-unfolding headOf
+    → (value : List ℕ) → P (readHead names n value)
+unfolding readHead
 head-cases names n P bad good value =
     chosen P (sameName value falseBytes) (λ _. good False refl)
     (λ _. literal-cases names 0 n (λ o. P (litHead o)) bad (λ c b. good (Lit c) (lt-ltb c (2 * n) b)) value)

@@ -12,7 +12,7 @@ use Rattle.basics.specs.Search.{Each}
 use Rattle.basics.specs.Replies.{Reply, refused, answered}
 use Rattle.description_reader.specs.LineSteps.{Draft}
 use Rattle.description_reader.specs.Descriptions.{Taken, read, described}
-use Rattle.history_values.specs.Values.{withTrue, withFalse, marked, orFalse, filled, ActionsValued}
+use Rattle.history_values.specs.Values.{withTrue, withFalse, withLiterals, orFalse, filled, ActionsValued}
 use Rattle.history_reader.specs.Histories.{statesFrom, atoms, recorded, byNames, readHistory}
 use Rattle.history_reader.proofs.Kept.{OfAnswer, states-keep, states-act}
 use Rattle.reader_bounds.specs.Records.{Valued, TakenValued}
@@ -39,7 +39,7 @@ marked-value v sign h =
     (λ _. chosen (λ (w : ℕ). w ≤ 3) (eqb (v % 2) 0) (λ e. let even = eqb-true (v % 2) 0 e in omega arith) (λ _. h))
     (λ _. chosen (λ (w : ℕ). w ≤ 3) (ltb v 2) (λ e. let low = ltb-true v 2 e in omega arith) (λ _. h))
 
-marked-good : (n base : ℕ) (vs cs : List ℕ) → Good n vs → Good n (marked base vs cs)
+marked-good : (n base : ℕ) (vs cs : List ℕ) → Good n vs → Good n (withLiterals base vs cs)
 marked-good n base vs [] g = g
 marked-good n base vs (c ∷ cs) g =
     let at = base + c / 2 in

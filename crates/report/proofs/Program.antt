@@ -37,7 +37,7 @@ use Rattle.possible_refusals.proofs.Readers.{input-by}
 use Rattle.possible_refusals.proofs.Checks.{fits, in-time, small-table, is-written, values-count, values-small, values-acted}
 use Rattle.output_lines.specs.Printed.{causalAfter}
 use Rattle.report.specs.Output.{room, afterOutcome, output}
-use Rattle.report.specs.Program.{Refused, causalShown, missingOrClash, Judged, Program}
+use Rattle.report.specs.Program.{Refused, causalShown, missingOrClash, VerdictPrinted, Program}
 
 -- what is shown of a reading behind an answer
 abbrev shownOf : Reply Causal → Option Causal
@@ -156,7 +156,7 @@ module _ (input : List ℕ) (d : Draft) (rest : List ℕ) (lines : ℕ) (vs : Li
   unfolding output
   is-printed = rw (is, e) refl
 
-  judges : Judged input (output input)
+  judges : VerdictPrinted input (output input)
   judges = record {
     draft = d;
     rest = rest;

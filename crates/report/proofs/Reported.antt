@@ -16,7 +16,7 @@ use Rattle.history_reader.specs.Histories.{historyReplied, valuesLeft}
 use Rattle.law_runs.specs.Runs.{noLaws}
 use Rattle.inputs.specs.Inputs.{recordedIn}
 use Rattle.inputs.proofs.Known.{history-refused, history-read}
-use Rattle.output_lines.specs.Printed.{refusal}
+use Rattle.output_lines.specs.Printed.{refusalLines}
 use Rattle.output_lines.proofs.Stores.{Wrote}
 use Rattle.report.specs.Output.{room, afterOutcome, lawsTaken, afterInput, output}
 use Rattle.report.proofs.Composing.{laws-behind}
@@ -39,7 +39,7 @@ laws-counted (refused number place) = refl
 laws-counted (answered (read d rest lines)) = refl
 
 module _ (input : List ℕ) where
-  pub says-refused : {number place : ℕ} → refused number place ≡ historyReplied (recordedIn input) → output input ≡ refusal number place
+  pub says-refused : {number place : ℕ} → refused number place ≡ historyReplied (recordedIn input) → output input ≡ refusalLines number place
   unfolding output
   says-refused e = rw (history-refused (recordedIn input) e)
 

@@ -11,14 +11,14 @@ use Rattle.causal_reading.specs.Readings.{reading}
 use Rattle.description_reader.specs.Descriptions.{Taken, read, described}
 use Rattle.description_reader.specs.Answers.{recordOf}
 use Rattle.inputs.specs.Inputs.{recordedIn}
-use Rattle.output_lines.specs.Printed.{refusal, countLines, checkedLines}
+use Rattle.output_lines.specs.Printed.{refusalLines, countLines, checkedLines}
 
 -- room for the largest table
 abbrev pub room : ℕ
 room = 30912
 
 abbrev pub afterOutcome : List ℕ → Description → List Law → List ℕ → Reply Written → List ℕ
-afterOutcome input d ls vs (refused number place) = refusal number place
+afterOutcome input d ls vs (refused number place) = refusalLines number place
 afterOutcome input d ls vs (answered (written atoms rules words)) =
     checkedLines input (countLines (d .horizon) atoms rules words) (checked d ls 64 vs room) (reading d ls 64 vs)
 
@@ -28,7 +28,7 @@ lawsTaken (refused number place) = []
 lawsTaken (answered (read d rest lines)) = d .laws
 
 abbrev pub afterInput : List ℕ → Reply Taken → Reply (List ℕ) → List ℕ
-afterInput input o (refused number place) = refusal number place
+afterInput input o (refused number place) = refusalLines number place
 afterInput input o (answered vs) =
     afterOutcome input (recordOf o) (lawsTaken o) vs (outcome (recordOf o) (lawsTaken o) 64 room)
 

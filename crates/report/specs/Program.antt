@@ -20,7 +20,7 @@ use Rattle.description_reader.specs.Descriptions.{read, described, descriptionO
 use Rattle.history_values.specs.Values.{ActionsValued}
 use Rattle.history_reader.specs.Histories.{atoms}
 use Rattle.inputs.specs.Inputs.{recordedIn}
-use Rattle.output_lines.specs.Printed.{refusal, countLines, findingLines, causalLines, noCausal}
+use Rattle.output_lines.specs.Printed.{refusalLines, countLines, findingLines, causalLines, noCausal}
 
 -- a refusal by one of 1 to 7
 pub record Refused (out : List ℕ) : Type 0 where
@@ -28,7 +28,7 @@ pub record Refused (out : List ℕ) : Type 0 where
   pub place : ℕ
   pub low : 1 ≤ number
   pub high : number ≤ 7
-  pub printed : out ≡ refusal number place
+  pub printed : out ≡ refusalLines number place
 
 -- the causal lines: none, or a verdict
 abbrev pub causalShown : List ℕ → Option Causal → List ℕ
@@ -49,7 +49,7 @@ missingOrClash (judged (broken r)) = false
 missingOrClash (judged (unfounded c)) = false
 missingOrClash (judged passes) = false
 
-pub record Judged (input out : List ℕ) : Type 0 where
+pub record VerdictPrinted (input out : List ℕ) : Type 0 where
   -- the description read
   pub draft : Draft
   pub rest : List ℕ
@@ -76,4 +76,4 @@ pub record Judged (input out : List ℕ) : Type 0 where
 
 -- of an input and its output
 unfoldable pub Program : List ℕ → List ℕ → Type 0
-Program input out = Refused out ⊎ Judged input out
+Program input out = Refused out ⊎ VerdictPrinted input out

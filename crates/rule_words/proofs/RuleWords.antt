@@ -32,11 +32,11 @@ front-at f count xs i h =
     map-at f (take count xs) i h ∙ ap f (getD-take count xs i 0 (omega (arith, length-take count xs)))
 
 -- within the limits, and outside them
-pub rule-within : (n t : ℕ) {w W : ℕ} → n ≤ 32 → t ≤ 30 → w ≡ W → w ≡ cond (leb n 32 && leb t 30) W 0
-rule-within n t h k e = rw (le-leb n 32 h, le-leb t 30 k) e
+pub rule-within : (N t : ℕ) {w W : ℕ} → N ≤ 32 → t ≤ 30 → w ≡ W → w ≡ cond (leb N 32 && leb t 30) W 0
+rule-within N t h k e = rw (le-leb N 32 h, le-leb t 30 k) e
 
-pub rule-beyond : (n t W : ℕ) → (32 < n) ⊎ (30 < t) → 0 ≡ cond (leb n 32 && leb t 30) W 0
-rule-beyond n t W o = ⊎-elim (λ (h : 32 < n). rw (lt-leb n 32 h)) (λ (h : 30 < t). rw (lt-leb t 30 h) (go (leb n 32))) o
+pub rule-beyond : (N t W : ℕ) → (32 < N) ⊎ (30 < t) → 0 ≡ cond (leb N 32 && leb t 30) W 0
+rule-beyond N t W o = ⊎-elim (λ (h : 32 < N). rw (lt-leb N 32 h)) (λ (h : 30 < t). rw (lt-leb t 30 h) (go (leb N 32))) o
   where
     go : (b : Bool) → 0 ≡ cond (b && false) W 0
     go true = refl

@@ -16,22 +16,22 @@ ghost use Rattle.rule_words.specs.Internal.{ruleWord, choiceWord};
 
 pub mod lists;
 
-// What is added to a literal's code for time t, over n fluents and actions.
-fn shift(n: usize, t: usize) -> usize
-    requires { ⌜ (n ≤ 32) × (t ≤ 31) ⌝ }
-    ensures { λ r. ⌜ (r ≡ 2 * (t * n)) × (r ≤ 1984) ⌝ }
+// What is added to a literal's code for time t; N counts fluents and actions together.
+fn shift(N: usize, t: usize) -> usize
+    requires { ⌜ (N ≤ 32) × (t ≤ 31) ⌝ }
+    ensures { λ r. ⌜ (r ≡ 2 * (t * N)) × (r ≤ 1984) ⌝ }
 {
-    2 * (t * n)
+    2 * (t * N)
 }
 
 // The word of a law's head at time t: its literal's code, or 65535 for false.
-fn head_word(law: Law, n: usize, t: usize) -> u16
-    requires { ⌜ (n ≤ 32) × (t ≤ 31) ⌝ }
-    ensures { λ r. ⌜ r ≡ headWord (headAt n t (law .head)) ⌝ }
+fn head_word(law: Law, N: usize, t: usize) -> u16
+    requires { ⌜ (N ≤ 32) × (t ≤ 31) ⌝ }
+    ensures { λ r. ⌜ r ≡ headWord (headAt N t (law .head)) ⌝ }
 {
     let head = law.head;
     match head {
-        Head::Lit(code) => (shift(n, t) + wide(code)) as u16,
+        Head::Lit(code) => (shift(N, t) + wide(code)) as u16,
         Head::False => 65535,
     }
 }
@@ -61,10 +61,10 @@ fn plain_word(law: Law, i: usize, base: usize) -> u16
 
 // Word i of a law's rule for time t: its head, the counts of its negated and plain parts, the complements of its if-list, its
 // after-list. A dynamic law's head and if-list are at t + 1, and its after-list is at t. Outside the limits it is 0.
-pub fn rule_word(law: Law, n: usize, t: usize, i: usize) -> u16
-    ensures { λ r. ⌜ r ≡ ruleWord n law t i ⌝ }
+pub fn rule_word(law: Law, N: usize, t: usize, i: usize) -> u16
+    ensures { λ r. ⌜ r ≡ ruleWord N law t i ⌝ }
 {
-    if n > 32 {
+    if N > 32 {
         return 0;
     }
     if t > 30 {
@@ -74,7 +74,7 @@ pub fn rule_word(law: Law, n: usize, t: usize, i: usize) -> u16
     let negated = negated_count(law);
     let plain = plain_count(law);
     if i == 0 {
-        return head_word(law, n, new);
+        return head_word(law, N, new);
     }
     if i == 1 {
         return negated as u16;
@@ -84,11 +84,11 @@ pub fn rule_word(law: Law, n: usize, t: usize, i: usize) -> u16
     }
     let part = i - 3;
     if part < negated {
-        return negated_word(law, part, shift(n, new));
+        return negated_word(law, part, shift(N, new));
     }
     let left = part - negated;
     if left < plain {
-        return plain_word(law, left, shift(n, t));
+        return plain_word(law, left, shift(N, t));
     }
     0
 }

@@ -1,8 +1,8 @@
 // The functions over a lent run of law records, one after the other: reads a description and its history from standard input, and
 // prints what each of them answers, and the words that are left in the table.
-use causal_reading::Reading;
 use action_language::Description;
 use action_language::Law;
+use causal_reading::Reading;
 use history_check::Checked;
 use history_reader::HistoryAnswer;
 use libc::STDIN_FILENO;

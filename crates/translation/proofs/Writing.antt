@@ -18,7 +18,7 @@ use Rattle.action_language.specs.declared.Kind.the-variants.{Static, Dynamic}
 use Rattle.action_language.specs.declared.Law.{Law}
 use Rattle.rule_words.specs.RuleForms.{choices}
 use Rattle.translation.specs.Rules.{staticRules, dynamicRules, perLaw, actionAtoms, translation}
-use Rattle.translation.specs.Internal.{rulesOf}
+use Rattle.translation.specs.Internal.{lawRules}
 use Rattle.logic_programs.specs.Rules.{Rule}
 use Rattle.logic_programs.specs.Words.{words}
 use Rattle.translation.proofs.Counts.{words-append}
@@ -134,10 +134,10 @@ perLaw-ext f g same (l ∷ ls) = rw (same (l .kind) l, perLaw-ext f g same ls)
 -- the words of a translation, pass by pass
 module _ (n m T : ℕ) (ls : List Law) where
   abbrev pub staticWords : List ℕ
-  staticWords = words (perLaw (rulesOf (n + m) (T + 1) 0) ls)
+  staticWords = words (perLaw (lawRules (n + m) (T + 1) 0) ls)
 
   abbrev pub dynamicWords : List ℕ
-  dynamicWords = words (perLaw (rulesOf (n + m) 0 T) ls)
+  dynamicWords = words (perLaw (lawRules (n + m) 0 T) ls)
 
   abbrev pub fluentWords : List ℕ
   fluentWords = words (choices (range 0 n))
@@ -145,11 +145,11 @@ module _ (n m T : ℕ) (ls : List Law) where
   abbrev pub actionWords : List ℕ
   actionWords = words (choices (actionAtoms n m 0 T))
 
-  static-pass : (k : Kind) (l : Law) → staticRules (n + m) T k l ≡ rulesOf (n + m) (T + 1) 0 k l
+  static-pass : (k : Kind) (l : Law) → staticRules (n + m) T k l ≡ lawRules (n + m) (T + 1) 0 k l
   static-pass Static l = rw (add-one T)
   static-pass Dynamic l = refl
 
-  dynamic-pass : (k : Kind) (l : Law) → dynamicRules (n + m) T k l ≡ rulesOf (n + m) 0 T k l
+  dynamic-pass : (k : Kind) (l : Law) → dynamicRules (n + m) T k l ≡ lawRules (n + m) 0 T k l
   dynamic-pass Static l = refl
   dynamic-pass Dynamic l = refl
 

@@ -9,5 +9,5 @@ use Rattle.action_language.specs.declared.Law.{Law}
 use Rattle.rule_words.specs.Internal.{byKind, ruleFor}
 
 -- a law's rules, of which a static law has as many as one number says, and a dynamic law as the other
-abbrev pub rulesOf : ℕ → ℕ → ℕ → Kind → Law → List Rule
-rulesOf N static dynamic k l = map (ruleFor N k l) (range 0 (byKind static dynamic k))
+abbrev pub lawRules : ℕ → ℕ → ℕ → Kind → Law → List Rule
+lawRules N static dynamic k l = map (ruleFor N k l) (range 0 (byKind static dynamic k))

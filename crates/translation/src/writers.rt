@@ -17,7 +17,7 @@ ghost use Rattle.rule_words.specs.RuleForms.{choices};
 ghost use Rattle.rule_words.specs.Internal.{ruleFor};
 ghost use Rattle.translation.specs.Rules.{perLaw, actionAtoms};
 ghost use Rattle.translation.specs.Translated.{tableFor, overwritten};
-ghost use Rattle.translation.specs.Internal.{rulesOf};
+ghost use Rattle.translation.specs.Internal.{lawRules};
 
 // A law's rule for time t.
 fn write_rule(table: &mut [u16], at: usize, law: Law, n: usize, t: usize) -> usize
@@ -63,8 +63,8 @@ fn write_laws(
     dynamic_times: usize,
 ) -> usize
     requires { ⌜ (count ≤ 64) × (n ≤ 32) × («static_times» ≤ 31) × («dynamic_times» ≤ 31) ⌝ }
-    requires { ⌜ at + length (words (perLaw (rulesOf n «static_times» «dynamic_times») (take count laws))) ≤ length (now table) ⌝ }
-    ensures { λ r. ⌜ (let ws = words (perLaw (rulesOf n «static_times» «dynamic_times») (take count laws)) in
+    requires { ⌜ at + length (words (perLaw (lawRules n «static_times» «dynamic_times») (take count laws))) ≤ length (now table) ⌝ }
+    ensures { λ r. ⌜ (let ws = words (perLaw (lawRules n «static_times» «dynamic_times») (take count laws)) in
         (r ≡ at + length ws) × (now (table .exit) ≡ sets (now (table .entry)) at ws)) ⌝ }
 {
     let mut place = at;

@@ -11,7 +11,7 @@ use Rattle.text.specs.Lines.{keyNumber, firstLine}
 use Rattle.text.specs.Names.{literal}
 use Rattle.text.specs.Lists.{items, listOf}
 use Rattle.line_values.specs.HorizonText.{horizonOf}
-use Rattle.description_reader.specs.LineSteps.{headOf, lineStep}
+use Rattle.description_reader.specs.LineSteps.{readHead, lineStep}
 use Rattle.description_reader.specs.Descriptions.{described}
 use Rattle.shown_names.specs.Shown.{shownFluent, shownAction}
 use Rattle.history_reader.specs.Histories.{readHistory}
@@ -40,9 +40,9 @@ two-writable = record {
 }
 
 pub style-examples : Each Holds styleExamples
-unfolding cut keyNumber firstLine isName literal items listOf horizonOf headOf lineStep described readHistory shownFluent shownAction complement translation descriptionText valuesText
+unfolding cut keyNumber firstLine isName literal items listOf horizonOf readHead lineStep described readHistory shownFluent shownAction complement translation descriptionText valuesText
 style-examples = (refl, (refl, (refl, (refl, (refl, (refl, (refl, (refl, (refl, ((refl, two-writable, capitals-any 1 2 1), ((refl, two-writable, capitals-any 0 0 0), ((refl, capitals-any 0 1 0), tt))))))))))))
 
 pub capital-examples : Each Holds capitalExamples
-unfolding cut keyNumber firstLine isName literal items listOf horizonOf headOf lineStep described readHistory
+unfolding cut keyNumber firstLine isName literal items listOf horizonOf readHead lineStep described readHistory
 capital-examples = (refl, (refl, (refl, (refl, (refl, (refl, (refl, (refl, (refl, (refl, (refl, (refl, (refl, (refl, (refl, (refl, (refl, (refl, (refl, (refl, (refl, (refl, (refl, (refl, (refl, (refl, (refl, (refl, (refl, (refl, (refl, (refl, (refl, (refl, (refl, (refl, (refl, (refl, (refl, (refl, (refl, (refl, (refl, (refl, (refl, (refl, (refl, (refl, (refl, (refl, (refl, (refl, (refl, (refl, (refl, (refl, (refl, tt)))))))))))))))))))))))))))))))))))))))))))))))))))))))))

@@ -5,7 +5,7 @@ use Rattle.basics.specs.Search.{Each}
 use Rattle.basics.proofs.Lists.{each-mapped}
 use Rattle.logic_programs.specs.Literals.{complement, setOf, holdsTrue, holdsFalse}
 use Rattle.logic_programs.specs.Words.{rulesOf, badRule}
-use Rattle.completion_theory.specs.Findings.{judged, finding}
+use Rattle.completion_theory.specs.Findings.{judgedByFormulas, formulaFinding}
 use Rattle.completion_theory.specs.LevelLists.{badLevels}
 use Rattle.completion_theory.specs.Answers.{answer, answerByLevels}
 use Rattle.completion_theory.specs.Examples as of-crate
@@ -21,5 +21,5 @@ pub crate-levels : Each Holds crateLevels
 crate-levels = each-mapped Holds fromLevels of-crate.levelExamples .1 of-crate-holds.worked-levels
 
 pub formula-examples : Each Holds formulaExamples
-unfolding answer answerByLevels badLevels finding judged rulesOf badRule setOf holdsTrue holdsFalse complement
+unfolding answer answerByLevels badLevels formulaFinding judgedByFormulas rulesOf badRule setOf holdsTrue holdsFalse complement
 formula-examples = (refl, (refl, (refl, (refl, (refl, (refl, (refl, (refl, (refl, (refl, (refl, (refl, (refl, (refl, (refl, (refl, (refl, tt)))))))))))))))))

@@ -19,7 +19,7 @@ use Rattle.spelling.specs.Spelling.{isName}
 use Rattle.text.specs.Names.{literal}
 use Rattle.text.specs.Lists.{items, listOf}
 use Rattle.line_values.specs.HorizonText.{horizonOf}
-use Rattle.description_reader.specs.LineSteps.{headOf, lineStep}
+use Rattle.description_reader.specs.LineSteps.{readHead, lineStep}
 use Rattle.description_reader.specs.Descriptions.{described}
 use Rattle.history_reader.specs.Histories.{readHistory}
 use Rattle.written_form.specs.HistoryWriting.{valuesText}
@@ -28,7 +28,7 @@ use Rattle.worked_examples.proofs.Spelled.{declared}
 use Rattle.worked_examples.specs.Log.{logExamples, callerExamples}
 
 pub log-examples : Each Holds logExamples
-unfolding cut keyNumber firstLine isName literal items listOf horizonOf headOf lineStep described readHistory valuesText
+unfolding cut keyNumber firstLine isName literal items listOf horizonOf readHead lineStep described readHistory valuesText
 log-examples = (refl, (refl, (refl, (refl, (refl, (refl, (refl, (refl, (refl, (refl, (refl, (refl, ((refl, declared), ((refl, declared), ((refl, declared), ((refl, declared), ((refl, declared), tt)))))))))))))))))
 
 pub caller-examples : Each Holds callerExamples

@@ -18,7 +18,7 @@ use Rattle.spelling.specs.Spelling.{isName}
 use Rattle.text.specs.Names.{literal}
 use Rattle.text.specs.Lists.{items, listOf}
 use Rattle.line_values.specs.HorizonText.{horizonOf}
-use Rattle.description_reader.specs.LineSteps.{headOf, lineStep}
+use Rattle.description_reader.specs.LineSteps.{readHead, lineStep}
 use Rattle.description_reader.specs.Descriptions.{described}
 use Rattle.history_reader.specs.Histories.{readHistory}
 use Rattle.shown_names.specs.Shown.{shownFluent}
@@ -34,25 +34,25 @@ use Rattle.worked_examples.specs.Cuts.{cutOutputs}
 use Rattle.worked_examples.specs.Worked.{outputExamples}
 
 pub output-examples : Each Holds outputExamples
-unfolding output decimal shownFluent engine.answer verdict rulesOf badRule setOf holdsTrue holdsFalse complement badRecord badHorizon translation translated.outcome history.checked causalVerdict causal.reading cut keyNumber firstLine isName literal items listOf horizonOf headOf lineStep described readHistory recordedIn
+unfolding output decimal shownFluent engine.answer verdict rulesOf badRule setOf holdsTrue holdsFalse complement badRecord badHorizon translation translated.outcome history.checked causalVerdict causal.reading cut keyNumber firstLine isName literal items listOf horizonOf readHead lineStep described readHistory recordedIn
 output-examples = (refl, (refl, (refl, (refl, (refl, (refl, (refl, (refl, (refl, (refl, (refl, (refl, (refl, tt)))))))))))))
 
 pub short-outputs : Each Holds shortOutputExamples
-unfolding output decimal shownFluent engine.answer verdict rulesOf badRule setOf holdsTrue holdsFalse complement badRecord badHorizon translation translated.outcome history.checked causalVerdict causal.reading cut keyNumber firstLine isName literal items listOf horizonOf headOf lineStep described readHistory recordedIn
+unfolding output decimal shownFluent engine.answer verdict rulesOf badRule setOf holdsTrue holdsFalse complement badRecord badHorizon translation translated.outcome history.checked causalVerdict causal.reading cut keyNumber firstLine isName literal items listOf horizonOf readHead lineStep described readHistory recordedIn
 short-outputs = (refl, (refl, tt))
 
 pub log-outputs : Each Holds logOutputs
-unfolding output decimal shownFluent engine.answer verdict rulesOf badRule setOf holdsTrue holdsFalse complement badRecord badHorizon translation translated.outcome history.checked causalVerdict causal.reading cut keyNumber firstLine isName literal items listOf horizonOf headOf lineStep described readHistory recordedIn
+unfolding output decimal shownFluent engine.answer verdict rulesOf badRule setOf holdsTrue holdsFalse complement badRecord badHorizon translation translated.outcome history.checked causalVerdict causal.reading cut keyNumber firstLine isName literal items listOf horizonOf readHead lineStep described readHistory recordedIn
 log-outputs = (refl, (refl, (refl, (refl, (refl, tt)))))
 
 pub style-outputs : Each Holds styleOutputs
-unfolding output decimal shownFluent engine.answer verdict rulesOf badRule setOf holdsTrue holdsFalse complement badRecord badHorizon translation translated.outcome history.checked causalVerdict causal.reading cut keyNumber firstLine isName literal items listOf horizonOf headOf lineStep described readHistory recordedIn
+unfolding output decimal shownFluent engine.answer verdict rulesOf badRule setOf holdsTrue holdsFalse complement badRecord badHorizon translation translated.outcome history.checked causalVerdict causal.reading cut keyNumber firstLine isName literal items listOf horizonOf readHead lineStep described readHistory recordedIn
 style-outputs = (refl, (refl, tt))
 
 pub fault-outputs : Each Holds faultOutputs
-unfolding output decimal shownFluent engine.answer verdict rulesOf badRule setOf holdsTrue holdsFalse complement badRecord badHorizon translation translated.outcome history.checked causalVerdict causal.reading cut keyNumber firstLine isName literal items listOf horizonOf headOf lineStep described readHistory recordedIn
+unfolding output decimal shownFluent engine.answer verdict rulesOf badRule setOf holdsTrue holdsFalse complement badRecord badHorizon translation translated.outcome history.checked causalVerdict causal.reading cut keyNumber firstLine isName literal items listOf horizonOf readHead lineStep described readHistory recordedIn
 fault-outputs = (refl, (refl, (refl, tt)))
 
 pub cut-outputs : Each Holds cutOutputs
-unfolding output decimal shownFluent engine.answer verdict rulesOf badRule setOf holdsTrue holdsFalse complement badRecord badHorizon translation translated.outcome history.checked causalVerdict causal.reading cut keyNumber firstLine isName literal items listOf horizonOf headOf lineStep described readHistory recordedIn
+unfolding output decimal shownFluent engine.answer verdict rulesOf badRule setOf holdsTrue holdsFalse complement badRecord badHorizon translation translated.outcome history.checked causalVerdict causal.reading cut keyNumber firstLine isName literal items listOf horizonOf readHead lineStep described readHistory recordedIn
 cut-outputs = (refl, (refl, (refl, (refl, (refl, tt)))))

@@ -9,7 +9,7 @@ use Rattle.spelling.specs.Spelling.{isName}
 use Rattle.text.specs.Names.{literal}
 use Rattle.text.specs.Lists.{items, listOf}
 use Rattle.line_values.specs.HorizonText.{horizonOf}
-use Rattle.description_reader.specs.LineSteps.{headOf, lineStep}
+use Rattle.description_reader.specs.LineSteps.{readHead, lineStep}
 use Rattle.description_reader.specs.Descriptions.{described}
 use Rattle.shown_names.specs.Shown.{shownFluent}
 use Rattle.history_reader.specs.Histories.{readHistory}
@@ -21,9 +21,9 @@ use Rattle.worked_examples.proofs.Spelled.{declared}
 use Rattle.worked_examples.proofs.WorkedTexts.{recipe-writable}
 
 pub short-recipe : Each Holds shortRecipeExamples
-unfolding cut keyNumber firstLine isName literal items listOf horizonOf headOf lineStep described readHistory shownFluent complement translation descriptionText
+unfolding cut keyNumber firstLine isName literal items listOf horizonOf readHead lineStep described readHistory shownFluent complement translation descriptionText
 short-recipe = (refl, (refl, (refl, (refl, ((refl, recipe-writable, declared), tt)))))
 
 pub short-examples : Each Holds shortExamples
-unfolding cut keyNumber firstLine isName literal items listOf horizonOf headOf lineStep described
+unfolding cut keyNumber firstLine isName literal items listOf horizonOf readHead lineStep described
 short-examples = (refl, (refl, (refl, (refl, (refl, (refl, (refl, (refl, (refl, (refl, (refl, (refl, (refl, (refl, (refl, (refl, (refl, (refl, (refl, (refl, (refl, (refl, (refl, (refl, (refl, (refl, (refl, (refl, (refl, (refl, (refl, (refl, (refl, (refl, (refl, (refl, (refl, (refl, (refl, (refl, (refl, (refl, (refl, (refl, (refl, (refl, (refl, (refl, tt))))))))))))))))))))))))))))))))))))))))))))))))

@@ -9,7 +9,7 @@ use Rattle.spelling.specs.Spelling.{isName}
 use Rattle.text.specs.Names.{literal}
 use Rattle.text.specs.Lists.{items, listOf}
 use Rattle.line_values.specs.HorizonText.{horizonOf}
-use Rattle.description_reader.specs.LineSteps.{headOf, lineStep}
+use Rattle.description_reader.specs.LineSteps.{readHead, lineStep}
 use Rattle.description_reader.specs.Descriptions.{described}
 use Rattle.shown_names.specs.Shown.{shownFluent, shownAction}
 use Rattle.history_reader.specs.Histories.{readHistory}
@@ -39,5 +39,5 @@ recipe-writable = record {
 }
 
 pub text-examples : Each Holds textExamples
-unfolding cut keyNumber firstLine isName literal items listOf horizonOf headOf lineStep described readHistory shownFluent shownAction descriptionText valuesText
+unfolding cut keyNumber firstLine isName literal items listOf horizonOf readHead lineStep described readHistory shownFluent shownAction descriptionText valuesText
 text-examples = (refl, (refl, (refl, (refl, (refl, (refl, (refl, (refl, (refl, (refl, (refl, (refl, (refl, ((refl, recipe-writable, declared), ((refl, declared), tt)))))))))))))))

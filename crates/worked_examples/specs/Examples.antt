@@ -39,7 +39,7 @@ isPath path = true
 isPath (contradicted t l) = false
 isPath (uncaused t f) = false
 
-abbrev pub isHolds : Reply formulas.Finding → Bool
+abbrev pub isHolds : Reply formulas.FormulaFinding → Bool
 isHolds (answered formulas.holds) = true
 isHolds (answered (formulas.missing a)) = false
 isHolds (answered (formulas.clash a)) = false
@@ -61,11 +61,11 @@ pub data Example : Type 0 where
   -- of all sets over so many atoms, those that pass a table
   passingAre : ℕ → List ℕ → List (List ℕ) → Example
   -- values and a table by the completion formulas, without levels and with them
-  formulasSay : List ℕ → List ℕ → Reply formulas.Finding → Example
-  levelsSay : List ℕ → List ℕ → List ℕ → Reply formulas.Finding → Example
+  formulasSay : List ℕ → List ℕ → Reply formulas.FormulaFinding → Example
+  levelsSay : List ℕ → List ℕ → List ℕ → Reply formulas.FormulaFinding → Example
   -- what they said before 02, §5
-  formulasSaid : List ℕ → List ℕ → Reply formulas.Finding → Example
-  levelsSaid : List ℕ → List ℕ → List ℕ → Reply formulas.Finding → Example
+  formulasSaid : List ℕ → List ℕ → Reply formulas.FormulaFinding → Example
+  levelsSaid : List ℕ → List ℕ → List ℕ → Reply formulas.FormulaFinding → Example
   -- of all sets with one value for each of so many atoms, those that satisfy the completion formulas of a table
   holdingAre : ℕ → List ℕ → List (List ℕ) → Example
   -- a description, its laws, and the room in the table

@@ -21,7 +21,7 @@ abbrev pub ofValues : List ℕ → Reply Finding → Reply Finding → List Exam
 ofValues vs now former = historySays recipe recipeLaws vs now ∷ historySaid recipe recipeLaws vs former ∷ []
 
 -- the same by the completion formulas of its table, without levels and with them
-abbrev pub byFormulas : List ℕ → Reply formulas.Finding → Reply formulas.Finding → List Example
+abbrev pub byFormulas : List ℕ → Reply formulas.FormulaFinding → Reply formulas.FormulaFinding → List Example
 byFormulas vs now former =
     formulasSay vs recipeTable now
     ∷ formulasSaid vs recipeTable former

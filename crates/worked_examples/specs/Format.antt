@@ -12,7 +12,7 @@ use Rattle.action_language.specs.Laws.{lawOf}
 use Rattle.action_language.specs.Examples.{doorLaws}
 use Rattle.description_reader.specs.LineSteps.{Draft}
 use Rattle.description_reader.specs.Descriptions.{read}
-use Rattle.worked_examples.specs.Texts.{doorText, doorHistoryText, tinyText, tinyLines, withHorizon, withFluent, smallNames, endText, smallText}
+use Rattle.worked_examples.specs.Texts.{doorText, doorHistoryText, tinyText, tinyLines, fullWithHorizon, withFluent, smallNames, endText, smallText}
 use Rattle.worked_examples.specs.Texts.{withHead, withIf, withAfter, lawText, badLawText, copies, letters, fluents24, actions8, withState, withAct}
 use Rattle.worked_examples.specs.Examples.{Example, reads, readsHistory, showsFluent}
 
@@ -83,21 +83,21 @@ readerExamples =
     ∷ reads 64 (tinyLines ++ (97 ∷ 99 ∷ 116 ∷ 105 ∷ 111 ∷ 110 ∷ 61 ∷ 97 ∷ 10 ∷ [])) (refused 4 3)
     -- a horizon is 1 to 30 and has no leading zero
     -- horizon=30
-    ∷ reads 64 (withHorizon (51 ∷ 48 ∷ [])) (answered (read (tinyDraft 30 (97 ∷ [])) [] 3))
+    ∷ reads 64 (fullWithHorizon (51 ∷ 48 ∷ [])) (answered (read (tinyDraft 30 (97 ∷ [])) [] 3))
     -- horizon=12
-    ∷ reads 64 (withHorizon (49 ∷ 50 ∷ [])) (answered (read (tinyDraft 12 (97 ∷ [])) [] 3))
+    ∷ reads 64 (fullWithHorizon (49 ∷ 50 ∷ [])) (answered (read (tinyDraft 12 (97 ∷ [])) [] 3))
     -- horizon=0
-    ∷ reads 64 (withHorizon (48 ∷ [])) (refused 3 1)
+    ∷ reads 64 (fullWithHorizon (48 ∷ [])) (refused 3 1)
     -- horizon=31
-    ∷ reads 64 (withHorizon (51 ∷ 49 ∷ [])) (refused 3 1)
+    ∷ reads 64 (fullWithHorizon (51 ∷ 49 ∷ [])) (refused 3 1)
     -- horizon=01
-    ∷ reads 64 (withHorizon (48 ∷ 49 ∷ [])) (refused 3 1)
+    ∷ reads 64 (fullWithHorizon (48 ∷ 49 ∷ [])) (refused 3 1)
     -- horizon=100
-    ∷ reads 64 (withHorizon (49 ∷ 48 ∷ 48 ∷ [])) (refused 3 1)
+    ∷ reads 64 (fullWithHorizon (49 ∷ 48 ∷ 48 ∷ [])) (refused 3 1)
     -- horizon=1:
-    ∷ reads 64 (withHorizon (49 ∷ 58 ∷ [])) (refused 3 1)
+    ∷ reads 64 (fullWithHorizon (49 ∷ 58 ∷ [])) (refused 3 1)
     -- horizon=
-    ∷ reads 64 (withHorizon []) (refused 3 1)
+    ∷ reads 64 (fullWithHorizon []) (refused 3 1)
     -- a head is a fluent literal or false; c is an action, b not declared
     -- static=-a
     ∷ reads 64 (withHead (45 ∷ 97 ∷ [])) (answered (read (smallDraft (lawOf Static (Lit 1) [] [] ∷ [])) [] 6))
@@ -144,7 +144,7 @@ readerExamples =
     ∷ reads 64 (withAfter (99 ∷ 44 ∷ 99 ∷ 44 ∷ 99 ∷ 44 ∷ 99 ∷ 44 ∷ 99 ∷ 44 ∷ 99 ∷ 44 ∷ 98 ∷ [])) (refused 5 6)
     -- every number shows an empty part in a text that is refused
     -- horizon=0
-    ∷ showsFluent (withHorizon (48 ∷ [])) 0 []
+    ∷ showsFluent (fullWithHorizon (48 ∷ [])) 0 []
     ∷ []
 
 -- which lines may follow each other, and how many: refusals 2 and 5
@@ -263,7 +263,7 @@ historyExamples =
     ∷ readsHistory smallText (withState (97 ∷ [])) 4 (refused 10 4)
     -- the description's own refusal comes first, no law run counted
     -- horizon=0
-    ∷ readsHistory (withHorizon (48 ∷ [])) [] 9 (refused 3 1)
+    ∷ readsHistory (fullWithHorizon (48 ∷ [])) [] 9 (refused 3 1)
     ∷ []
 
 -- refusal 1: 65,535 bytes are taken, one more is not; 10 before 1

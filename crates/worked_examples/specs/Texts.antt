@@ -246,8 +246,8 @@ tinyLines =
     ++ (102 ∷ 108 ∷ 117 ∷ 101 ∷ 110 ∷ 116 ∷ 61 ∷ 97 ∷ 10 ∷ [])
 
 -- with a value as its horizon, and with one as its fluent's name
-abbrev pub withHorizon : List ℕ → List ℕ
-withHorizon value =
+abbrev pub fullWithHorizon : List ℕ → List ℕ
+fullWithHorizon value =
     -- horizon= with the value, then byte 10
     (104 ∷ 111 ∷ 114 ∷ 105 ∷ 122 ∷ 111 ∷ 110 ∷ 61 ∷ [])
     ++ value

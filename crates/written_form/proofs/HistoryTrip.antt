@@ -16,7 +16,7 @@ use Rattle.written_form.specs.Writable.{Writable, draftWritten, AreNames
 use Rattle.text.specs.Lines.{keys, noKey, stateKey, actKey, endKey, firstLine}
 use Rattle.text.specs.Lists.{Listed}
 use Rattle.description_reader.specs.LineSteps.{Draft}
-use Rattle.history_values.specs.Values.{marked, orFalse, filled}
+use Rattle.history_values.specs.Values.{withLiterals, orFalse, filled}
 use Rattle.history_reader.specs.Histories.{most, listed, listLine, stateLine, actLine, historyEnd, statesFrom, byNames, readHistory}
 use Rattle.written_form.specs.Writing.{Form, asDeclared, lineText, listText, descriptionText}
 use Rattle.written_form.specs.HistoryWriting.{codesFrom, stateText, actText, stepsText, valuesText, actionsOrFalse}
@@ -54,7 +54,7 @@ module _ (d : Draft) (m : ℕ) (are : AreNames (d .names)) (distinct : Distinct 
       (first-line key known (listText names plains cs) (list-lacks-newline names are cs) rest)
       ∙ rw (eq-eqb key key refl)
       (ap (λ (x : Listed). listed x l base old (λ vs′. go vs′ rest)) (list-read names are distinct low high most held cs inside few))
-      ∙ ap (λ (all : List ℕ). go (marked base (p ++ replicate (length all) 0) cs) rest) (sym (take-append-drop (high - low) vs))
+      ∙ ap (λ (all : List ℕ). go (withLiterals base (p ++ replicate (length all) 0) cs) rest) (sym (take-append-drop (high - low) vs))
       ∙ ap (λ vs′. go vs′ rest) (mark-values f base low p ws ys there part)
 
   end-read : (vs : List ℕ) (l : ℕ) → historyEnd (firstLine (lineText endKey [])) l vs ≡ answered vs

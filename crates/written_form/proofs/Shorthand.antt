@@ -25,7 +25,7 @@ use Rattle.letter_case.proofs.LetterCase.{letter-case}
 use Rattle.line_values.specs.HorizonText.{horizonOf}
 use Rattle.line_values.specs.ShortLaws.{defaultLaw, inertialLaw, causesLaw, nonexecutableLaw}
 use Rattle.description_reader.specs.LineSteps.{Due, fluentDue, actionDue, lawDue, ifDue, byDue, Draft, startsLaw, allowed, Step, refused, next, finish, horizonLine, nameLine}
-use Rattle.description_reader.specs.LineSteps.{headOf, begun, roomFor, whole, withIf, ifLine, afterLine, wholeByLiteral, wholeByList, endLine, lawIn, fluentList, anyList, lineStep}
+use Rattle.description_reader.specs.LineSteps.{readHead, begun, roomFor, whole, withIf, ifLine, afterLine, wholeByLiteral, wholeByList, endLine, lawIn, fluentList, anyList, lineStep}
 use Rattle.description_reader.specs.Descriptions.{described}
 use Rattle.written_form.specs.Writing.{Form, Spelling, descriptionText}
 use Rattle.written_form.specs.Respelling.{InCapitals}
@@ -82,7 +82,7 @@ module _ (lent : ℕ) (d : Draft) where
   -- default and inertial: by the literal that the bytes stand for, if any
   module _ (are : AreNames (d .names)) (value : List ℕ) (kind : Kind) where
     abbrev head : Option Head
-    head = headOf (d .names) (d .fluents) value
+    head = readHead (d .names) (d .fluents) value
 
     abbrev longLines : Step
     longLines = andThen (begun ifDue d kind head) (listLines lent kind value value)
@@ -98,7 +98,7 @@ module _ (lent : ℕ) (d : Draft) where
         ∙ ap (λ o. added [] o codes) (sym (letter-case .literals 0 n names names (names-refl names) value falseBytes alike) ∙ e)
 
     literal-long : (o : Option ℕ) → literal (d .names) 0 (d .fluents) value ≡ o → wholeByLiteral d (literalLaw kind) o ≡ longLines
-    unfolding headOf
+    unfolding readHead
     literal-long (some c) e =
         let item = literal-item (d .names) are (d .fluents) c value e in
         let ifs : fluentList d value ≡ codes (c ∷ []) =
@@ -186,7 +186,7 @@ module _ (d : Draft) (are : AreNames (d .names)) where
   step-named : (lent : ℕ) (due : Due) (key : ℕ) (value : List ℕ) → NamedStep (lineStep lent due d key value)
   unfolding lineStep
   step-named lent due key value =
-      let head = headOf (d .names) (d .fluents) value in
+      let head = readHead (d .names) (d .fluents) value in
       let code = literal (d .names) 0 (d .fluents) value in
       let room = roomFor lent d in
       whichever NamedStep (allowed due key)
@@ -205,19 +205,19 @@ module _ (d : Draft) (are : AreNames (d .names)) where
       tt
 
 pub shorthand : Shorthand
-unfolding lineStep headOf
+unfolding lineStep readHead
 shorthand = record {
   default-long = λ lent due d are value.
-      alike (roomFor lent d) (begun ifDue d Static (headOf (d .names) (d .fluents) value)) (listLines lent Static value value) (starts due defaultKey refl)
+      alike (roomFor lent d) (begun ifDue d Static (readHead (d .names) (d .fluents) value)) (listLines lent Static value value) (starts due defaultKey refl)
       (literal-long lent d are value Static (literal (d .names) 0 (d .fluents) value) refl);
   inertial-long = λ lent due d are value.
-      alike (roomFor lent d) (begun ifDue d Dynamic (headOf (d .names) (d .fluents) value)) (listLines lent Dynamic value value) (dynamic-may due inertialKey refl)
+      alike (roomFor lent d) (begun ifDue d Dynamic (readHead (d .names) (d .fluents) value)) (listLines lent Dynamic value value) (dynamic-may due inertialKey refl)
       (literal-long lent d are value Dynamic (literal (d .names) 0 (d .fluents) value) refl);
   causes-long = λ lent due d head afters.
-      tested-then (allowed due causesKey) (roomFor lent d) (begun byDue d Dynamic (headOf (d .names) (d .fluents) head))
+      tested-then (allowed due causesKey) (roomFor lent d) (begun byDue d Dynamic (readHead (d .names) (d .fluents) head))
       (λ due′ d′. lineStep lent due′ d′ byKey afters)
-      ∙ alike (roomFor lent d) (begun ifDue d Dynamic (headOf (d .names) (d .fluents) head)) (listLines lent Dynamic [] afters) (dynamic-may due causesKey refl)
-      (head-long lent d afters (headOf (d .names) (d .fluents) head));
+      ∙ alike (roomFor lent d) (begun ifDue d Dynamic (readHead (d .names) (d .fluents) head)) (listLines lent Dynamic [] afters) (dynamic-may due causesKey refl)
+      (head-long lent d afters (readHead (d .names) (d .fluents) head));
   nonexecutable-long = λ lent due d afters.
       alike (roomFor lent d) (begun ifDue d Dynamic (some False)) (listLines lent Dynamic [] afters) (dynamic-may due nonexecutableKey refl) (list-long lent d afters False);
   none-named = tt;

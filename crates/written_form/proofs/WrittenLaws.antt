@@ -19,7 +19,7 @@ use Rattle.text.specs.Lines.{staticKey, dynamicKey, ifKey, afterKey, defaultKey
 use Rattle.text.specs.Names.{literal}
 use Rattle.text.specs.Lists.{codes}
 use Rattle.line_values.specs.ShortLaws.{defaultLaw, inertialLaw}
-use Rattle.description_reader.specs.LineSteps.{Due, lawDue, ifDue, afterDue, byDue, Draft, startsLaw, allowed, next, headOf, whole, ifLine, anyList, lineStep}
+use Rattle.description_reader.specs.LineSteps.{Due, lawDue, ifDue, afterDue, byDue, Draft, startsLaw, allowed, next, readHead, whole, ifLine, anyList, lineStep}
 use Rattle.written_form.specs.Writing.{Form, inFull, asDefault, asInertial, asCauses, asNonexecutable, hasForm, writtenAs}
 use Rattle.written_form.specs.Writing.{asDeclared, lineText, listText, headText, fullText, formText, lawsText}
 use Rattle.written_form.specs.Writable.{formLines, lawLines, lawsLines, AreNames, Distinct, draft}
@@ -51,7 +51,7 @@ module _ (lent T n : ℕ) (names : List (List ℕ)) (are : AreNames names) (dist
     head-passes : (key : ℕ) {later : Due} → key < noKey → lineStep lent due at key head ≡ next later at → Passes lent 1 (lineText key head) due at later at
     head-passes key known step = line-passes due at key head known (head-lacks-newline names are (l .head)) step
 
-    is-head : headOf names n head ≡ some (l .head)
+    is-head : readHead names n head ≡ some (l .head)
     is-head = head-read names are distinct n (l .head) (b .head) held
 
     -- the if-list, and a list of literals of either sort

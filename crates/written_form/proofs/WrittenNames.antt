@@ -22,7 +22,7 @@ use Rattle.written_form.specs.Writable.{AreNames, Distinct}
 use Rattle.spelling.specs.Spelling.{sameName, falseBytes, isName}
 use Rattle.spelling.proofs.Comparing.{same-refl}
 use Rattle.text.specs.Names.{declaredAt, inSort, literal}
-use Rattle.description_reader.specs.LineSteps.{litHead, headOf}
+use Rattle.description_reader.specs.LineSteps.{litHead, readHead}
 use Rattle.written_form.specs.Writing.{literalText, headText}
 use Rattle.spelling.proofs.Naming.{named}
 use Rattle.written_form.proofs.WrittenLines.{Lacks}
@@ -158,8 +158,8 @@ module _ (names : List (List ℕ)) (are : AreNames names) where
             ∙ sorted low high 1 i from (omega arith) held
             ∙ ap {B = Option ℕ} some (omega (arith, eqb-false (c % 2) 0 e))
 
-    pub head-read : (fluents : ℕ) (h : Head) → HeadBelow (2 * fluents) h → fluents ≤ length names → headOf names fluents (headText names plains h) ≡ some h
-    unfolding headOf
+    pub head-read : (fluents : ℕ) (h : Head) → HeadBelow (2 * fluents) h → fluents ≤ length names → readHead names fluents (headText names plains h) ≡ some h
+    unfolding readHead
     head-read fluents (Lit c) below held =
         rw (literal-not-false c (omega arith)) (ap litHead (literal-read 0 fluents c (omega arith) below held))
     head-read fluents False below held = refl

@@ -26,7 +26,7 @@ use Rattle.written_form.specs.Writable.{draft}
 use Rattle.line_values.specs.HorizonText.{horizonOf}
 use Rattle.line_values.specs.ShortLaws.{defaultLaw, inertialLaw, causesLaw, nonexecutableLaw}
 use Rattle.description_reader.specs.LineSteps.{Due, horizonDue, firstFluentDue, fluentDue, actionDue, lawDue, ifDue, afterDue, byDue, Draft, startsLaw, allowed, next, finish}
-use Rattle.description_reader.specs.LineSteps.{horizonLine, headOf, begun, lawLine, whole, ifLine, afterLine, wholeByLiteral, wholeByList, literalLine, fluentList, anyList, lineStep}
+use Rattle.description_reader.specs.LineSteps.{horizonLine, readHead, begun, lawLine, whole, ifLine, afterLine, wholeByLiteral, wholeByList, literalLine, fluentList, anyList, lineStep}
 use Rattle.action_language.specs.Laws.{lawOf}
 use Rattle.description_reader.specs.Descriptions.{read, afterStep, afterFirst, linesFrom}
 use Rattle.written_form.specs.Writing.{lineText, horizonText}
@@ -71,24 +71,24 @@ module _ (lent : ℕ) (due : Due) (d : Draft) where
   action-step x may few name new = rw (may, lt-ltb (length (d .names)) (d .fluents + 8) few, name, new)
 
   -- a law begins: the list that follows its head is due
-  begins : (later : Law → Due) (kind : Kind) (x : List ℕ) (h : Head) → length (d .laws) < min 64 lent → headOf (d .names) (d .fluents) x ≡ some h
+  begins : (later : Law → Due) (kind : Kind) (x : List ℕ) (h : Head) → length (d .laws) < min 64 lent → readHead (d .names) (d .fluents) x ≡ some h
       → lawLine lent later d kind x ≡ next (later (lawOf kind h [] [])) d
   begins later kind x h few head = rw (lt-ltb (length (d .laws)) (min 64 lent) few) (ap (begun later d kind) head)
 
   pub static-step : (x : List ℕ) (h : Head) → allowed due staticKey ≡ true → length (d .laws) < min 64 lent
-      → headOf (d .names) (d .fluents) x ≡ some h
+      → readHead (d .names) (d .fluents) x ≡ some h
       → lineStep lent due d staticKey x ≡ next (ifDue (lawOf Static h [] [])) d
   unfolding lineStep
   static-step x h may few head = rw may (begins ifDue Static x h few head)
 
   pub dynamic-step : (x : List ℕ) (h : Head) → allowed due dynamicKey ≡ true → length (d .laws) < min 64 lent
-      → headOf (d .names) (d .fluents) x ≡ some h
+      → readHead (d .names) (d .fluents) x ≡ some h
       → lineStep lent due d dynamicKey x ≡ next (ifDue (lawOf Dynamic h [] [])) d
   unfolding lineStep
   dynamic-step x h may few head = rw may (begins ifDue Dynamic x h few head)
 
   pub causes-step : (x : List ℕ) (h : Head) → allowed due causesKey ≡ true → length (d .laws) < min 64 lent
-      → headOf (d .names) (d .fluents) x ≡ some h
+      → readHead (d .names) (d .fluents) x ≡ some h
       → lineStep lent due d causesKey x ≡ next (byDue (lawOf Dynamic h [] [])) d
   unfolding lineStep
   causes-step x h may few head = rw may (begins byDue Dynamic x h few head)

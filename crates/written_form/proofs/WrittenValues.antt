@@ -11,7 +11,7 @@ use lib.ListN.{length, take, drop, replicate, length-append, length-take, take-a
 use lib.Seq.{append-snoc, getD-at, set-at, getD-take, getD-drop}
 use Rattle.basics.specs.Search.{Each}
 use Rattle.basics.proofs.Tests.{each-at, each-map, each-append}
-use Rattle.history_values.specs.Values.{withTrue, withFalse, marked, orFalse, filled, ActionsValued}
+use Rattle.history_values.specs.Values.{withTrue, withFalse, withLiterals, orFalse, filled, ActionsValued}
 use Rattle.history_values.proofs.Filling.{filled-middle}
 use Rattle.written_form.specs.HistoryWriting.{listedAt, codesFrom, actionsOrFalse}
 use Rattle.written_form.proofs.WrittenLists.{CodesIn}
@@ -37,44 +37,44 @@ abbrev pub markedFrom : (ℕ → Bool) → ℕ → List ℕ → List ℕ
 markedFrom listed i [] = []
 markedFrom listed i (v ∷ vs) = markedAt (listed i) v ∷ markedFrom listed (suc i) vs
 
-marked-append : (base : ℕ) (vs xs ys : List ℕ) → marked base vs (xs ++ ys) ≡ marked base (marked base vs xs) ys
+marked-append : (base : ℕ) (vs xs ys : List ℕ) → withLiterals base vs (xs ++ ys) ≡ withLiterals base (withLiterals base vs xs) ys
 marked-append base vs [] ys = refl
 marked-append base vs (x ∷ xs) ys = marked-append base _ xs ys
 
 -- one code of the place behind p
 module _ (base i : ℕ) (p : List ℕ) (there : length p ≡ base + i) (v : ℕ) (q : List ℕ) where
-  mark-true : marked base (p ++ v ∷ q) ((2 * i) ∷ []) ≡ p ++ withTrue v ∷ q
+  mark-true : withLiterals base (p ++ v ∷ q) ((2 * i) ∷ []) ≡ p ++ withTrue v ∷ q
   mark-true =
       let half : base + (2 * i) / 2 ≡ base + i = omega arith in
       let even : (2 * i) % 2 ≡ 0 = omega arith in
       rw (half, even, getD-at p v q 0 (base + i) there) (set-at p v q (withTrue v) (base + i) there)
 
-  mark-false : marked base (p ++ v ∷ q) ((2 * i + 1) ∷ []) ≡ p ++ withFalse v ∷ q
+  mark-false : withLiterals base (p ++ v ∷ q) ((2 * i + 1) ∷ []) ≡ p ++ withFalse v ∷ q
   mark-false =
       let half : base + (2 * i + 1) / 2 ≡ base + i = omega arith in
       let odd : (2 * i + 1) % 2 ≡ 1 = omega arith in
       rw (half, odd, getD-at p v q 0 (base + i) there) (set-at p v q (withFalse v) (base + i) there)
 
 mark-value : (base i : ℕ) (p q : List ℕ) → length p ≡ base + i → (b : Bool) (v : ℕ) → v ≤ 3
-    → marked base (p ++ 0 ∷ q) (listedAt b i v) ≡ p ++ markedAt b v ∷ q
+    → withLiterals base (p ++ 0 ∷ q) (listedAt b i v) ≡ p ++ markedAt b v ∷ q
 mark-value base i p q there =
-    by-listed (λ b v. marked base (p ++ 0 ∷ q) (listedAt b i v) ≡ p ++ markedAt b v ∷ q) (λ b. refl) (λ b. mark-true base i p there 0 q)
+    by-listed (λ b v. withLiterals base (p ++ 0 ∷ q) (listedAt b i v) ≡ p ++ markedAt b v ∷ q) (λ b. refl) (λ b. mark-true base i p there 0 q)
     (mark-false base i p there 0 q) refl
     (
     λ b.
     marked-append base (p ++ 0 ∷ q) ((2 * i) ∷ []) ((2 * i + 1) ∷ [])
-    ∙ ap (λ vs. marked base vs ((2 * i + 1) ∷ [])) (mark-true base i p there 0 q)
+    ∙ ap (λ vs. withLiterals base vs ((2 * i + 1) ∷ [])) (mark-true base i p there 0 q)
     ∙ mark-false base i p there 1 q
     )
 
 pub mark-values : (f : ℕ → Bool) (base i : ℕ) (p ws ys : List ℕ) → length p ≡ base + i → Values ws
-    → marked base (p ++ replicate (length (ws ++ ys)) 0) (codesFrom f i ws) ≡ p ++ (markedFrom f i ws ++ replicate (length ys) 0)
+    → withLiterals base (p ++ replicate (length (ws ++ ys)) 0) (codesFrom f i ws) ≡ p ++ (markedFrom f i ws ++ replicate (length ys) 0)
 mark-values f base i p [] ys there h = refl
 mark-values f base i p (w ∷ ws) ys there h =
     let zeros : List ℕ = replicate (length (ws ++ ys)) 0 in
     let u = markedAt (f i) w in
     marked-append base (p ++ 0 ∷ zeros) (listedAt (f i) i w) (codesFrom f (suc i) ws)
-    ∙ ap (λ vs. marked base vs (codesFrom f (suc i) ws)) (mark-value base i p zeros there (f i) w (h .0) ∙ sym (append-snoc p u zeros))
+    ∙ ap (λ vs. withLiterals base vs (codesFrom f (suc i) ws)) (mark-value base i p zeros there (f i) w (h .0) ∙ sym (append-snoc p u zeros))
     ∙ mark-values f base (suc i) (p ++ (u ∷ [])) ws ys (omega (arith, length-append p (u ∷ []))) (h .1)
     ∙ append-snoc p u (markedFrom f (suc i) ws ++ replicate (length ys) 0)
 

@@ -9,13 +9,13 @@ use native.Mathlib.Omega.{arith}
 use Rattle.basics.specs.Search.{first, range}
 use Rattle.basics.proofs.Loops.{range-stop, range-go, range-done}
 use Rattle.causal_steps.specs.Applying.{read, literalIn}
-use Rattle.causal_steps.specs.Marked.{marked}
+use Rattle.causal_steps.specs.Marked.{markedCaused}
 use Rattle.causal_steps.proofs.first_uncaused.Statement.{statement}
 use Rattle.causal_steps.proofs.first_uncaused.Tie as tie
 
 -- the test of one fluent
 abbrev unmarked : List Bool → List ℕ → ℕ → Bool
-unmarked marks state f = not (marked marks (literalIn (read state) f))
+unmarked marks state f = not (markedCaused marks (literalIn (read state) f))
 
 abbrev Inv-loop : tie.InvT-loop
 Inv-loop marks n state f₀ f = first (unmarked marks state) f (range f (n - f)) ≡ first (unmarked marks state) 0 (range 0 n)
@@ -29,7 +29,7 @@ tested : (c : tie.After-has-literal Inv-loop μ-loop) → let h = c .before .bef
 tested c =
     let h = c .before .before .before in
     let a = h .before .before .before .args in
-    ap not (sym (c .has-literal .ensures ∙ ap (λ v. marked (a .marks .now) (cond v (2 * h .loop .f) (2 * h .loop .f + 1))) (c .before .is-true .ensures)))
+    ap not (sym (c .has-literal .ensures ∙ ap (λ v. markedCaused (a .marks .now) (cond v (2 * h .loop .f) (2 * h .loop .f + 1))) (c .before .is-true .ensures)))
 
 loop-holds : tie.Need-loop-holds Inv-loop μ-loop
 loop-holds c =

@@ -39,7 +39,7 @@ returns-2 c =
     let a = r .before .before .before .before .args in
     let e = r .read-alone .result in
     let h = ap (λ x. byNames x (a .text .now) (length (a .values .now))) (sym (r .read-alone .ensures .0) ∙ ends-read (a .description .now) e (c .before .before .before .if1 .left))
-    ∙ history-room (a .description .now) (e .state .reading) (drop (e .at) (a .description .now)) (e .line) (a .text .now) (length (a .values .now)) (λ q. c .if2 .taken (q ∙ sym (c .before .atom-count .ensures .0))) in
+    ∙ history-room (a .description .now) (e .state .draft) (drop (e .at) (a .description .now)) (e .line) (a .text .now) (length (a .values .now)) (λ q. c .if2 .taken (q ∙ sym (c .before .atom-count .ensures .0))) in
     (sym (ap historyReplied h), (sym (ap (λ x. valuesLeft x (a .values .now)) h), tt))
 
 returns-3 : tie.Need-returns-3
@@ -49,7 +49,7 @@ returns-3 c =
     let a = r .before .before .before .before .args in
     let e = r .read-alone .result in
     let h = ap (λ x. byNames x (a .text .now) (length (a .values .now))) (sym (r .read-alone .ensures .0) ∙ ends-read (a .description .now) e (c .before .before .before .before .if1 .left))
-    ∙ history-long (a .description .now) (e .state .reading) (drop (e .at) (a .description .now)) (e .line) (a .text .now) (length (a .values .now)) (c .before .if2 .left ∙ c .before .before .atom-count .ensures .0) (c .if3 .taken) in
+    ∙ history-long (a .description .now) (e .state .draft) (drop (e .at) (a .description .now)) (e .line) (a .text .now) (length (a .values .now)) (c .before .if2 .left ∙ c .before .before .atom-count .ensures .0) (c .if3 .taken) in
     (sym (ap historyReplied h), (sym (ap (λ x. valuesLeft x (a .values .now)) h), tt))
 
 read-requires : tie.Need-read-requires
@@ -66,7 +66,7 @@ history m =
     let e = r .read-alone .result in
     let room : length (a .values .now) ≤ 1024 = omega (arith, m .before .before .if2 .left, k .atom-count .ensures .1) in
     ap (λ x. byNames x (a .text .now) (length (a .values .now))) (sym (r .read-alone .ensures .0) ∙ ends-read (a .description .now) e (k .before .before .if1 .left))
-    ∙ history-lines (a .description .now) (e .state .reading) (drop (e .at) (a .description .now)) (e .line) (a .text .now) (length (a .values .now)) (m .before .before .if2 .left ∙ k .atom-count .ensures .0) (m .before .if3 .left)
+    ∙ history-lines (a .description .now) (e .state .draft) (drop (e .at) (a .description .now)) (e .line) (a .text .now) (length (a .values .now)) (m .before .before .if2 .left ∙ k .atom-count .ensures .0) (m .before .if3 .left)
     ∙ sym (m .read .ensures (length (a .values .now)) room)
 
 copy-out-requires : tie.Need-copy-out-requires
@@ -81,9 +81,9 @@ acted m vs is whole =
     let r = k .before .before .before .before .before in
     let a = r .before .before .before .before .args in
     let e = r .read-alone .result in
-    let d = draftOf (a .description .now) (e .state .reading) in
+    let d = draftOf (a .description .now) (e .state .draft) in
     let room : length (a .values .now) ≤ 1024 = omega (arith, m .before .before .if2 .left, k .atom-count .ensures .1) in
-    let names : length (d .names) ≡ e .state .reading .names .count = spelled-length (a .description .now) (e .state .reading .names) in
+    let names : length (d .names) ≡ e .state .draft .names .count = spelled-length (a .description .now) (e .state .draft .names) in
     let size : length (a .values .now) ≡ atoms d = rw names (m .before .before .if2 .left ∙ k .atom-count .ensures .0) in
     let answer = record-values (length (a .values .now)) (m .read .result) whole in
     actions-filled (a .description .now) (a .text .now) d (drop (e .at) (a .description .now)) (e .line)

@@ -15,10 +15,10 @@ new-bound c =
     omega (arith, c .by-kind .ensures, by-kind-bound (a .t) (a .t + 1) 31 (a .law .kind) (omega arith) (omega arith))
 
 returns : tie.Need-returns
-returns c = rule-beyond (c .before .args .n) (c .before .args .t) _ (inl (c .if1 .taken))
+returns c = rule-beyond (c .before .args .N) (c .before .args .t) _ (inl (c .if1 .taken))
 
 returns-2 : tie.Need-returns-2
-returns-2 c = rule-beyond (c .before .before .args .n) (c .before .before .args .t) _ (inr (c .if2 .taken))
+returns-2 c = rule-beyond (c .before .before .args .N) (c .before .before .args .t) _ (inr (c .if2 .taken))
 
 add-by-kind : tie.Need-add-by-kind
 add-by-kind c = omega arith
@@ -39,7 +39,7 @@ returns-3 : tie.Need-returns-3
 returns-3 c =
     let b = c .before .before .before .before in
     let a = b .before .before .before .args in
-    rule-within (a .n) (a .t) (omega arith) (omega arith) (head-at (a .n) (a .law) (a .t) (c .before .if3 .taken) (b .by-kind .ensures) (c .head-word .ensures))
+    rule-within (a .N) (a .t) (omega arith) (omega arith) (head-at (a .N) (a .law) (a .t) (c .before .if3 .taken) (b .by-kind .ensures) (c .head-word .ensures))
 
 cast-result : tie.Need-cast-result
 cast-result c = omega arith
@@ -48,7 +48,7 @@ returns-4 : tie.Need-returns-4
 returns-4 c =
     let n = c .before .before .before in
     let a = n .before .before .before .before .args in
-    rule-within (a .n) (a .t) (omega arith) (omega arith) (negated-count-at (a .n) (a .law) (a .t) (c .if4 .taken) (n .negated-count .ensures .0))
+    rule-within (a .N) (a .t) (omega arith) (omega arith) (negated-count-at (a .N) (a .law) (a .t) (c .if4 .taken) (n .negated-count .ensures .0))
 
 cast-result-2 : tie.Need-cast-result-2
 cast-result-2 c = omega arith
@@ -57,7 +57,7 @@ returns-5 : tie.Need-returns-5
 returns-5 c =
     let p = c .before .before .before in
     let a = p .before .before .before .before .before .args in
-    rule-within (a .n) (a .t) (omega arith) (omega arith) (plain-count-at (a .n) (a .law) (a .t) (c .if5 .taken) (p .plain-count .ensures .0))
+    rule-within (a .N) (a .t) (omega arith) (omega arith) (plain-count-at (a .N) (a .law) (a .t) (c .if5 .taken) (p .plain-count .ensures .0))
 
 sub-part : tie.Need-sub-part
 sub-part c = omega arith
@@ -73,8 +73,8 @@ returns-6 c =
     let n = c .before .before .before .before .before .before .before in
     let b = n .before in
     let a = b .before .before .before .args in
-    rule-within (a .n) (a .t) (omega arith) (omega arith)
-    (negated-at (a .n) (a .law) (a .t) (omega arith) (omega arith) (b .by-kind .ensures) (c .before .shift .ensures .0) (c .negated-word .ensures))
+    rule-within (a .N) (a .t) (omega arith) (omega arith)
+    (negated-at (a .N) (a .law) (a .t) (omega arith) (omega arith) (b .by-kind .ensures) (c .before .shift .ensures .0) (c .negated-word .ensures))
 
 shift-requires-2 : tie.Need-shift-requires-2
 shift-requires-2 c κs = omega (arith, new-bound (c .before .before .before .before .before .before .before))
@@ -86,13 +86,13 @@ returns-7 : tie.Need-returns-7
 returns-7 c =
     let n = c .before .before .before .before .before .before .before .before in
     let a = n .before .before .before .before .args in
-    rule-within (a .n) (a .t) (omega arith) (omega arith)
-    (plain-at (a .n) (a .law) (a .t) (omega arith) (n .negated-count .ensures .0) (omega arith) (omega arith) (c .before .shift2 .ensures .0) (c .plain-word .ensures))
+    rule-within (a .N) (a .t) (omega arith) (omega arith)
+    (plain-at (a .N) (a .law) (a .t) (omega arith) (n .negated-count .ensures .0) (omega arith) (omega arith) (c .before .shift2 .ensures .0) (c .plain-word .ensures))
 
 returns-8 : tie.Need-returns-8
 returns-8 c =
     let a = c .before .before .before .before .before .before .before .before .before .before .args in
-    rule-within (a .n) (a .t) (omega arith) (omega arith) (none-at (a .n) (a .law) (a .t) (a .i) (omega arith))
+    rule-within (a .N) (a .t) (omega arith) (omega arith) (none-at (a .N) (a .law) (a .t) (a .i) (omega arith))
 
 pub rule-word-spec : {M : Type 1} → statement M
 rule-word-spec =

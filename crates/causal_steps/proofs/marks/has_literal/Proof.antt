@@ -6,12 +6,12 @@ use mathlib.Core.List.{List}
 use Prim.Native.Nat.{ℕ, _+_, _*_, _≤_}
 use native.Mathlib.Omega.{arith}
 use lib.ListN.{length, List·getD-eq-default}
-use Rattle.causal_steps.specs.Marked.{marked}
+use Rattle.causal_steps.specs.Marked.{markedCaused}
 use borrow.Author.Needs.{needs}
 use Rattle.causal_steps.proofs.marks.has_literal.Statement.{statement}
 use Rattle.causal_steps.proofs.marks.has_literal.Tie as tie
 
-past : (marks : List Bool) (f : ℕ) (v : Bool) → length marks ≤ f → false ≡ marked marks (cond v (2 * f) (2 * f + 1))
+past : (marks : List Bool) (f : ℕ) (v : Bool) → length marks ≤ f → false ≡ markedCaused marks (cond v (2 * f) (2 * f + 1))
 past marks f true h = sym (List·getD-eq-default marks false (omega arith))
 past marks f false h = sym (List·getD-eq-default marks false (omega arith))
 

@@ -5,7 +5,7 @@ use mathlib.Core.Bool.{true, _||_}
 use native.Mathlib.Omega.{arith}
 use lib.Dec.{eqb}
 use lib.ListN.{length-set}
-use Rattle.causal_steps.specs.Marked.{marked}
+use Rattle.causal_steps.specs.Marked.{markedCaused}
 use Rattle.causal_steps.proofs.Trying.{causes-nothing, stored}
 use borrow.Author.Needs.{needs}
 use Rattle.causal_steps.proofs.marks.mark.Statement.{statement}
@@ -30,7 +30,7 @@ returns c =
     let code = c .wide .result in (
       length-set marks code true,
       λ k. rw (c .before .before .effect .given .1)
-          (stored marks code (omega (arith, c .wide .ensures .1, a .pre)) k ∙ ap (λ d. eqb d k || marked marks k) (c .wide .ensures .0)),
+          (stored marks code (omega (arith, c .wide .ensures .1, a .pre)) k ∙ ap (λ d. eqb d k || markedCaused marks k) (c .wide .ensures .0)),
     )
 
 returns-2 : tie.Need-returns-2

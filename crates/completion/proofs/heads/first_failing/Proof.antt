@@ -9,15 +9,15 @@ use Rattle.basics.specs.Search.{first, range}
 use Rattle.basics.proofs.Loops.{range-stop, range-go, range-done}
 use Rattle.logic_programs.specs.Literals.{setOf}
 use Rattle.completion_theory.specs.Findings.{differ}
-use Rattle.completion.specs.Internal.{marked}
+use Rattle.completion.specs.Internal.{markedHead}
 use Rattle.completion.proofs.heads.first_failing.Statement.{statement}
 use Rattle.completion.proofs.heads.first_failing.Tie as tie
 
 abbrev Inv-loop : tie.InvT-loop
 Inv-loop values held codes code₀ code =
     (codes ≡ 2 * length values) × (code ≤ codes) ×
-    (first (λ c. differ (setOf values c) (marked held c)) code (range code (codes - code))
-    ≡ first (λ c. differ (setOf values c) (marked held c)) 0 (range 0 (2 * length values)))
+    (first (λ c. differ (setOf values c) (markedHead held c)) code (range code (codes - code))
+    ≡ first (λ c. differ (setOf values c) (markedHead held c)) 0 (range 0 (2 * length values)))
 
 abbrev μ-loop : tie.MeasureT-loop
 μ-loop values held codes code₀ code = codes - code

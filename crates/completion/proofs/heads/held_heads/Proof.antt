@@ -12,7 +12,7 @@ use Rattle.logic_programs.specs.Words.{rulesOf}
 use Rattle.rule_tables.specs.Internal.{Sound}
 use Rattle.rule_tables.proofs.Fronts.{left-behind, shorter}
 use Rattle.rule_tables.proofs.Walking.{sound-size, sound-rest, rules-end}
-use Rattle.completion.specs.Internal.{marked, heldAt}
+use Rattle.completion.specs.Internal.{markedHead, heldAt}
 use Rattle.completion.proofs.Fronts.{mark-below, held-turn}
 use Rattle.completion.proofs.heads.held_heads.Statement.{statement}
 use Rattle.completion.proofs.heads.held_heads.Tie as tie
@@ -20,7 +20,7 @@ use Rattle.completion.proofs.heads.held_heads.Tie as tie
 abbrev Inv-loop : tie.InvT-loop
 Inv-loop table values held₀ rest₀ held rest =
     (length rest ≤ length table) × Sound rest × (length held ≡ 2049) ×
-    ((k : ℕ) → (marked held k || heldAt (rulesOf rest) (setOf values) k) ≡ heldAt (rulesOf table) (setOf values) k)
+    ((k : ℕ) → (markedHead held k || heldAt (rulesOf rest) (setOf values) k) ≡ heldAt (rulesOf table) (setOf values) k)
 
 abbrev μ-loop : tie.MeasureT-loop
 μ-loop table values held₀ rest₀ held rest = length rest

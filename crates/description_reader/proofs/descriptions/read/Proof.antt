@@ -14,7 +14,7 @@ use Rattle.description_reader.proofs.descriptions.read.Tie as tie
 begun-requires : tie.Need-begun-requires
 begun-requires c κs = search needs
 
-starts : (c : tie.After-begun) → Sound (dueAt (c .begun .result)) (c .begun .result .reading)
+starts : (c : tie.After-begun) → Sound (dueAt (c .begun .result)) (c .begun .result .draft)
 starts c = let a = c .before .before .before in rw (c .begun .ensures) (blank-sound (a .args .laws) (a .good .1 .0 .1 .0 .1))
 
 refused-requires : tie.Need-refused-requires

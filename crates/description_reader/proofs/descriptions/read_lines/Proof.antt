@@ -8,7 +8,7 @@ use Prim.Native.Nat.{ℕ, _+_, _-_, _≤_, _<_}
 use lib.ListN.{length, take, drop, length-take, length-drop}
 use Rattle.action_language.specs.Laws.{noLaw}
 use Rattle.text.specs.declared.lines.LineAt.{LineAt}
-use Rattle.description_reader.specs.declared.states.State.{State}
+use Rattle.description_reader.specs.declared.states.ReaderState.{ReaderState}
 use Rattle.text.specs.Lists as lists
 use Rattle.text.specs.Lists.{listFrom}
 use Rattle.description_reader.specs.Descriptions.{described}
@@ -30,7 +30,7 @@ abbrev μ-loop : tie.MeasureT-loop
 
 abbrev Inv-lines : tie.InvT-lines
 Inv-lines text lent state₀ at₀ line₀ state at line =
-    (at ≤ length text) × (line ≤ at + 1) × Sound (dueAt state) (state .reading) × Follows (state₀ .reading .run .laws) (state .reading .run) × (leftAt text lent state at line ≡ leftAt text lent state₀ 0 1)
+    (at ≤ length text) × (line ≤ at + 1) × Sound (dueAt state) (state .draft) × Follows (state₀ .draft .run .laws) (state .draft .run) × (leftAt text lent state at line ≡ leftAt text lent state₀ 0 1)
 
 abbrev μ-lines : tie.MeasureT-lines
 μ-lines text lent state₀ at₀ line₀ state at line = length text - at
@@ -83,7 +83,7 @@ text-at h = h .before .before .before .before .before .before .before .before .b
 abbrev lent-at : tie.At-loop Inv-loop μ-loop Inv-lines μ-lines → ℕ
 lent-at h = h .before .before .before .before .before .before .before .before .before .before .before .before .args .lent
 
-abbrev state-at : tie.At-loop Inv-loop μ-loop Inv-lines μ-lines → State
+abbrev state-at : tie.At-loop Inv-loop μ-loop Inv-lines μ-lines → ReaderState
 state-at h = h .before .before .before .before .before .before .before .before .before .lines .state
 
 abbrev line-at : tie.At-loop Inv-loop μ-loop Inv-lines μ-lines → LineAt
@@ -92,12 +92,12 @@ line-at h = h .before .before .before .before .before .before .before .before .l
 abbrev list-at : tie.At-loop Inv-loop μ-loop Inv-lines μ-lines → List ℕ
 list-at h = take (line-at h .to - line-at h .from) (drop (line-at h .from) (text-at h))
 
-sound : (h : tie.At-loop Inv-loop μ-loop Inv-lines μ-lines) → Sound (dueAt (state-at h)) (state-at h .reading)
+sound : (h : tie.At-loop Inv-loop μ-loop Inv-lines μ-lines) → Sound (dueAt (state-at h)) (state-at h .draft)
 sound h = h .before .before .before .before .before .before .before .before .before .lines .inv .2
 
 -- what the items come to is the line's list
 here : (h : tie.At-loop Inv-loop μ-loop Inv-lines μ-lines)
-    → listFrom (spelled (text-at h) (state-at h .reading .names)) 0 (h .before .before .before .sort-end .result) 6 [] (itemsAt (list-at h) (h .before .first-item .result))
+    → listFrom (spelled (text-at h) (state-at h .draft .names)) 0 (h .before .before .before .sort-end .result) 6 [] (itemsAt (list-at h) (h .before .first-item .result))
     ≡ listHere (text-at h) (lent-at h) (state-at h) (line-at h)
 here h = list-here (text-at h) (lent-at h) (state-at h) (line-at h) _ _ (sound h) (h .before .before .before .sort-end .ensures) (h .before .first-item .ensures (state-at h .law))
 
@@ -150,12 +150,12 @@ add-line c =
 -- the line's step
 made : (c : tie.After-line-step Inv-loop μ-loop Inv-lines μ-lines) → let h = c .before .before in
     stepOf (text-at h) (c .line-step .result)
-    ≡ stepWith (lent-at h) (dueAt (state-at h)) (draftOf (text-at h) (state-at h .reading)) (line-at h .key) (list-at h) (lists.codes (take (h .loop .gathered .count) (h .loop .gathered .codes)))
+    ≡ stepWith (lent-at h) (dueAt (state-at h)) (draftOf (text-at h) (state-at h .draft)) (line-at h .key) (list-at h) (lists.codes (take (h .loop .gathered .count) (h .loop .gathered .codes)))
 made c =
     let h = c .before .before in
     let cs = lists.codes (take (h .loop .gathered .count) (h .loop .gathered .codes)) in
-    _∙_ {b = stepWith (lent-at h) (dueAt (h .loop .state)) (draftOf (text-at h) (h .loop .state .reading)) (line-at h .key) (list-at h) cs} (c .line-step .ensures .0)
-    (ap (λ s. stepWith (lent-at h) (dueAt s) (draftOf (text-at h) (s .reading)) (line-at h .key) (list-at h) cs) (h .loop .inv .0))
+    _∙_ {b = stepWith (lent-at h) (dueAt (h .loop .state)) (draftOf (text-at h) (h .loop .state .draft)) (line-at h .key) (list-at h) cs} (c .line-step .ensures .0)
+    (ap (λ s. stepWith (lent-at h) (dueAt s) (draftOf (text-at h) (s .draft)) (line-at h .key) (list-at h) cs) (h .loop .inv .0))
 
 read-list : (c : tie.After-line-step Inv-loop μ-loop Inv-lines μ-lines) → let h = c .before .before in
     lists.codes (take (h .loop .gathered .count) (h .loop .gathered .codes)) ≡ listHere (text-at h) (lent-at h) (state-at h) (line-at h)
@@ -171,7 +171,7 @@ before h =
     ∙ left-start (text-at h) (lent-at h) (b .before .before .args .laws) (b .before .before .pre)
 
 -- the old laws are behind those read
-old-laws : (h : tie.At-loop Inv-loop μ-loop Inv-lines μ-lines) → Follows (h .before .before .before .before .before .before .before .before .before .before .before .before .args .laws) (h .loop .state .reading .run)
+old-laws : (h : tie.At-loop Inv-loop μ-loop Inv-lines μ-lines) → Follows (h .before .before .before .before .before .before .before .before .before .before .before .before .args .laws) (h .loop .state .draft .run)
 old-laws h =
     let n = h .before .before .before .before .before .before .before .before .before in
     rw (h .loop .inv .0) (rw (n .before .begun .ensures) at (n .lines .inv .3))

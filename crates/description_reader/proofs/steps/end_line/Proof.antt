@@ -14,7 +14,7 @@ refused-requires c κs = search needs
 returns : tie.Need-returns
 returns c =
     let a = c .before .before .before .args in
-    (λ text. c .refused .ensures .0 text ∙ end-bytes (draftOf text (a .state .reading)) (a .value .now) (omega arith), c .refused .ensures .1)
+    (λ text. c .refused .ensures .0 text ∙ end-bytes (draftOf text (a .state .draft)) (a .value .now) (omega arith), c .refused .ensures .1)
 
 returns-2 : tie.Need-returns-2
 unfolding stepOf

@@ -25,7 +25,7 @@ enum-told-2 c = search needs
 returns : tie.Need-returns
 returns c =
     let a = c .before .before .before .before .before .before .before .before in
-    let s = a .args .state .reading in
+    let s = a .args .state .draft in
     let w = a .args .state .law in
     let l = a .args .list in
     let e = c .before .enum-told .given .1 in (
@@ -38,7 +38,7 @@ returns-2 : tie.Need-returns-2
 unfolding stepOf
 returns-2 c =
     let a = c .before .before .before .before .before .before .before in
-    let s = a .args .state .reading in
+    let s = a .args .state .draft in
     let w = a .args .state .law in
     let l = a .args .list in
     let h = a .pre .1 in

@@ -11,7 +11,7 @@ use Rattle.basics.proofs.Loops.{at-place, no-place}
 use Rattle.text.specs.Names.{literal}
 use Rattle.text.specs.Internal.{spelled}
 use Rattle.text.proofs.Spelling.{literal-small}
-use Rattle.description_reader.specs.LineSteps.{headOf}
+use Rattle.description_reader.specs.LineSteps.{readHead}
 use Rattle.description_reader.proofs.Stepping.{room-64}
 use borrow.Author.Needs.{needs}
 use Rattle.description_reader.proofs.steps.law_head.Statement.{statement}
@@ -34,7 +34,7 @@ count-64 : (c : tie.Else1) → c .before .before .before .before .args .count < 
 count-64 c = let a = c .before .before .before .before .args in room-64 (a .count) (a .lent) (place c)
 
 returns-2 : tie.Need-returns-2
-unfolding headOf
+unfolding readHead
 returns-2 c = (λ due d kind. rw (place (c .before .before), ← c .before .is-false .ensures, c .if2 .taken), count-64 (c .before .before))
 
 literal-requires : tie.Need-literal-requires
@@ -51,7 +51,7 @@ abbrev literal-at : tie.After-literal → Option ℕ
 literal-at l = let a = l .before .before .before .before .before .before .before .args in literal (spelled (a .text .now) (a .names)) 0 (a .fluents) (a .value .now)
 
 returns-3 : tie.Need-returns-3
-unfolding headOf
+unfolding readHead
 returns-3 c =
     let l = c .before .before in
     (λ due d kind. rw (place (l .before .before .before), ← l .before .before .is-false .ensures, l .before .if2 .left, no-place {found = literal-at l} (l .literal .ensures) (c .enum-told .given .1)), omega arith)
@@ -64,7 +64,7 @@ cast-t13 c =
     omega (arith, rw (at-place {found = literal-at l} (l .literal .ensures) (c .before .code .given .1)) at small)
 
 returns-4 : tie.Need-returns-4
-unfolding headOf
+unfolding readHead
 returns-4 c =
     let l = c .before .before .before in (
       λ due d kind. rw (place (l .before .before .before), ← l .before .before .is-false .ensures, l .before .if2 .left, at-place {found = literal-at l} (l .literal .ensures) (c .before .code .given .1)),

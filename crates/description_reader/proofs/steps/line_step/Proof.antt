@@ -28,7 +28,7 @@ may : (c : tie.Else1) → let a = c .before .before .before .before .args in all
 may c = sym (c .before .is-allowed .ensures (c .before .before .before .before .args .state .law)) ∙ not-false (c .before .is-allowed .result) (c .if1 .left)
 
 -- the law of a list that is allowed has begun, and has a place in the run
-if-law : (c : tie.Then2) → let a = c .before .before .before .before .before .args in (a .state .reading .run .count < 64) × (lawIn (dueAt (a .state)) ≡ a .state .law)
+if-law : (c : tie.Then2) → let a = c .before .before .before .before .before .args in (a .state .draft .run .count < 64) × (lawIn (dueAt (a .state)) ≡ a .state .law)
 if-law c =
     let a = c .before .before .before .before .before in
     if-begun (a .args .state .due) (a .args .state .law) _ (rw (c .if2 .taken) at (may (c .before))) (a .pre .1 .room)
@@ -41,7 +41,7 @@ unfolding stepWith
 returns-2 c =
     (rw (may (c .before .before), eq-eqb _ _ (c .before .if2 .taken), if-law (c .before) .1) (c .if-line .ensures .0 _), c .if-line .ensures .1)
 
-after-law : (c : tie.Then3) → let a = c .before .before .before .before .before .before .args in (a .state .reading .run .count < 64) × (lawIn (dueAt (a .state)) ≡ a .state .law)
+after-law : (c : tie.Then3) → let a = c .before .before .before .before .before .before .args in (a .state .draft .run .count < 64) × (lawIn (dueAt (a .state)) ≡ a .state .law)
 after-law c =
     let a = c .before .before .before .before .before .before in
     after-begun (a .args .state .due) (a .args .state .law) _ (rw (c .if3 .taken) at (may (c .before .before))) (a .pre .1 .room)
@@ -54,7 +54,7 @@ unfolding stepWith
 returns-3 c =
     (rw (may (c .before .before .before), ne-eqb _ _ (c .before .before .if2 .left), eq-eqb _ _ (c .before .if3 .taken), after-law (c .before) .1) (c .after-line .ensures .0 _), c .after-line .ensures .1)
 
-by-law : (c : tie.Then4) → let a = c .before .before .before .before .before .before .before .args in (a .state .reading .run .count < 64) × (lawIn (dueAt (a .state)) ≡ a .state .law)
+by-law : (c : tie.Then4) → let a = c .before .before .before .before .before .before .before .args in (a .state .draft .run .count < 64) × (lawIn (dueAt (a .state)) ≡ a .state .law)
 by-law c =
     let a = c .before .before .before .before .before .before .before in
     by-begun (a .args .state .due) (a .args .state .law) _ (rw (c .if4 .taken) at (may (c .before .before .before))) (a .pre .1 .room)

@@ -24,11 +24,11 @@ abbrev start : tie.After-has-room → tie.Start
 start h = h .before .before .before .before .before .before
 
 abbrev draft-at : tie.After-has-room → Draft
-draft-at h = draftOf (start h .args .text .now) (start h .args .state .reading)
+draft-at h = draftOf (start h .args .text .now) (start h .args .state .draft)
 
 -- the test is the draft's
 room : (h : tie.After-has-room) → h .has-room .result ≡ roomFor (start h .args .lent) (draft-at h)
-room h = let a = start h in h .has-room .ensures ∙ room-here (a .args .text .now) (a .args .lent) (a .args .state .reading) (a .pre)
+room h = let a = start h in h .has-room .ensures ∙ room-here (a .args .text .now) (a .args .lent) (a .args .state .draft) (a .pre)
 
 literal-requires : tie.Need-literal-requires
 literal-requires c κs = search needs
@@ -82,7 +82,7 @@ cast-literal-law c =
     let l = c .before .before .before .before .before in
     let h = l .before in
     let a = start h in
-    let small = literal-small (spelled (a .args .text .now) (a .args .state .reading .names)) 0 (a .args .state .reading .fluents) (a .args .value .now) (omega (arith, a .pre .few)) in
+    let small = literal-small (spelled (a .args .text .now) (a .args .state .draft .names)) 0 (a .args .state .draft .fluents) (a .args .value .now) (omega (arith, a .pre .few)) in
     omega (arith, rw (at-place {found = literal-at h} (l .literal .ensures) (c .before .before .before .code .given .1)) at small)
 
 literal-law-requires : tie.Need-literal-law-requires
@@ -99,7 +99,7 @@ whole-law-requires c κs =
     let e = c .before in
     let h = e .before .before .before .before .before .before in
     let a = start h in
-    (room-64 (a .args .state .reading .run .count) (a .args .lent) (sym (h .has-room .ensures) ∙ has e), a .pre)
+    (room-64 (a .args .state .draft .run .count) (a .args .lent) (sym (h .has-room .ensures) ∙ has e), a .pre)
 
 returns-3 : tie.Need-returns-3
 returns-3 c =

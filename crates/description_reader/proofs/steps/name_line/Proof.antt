@@ -18,7 +18,7 @@ below-32 false fluents names few most e = let h = ltb-true fluents 24 e in omega
 
 -- there is a place
 place : (c : tie.Else1) → let a = c .before .before .before .before .before .before .args in
-    hasPlace (a .action) (a .state .reading .fluents) (a .state .reading .names .count) ≡ true
+    hasPlace (a .action) (a .state .draft .fluents) (a .state .draft .names .count) ≡ true
 place c = sym (c .before .has-place .ensures) ∙ not-false (c .before .has-place .result) (c .if1 .left)
 
 has-place-requires : tie.Need-has-place-requires
@@ -60,7 +60,7 @@ returns-3 c =
     let a = n .before .before .before .before .before .before .before in
     let s = a .pre .1 in
     let fluent = not-true (a .args .action) (c .before .if3 .taken) in
-    let left = ltb-true (a .args .state .reading .fluents) 24 (rw fluent at (place (n .before))) in (
+    let left = ltb-true (a .args .state .draft .fluents) 24 (rw fluent at (place (n .before))) in (
       rw (place (n .before), ← n .is-new .ensures, not-false (n .is-new .result) (w .before .if2 .left), w .with-name .ensures .1 _, ← a .pre .0, fluent, add-one),
       record { sound = record { time = s .time; few = omega arith; declared = omega (arith, w .with-name .ensures .0, s .declared); actions = omega (arith, w .with-name .ensures .0, s .actions); room = sound-64 s; held = s .held }; follows = λ old f. f },
     )
@@ -73,7 +73,7 @@ returns-4 c =
     let a = n .before .before .before .before .before .before .before in
     let s = a .pre .1 in
     let action = not-false (a .args .action) (c .if3 .left) in
-    let left = ltb-true (a .args .state .reading .names .count) (a .args .state .reading .fluents + 8) (rw action at (place (n .before))) in (
+    let left = ltb-true (a .args .state .draft .names .count) (a .args .state .draft .fluents + 8) (rw action at (place (n .before))) in (
       rw (place (n .before), ← n .is-new .ensures, not-false (n .is-new .result) (w .before .if2 .left), w .with-name .ensures .1 _, ← a .pre .0, action),
       record { sound = record { time = s .time; few = s .few; declared = omega (arith, w .with-name .ensures .0, s .declared); actions = omega (arith, w .with-name .ensures .0); room = sound-64 s; held = s .held }; follows = λ old f. f },
     )

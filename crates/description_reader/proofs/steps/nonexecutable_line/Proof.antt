@@ -21,8 +21,8 @@ has-room-requires : tie.Need-has-room-requires
 has-room-requires c κs = search needs
 
 -- the test is the draft's
-room : (c : tie.After-has-room) (text : List ℕ) → let a = c .before .before .before .args in c .has-room .result ≡ roomFor (a .lent) (draftOf text (a .state .reading))
-room c text = let a = c .before .before .before in c .has-room .ensures ∙ room-here text (a .args .lent) (a .args .state .reading) (a .pre .0)
+room : (c : tie.After-has-room) (text : List ℕ) → let a = c .before .before .before .args in c .has-room .result ≡ roomFor (a .lent) (draftOf text (a .state .draft))
+room c text = let a = c .before .before .before in c .has-room .ensures ∙ room-here text (a .args .lent) (a .args .state .draft) (a .pre .0)
 
 refused-requires : tie.Need-refused-requires
 refused-requires c κs = search needs
@@ -31,7 +31,7 @@ returns : tie.Need-returns
 returns c =
     let h = c .before .before in
     let a = h .before .before .before .args in (
-      λ text. c .refused .ensures .0 text ∙ list-full (draftOf text (a .state .reading)) (a .lent) (h .has-room .result) (room h text) (codes (take (a .list .count) (a .list .codes))) (not-true (h .has-room .result) (c .before .if1 .taken)),
+      λ text. c .refused .ensures .0 text ∙ list-full (draftOf text (a .state .draft)) (a .lent) (h .has-room .result) (room h text) (codes (take (a .list .count) (a .list .codes))) (not-true (h .has-room .result) (c .before .if1 .taken)),
       c .refused .ensures .1,
     )
 
@@ -49,7 +49,7 @@ whole-law-requires : tie.Need-whole-law-requires
 whole-law-requires c κs =
     let e = c .before .before in
     let a = e .before .before .before .before in
-    (room-64 (a .args .state .reading .run .count) (a .args .lent) (sym (e .before .has-room .ensures) ∙ has e), a .pre .0)
+    (room-64 (a .args .state .draft .run .count) (a .args .lent) (sym (e .before .has-room .ensures) ∙ has e), a .pre .0)
 
 returns-2 : tie.Need-returns-2
 returns-2 c =
@@ -57,7 +57,7 @@ returns-2 c =
     let h = e .before in
     let a = h .before .before .before in (
       λ text. c .whole-law .ensures .0 text
-          ∙ list-whole (draftOf text (a .args .state .reading)) (a .args .lent) (h .has-room .result) (room h text) (take (a .args .list .count) (a .args .list .codes)) _ (has e)
+          ∙ list-whole (draftOf text (a .args .state .draft)) (a .args .lent) (h .has-room .result) (room h text) (take (a .args .list .count) (a .args .list .codes)) _ (has e)
           (c .before .nonexecutable-law .ensures ∙ ap (lawWith Dynamic False noPlaces) (c .before .before .places .ensures)),
       c .whole-law .ensures .1,
     )

@@ -23,7 +23,7 @@ add-t8 c = search needs
 returns : tie.Need-returns
 returns c =
     let a = c .before .before in
-    let r = a .args .reading .run in
+    let r = a .args .draft .run in
     let inside : r .count < length (r .laws) = omega arith in (
       λ text. rw (add-one (r .count), take-suc-set (r .laws) (r .count) (a .args .law) inside),
       record { horizon = refl; fluents = refl; names = refl; count = refl; held = length-set (r .laws) (r .count) (a .args .law) ∙ a .pre .1; follows = pushed-follows r (a .args .law) },

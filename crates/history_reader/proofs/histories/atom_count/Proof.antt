@@ -8,16 +8,16 @@ use Rattle.history_reader.proofs.histories.atom_count.Statement.{statem
 use Rattle.history_reader.proofs.histories.atom_count.Tie as tie
 
 mul-result : tie.Need-mul-result
-mul-result c = let a = c .before .before .before in omega (arith, atoms-bound (a .args .reading) (a .pre))
+mul-result c = let a = c .before .before .before in omega (arith, atoms-bound (a .args .draft) (a .pre))
 
 add-result : tie.Need-add-result
 add-result c =
-    let a = c .before .before .before .before in omega (arith, atoms-bound (a .args .reading) (a .pre), a .pre .few)
+    let a = c .before .before .before .before in omega (arith, atoms-bound (a .args .draft) (a .pre), a .pre .few)
 
 returns : tie.Need-returns
 returns c =
     let a = c .before .before .before .before in
-    let r = a .args .reading in
+    let r = a .args .draft in
     let e : r .fluents + (r .names .count - r .fluents) ≡ r .names .count = omega (arith, a .pre .declared) in
     (rw e, omega (arith, atoms-bound r (a .pre), a .pre .few))
 

@@ -23,18 +23,18 @@ use Rattle.history_reader.proofs.histories.read_lines.Statement.{statem
 use Rattle.history_reader.proofs.histories.read_lines.Tie as tie
 
 abbrev Inv-loop : tie.InvT-loop
-Inv-loop description text reading names last values₀ refused₀ at line l w from to list i₀ values refused i =
+Inv-loop description text draft names last values₀ refused₀ at line l w from to list i₀ values refused i =
     (refused ≡ refused₀) × (i ≤ length list + 1) × Marked (spelled description names) w list i₀ i values₀ values
 
 abbrev μ-loop : tie.MeasureT-loop
-μ-loop description text reading names last values₀ refused₀ at line l w from to list i₀ values refused i = length list + 1 - i
+μ-loop description text draft names last values₀ refused₀ at line l w from to list i₀ values refused i = length list + 1 - i
 
 abbrev Inv-lines : tie.InvT-lines
-Inv-lines description text reading names last values₀ refused₀ at₀ line₀ values refused at line =
-    (refused ≡ 0) × (1 ≤ line) × (line ≤ last + 1) × (at ≤ length text) × ((n : ℕ) → n ≤ 1024 → recordFrom (last + 1 - line) (draftOf description reading) line (take n values) (drop at text) ≡ statesFrom (reading .horizon) (draftOf description reading) 0 1 (replicate n 0) text)
+Inv-lines description text draft names last values₀ refused₀ at₀ line₀ values refused at line =
+    (refused ≡ 0) × (1 ≤ line) × (line ≤ last + 1) × (at ≤ length text) × ((n : ℕ) → n ≤ 1024 → recordFrom (last + 1 - line) (draftOf description draft) line (take n values) (drop at text) ≡ statesFrom (draft .horizon) (draftOf description draft) 0 1 (replicate n 0) text)
 
 abbrev μ-lines : tie.MeasureT-lines
-μ-lines description text reading names last values₀ refused₀ at₀ line₀ values refused at line = last + 1 - line
+μ-lines description text draft names last values₀ refused₀ at₀ line₀ values refused at line = last + 1 - line
 
 mul-last : tie.Need-mul-last Inv-loop μ-loop Inv-lines μ-lines
 mul-last c = let p = c .before .before .before .before .pre .1 in omega (arith, p .time)
@@ -48,7 +48,7 @@ no-values-requires c κs = tt
 lines-holds : tie.Need-lines-holds Inv-loop μ-loop Inv-lines μ-lines
 lines-holds c =
     let a = c .before .before .before .before .before in
-    (refl, omega arith, omega arith, omega arith, λ n h. record-starts (a .args .reading .horizon) (draftOf (a .args .description .now) (a .args .reading)) n (a .args .text .now) _ (c .no-values .ensures) h)
+    (refl, omega arith, omega arith, omega arith, λ n h. record-starts (a .args .draft .horizon) (draftOf (a .args .description .now) (a .args .draft)) n (a .args .text .now) _ (c .no-values .ensures) h)
 
 line-at-requires : tie.Need-line-at-requires Inv-loop μ-loop Inv-lines μ-lines
 line-at-requires c κs = tt
@@ -106,7 +106,7 @@ short h =
 abbrev item-at : tie.At-loop Inv-loop μ-loop Inv-lines μ-lines → Option ℕ
 item-at h =
     let a = entry (start-at h) .args in
-    literal (spelled (a .description .now) (a .reading .names)) (due-at h .low) (due-at h .high) (itemAt (list-at h) (h .loop .i))
+    literal (spelled (a .description .now) (a .draft .names)) (due-at h .low) (due-at h .high) (itemAt (list-at h) (h .loop .i))
 
 next-item-requires : tie.Need-next-item-requires Inv-loop μ-loop Inv-lines μ-lines
 next-item-requires c κs = tt
@@ -137,14 +137,14 @@ loop-again c =
     )
 
 -- the lines left at the start of the line, one of them this one
-one-left : (n : tie.At-lines Inv-loop μ-loop Inv-lines μ-lines) → let a = entry n .args in let last = 2 * a .reading .horizon + 1 in
+one-left : (n : tie.At-lines Inv-loop μ-loop Inv-lines μ-lines) → let a = entry n .args in let last = 2 * a .draft .horizon + 1 in
     n .lines .line ≤ last → (k : ℕ) → k ≤ 1024
-    → recordFrom (suc (last + 1 - suc (n .lines .line))) (draftOf (a .description .now) (a .reading)) (n .lines .line) (take k (n .lines .values)) (drop (n .lines .at) (a .text .now))
-    ≡ statesFrom (a .reading .horizon) (draftOf (a .description .now) (a .reading)) 0 1 (replicate k 0) (a .text .now)
+    → recordFrom (suc (last + 1 - suc (n .lines .line))) (draftOf (a .description .now) (a .draft)) (n .lines .line) (take k (n .lines .values)) (drop (n .lines .at) (a .text .now))
+    ≡ statesFrom (a .draft .horizon) (draftOf (a .description .now) (a .draft)) 0 1 (replicate k 0) (a .text .now)
 one-left n more k few =
     let a = entry n .args in
-    let e : suc (2 * a .reading .horizon + 1 + 1 - suc (n .lines .line)) ≡ 2 * a .reading .horizon + 1 + 1 - n .lines .line = omega (arith, more) in
-    ap (λ m. recordFrom m (draftOf (a .description .now) (a .reading)) (n .lines .line) (take k (n .lines .values)) (drop (n .lines .at) (a .text .now))) e ∙ n .lines .inv .4 k few
+    let e : suc (2 * a .draft .horizon + 1 + 1 - suc (n .lines .line)) ≡ 2 * a .draft .horizon + 1 + 1 - n .lines .line = omega (arith, more) in
+    ap (λ m. recordFrom m (draftOf (a .description .now) (a .draft)) (n .lines .line) (take k (n .lines .values)) (drop (n .lines .at) (a .text .now))) e ∙ n .lines .inv .4 k few
 
 fill-absent-requires : tie.Need-fill-absent-requires Inv-loop μ-loop Inv-lines μ-lines
 fill-absent-requires c κs = search needs
@@ -172,8 +172,8 @@ lines-again c =
       omega arith,
       omega (arith, t),
       l .line-at .ensures .1 .within,
-      λ k few. ap (λ q. recordFrom (2 * a .reading .horizon + 1 + 1 - q) (draftOf (a .description .now) (a .reading)) q (take k full) (drop (line-at h .next) (a .text .now))) (add-one (n .lines .line))
-          ∙ sym (line-read (a .description .now) (a .text .now) (a .reading) (2 * a .reading .horizon + 1 + 1 - suc (n .lines .line)) (n .lines .line) (n .lines .at) (n .lines .values) (line-at h) (l .line-at .ensures .0) (due-at h)
+      λ k few. ap (λ q. recordFrom (2 * a .draft .horizon + 1 + 1 - q) (draftOf (a .description .now) (a .draft)) q (take k full) (drop (line-at h .next) (a .text .now))) (add-one (n .lines .line))
+          ∙ sym (line-read (a .description .now) (a .text .now) (a .draft) (2 * a .draft .horizon + 1 + 1 - suc (n .lines .line)) (n .lines .line) (n .lines .at) (n .lines .values) (line-at h) (l .line-at .ensures .0) (due-at h)
           (h .before .before .before .before .before .before .line-due .ensures) (h .before .before .before .if1 .left) _ (h .loop .i) (h .loop .values) (h .before .first-place .ensures) (h .loop .inv .2) (c .before .loop-test .left)
           full (c .fill-absent .ensures) k)
           ∙ one-left n t k few,
@@ -183,9 +183,9 @@ returns : tie.Need-returns Inv-loop μ-loop Inv-lines μ-lines
 returns c =
     let n = c .before in
     let a = entry n .args in
-    let zero-left : 2 * a .reading .horizon + 1 + 1 - n .lines .line ≡ 0 = omega (arith, c .lines-test .left) in (
-      λ k few. left-done (a .text .now) k _ (draftOf (a .description .now) (a .reading)) (n .lines .inv .0)
-          ∙ ap (λ m. recordFrom m (draftOf (a .description .now) (a .reading)) (n .lines .line) (take k (n .lines .values)) (drop (n .lines .at) (a .text .now))) (sym zero-left)
+    let zero-left : 2 * a .draft .horizon + 1 + 1 - n .lines .line ≡ 0 = omega (arith, c .lines-test .left) in (
+      λ k few. left-done (a .text .now) k _ (draftOf (a .description .now) (a .draft)) (n .lines .inv .0)
+          ∙ ap (λ m. recordFrom m (draftOf (a .description .now) (a .draft)) (n .lines .line) (take k (n .lines .values)) (drop (n .lines .at) (a .text .now))) (sym zero-left)
           ∙ n .lines .inv .4 k few,
       record { within = n .lines .inv .3; few = omega (arith, n .lines .inv .2, entry n .pre .1 .time) },
     )
@@ -197,7 +197,7 @@ returns-2 c =
     let n = l .before .before in
     let a = entry n .args in
     let t = l .before .lines-test .taken in (
-      λ k few. sym (line-wrong (a .description .now) (a .text .now) (a .reading) (2 * a .reading .horizon + 1 + 1 - suc (n .lines .line)) (n .lines .line) (n .lines .at) (n .lines .values) (l .line-at .result) (l .line-at .ensures .0) (c .before .before .before .line-due .result)
+      λ k few. sym (line-wrong (a .description .now) (a .text .now) (a .draft) (2 * a .draft .horizon + 1 + 1 - suc (n .lines .line)) (n .lines .line) (n .lines .at) (n .lines .values) (l .line-at .result) (l .line-at .ensures .0) (c .before .before .before .line-due .result)
           (c .before .before .before .line-due .ensures) (c .if1 .taken) k)
           ∙ one-left n t k few,
       record { within = n .lines .inv .3; few = omega (arith, t, entry n .pre .1 .time) },
@@ -212,7 +212,7 @@ returns-3 c =
     let n = start-at h in
     let a = entry n .args in
     let t = l .before .lines-test .taken in (
-      λ k few. sym (line-refused (a .description .now) (a .text .now) (a .reading) (2 * a .reading .horizon + 1 + 1 - suc (n .lines .line)) (n .lines .line) (n .lines .at) (n .lines .values) (line-at h) (l .line-at .ensures .0) (due-at h)
+      λ k few. sym (line-refused (a .description .now) (a .text .now) (a .draft) (2 * a .draft .horizon + 1 + 1 - suc (n .lines .line)) (n .lines .line) (n .lines .at) (n .lines .values) (line-at h) (l .line-at .ensures .0) (due-at h)
           (h .before .before .before .before .before .before .line-due .ensures) (h .before .before .before .if1 .left) _ (h .loop .i) (h .loop .values) (h .before .first-place .ensures) (h .loop .inv .2)
           (i .before .loop-test .taken) (short h) (no-place {found = item-at h} (i .next-item .ensures .0) (c .enum-told .given .1)) k)
           ∙ one-left n t k few,

@@ -11,7 +11,7 @@ use Rattle.basics.proofs.Loops.{rest-cons, rest-done}
 use Rattle.action_language.specs.declared.Kind.{Kind}
 use Rattle.action_language.specs.declared.Law.{Law}
 use Rattle.translation.specs.Rules.{perLaw}
-use Rattle.translation.specs.Internal.{rulesOf}
+use Rattle.translation.specs.Internal.{lawRules}
 use Rattle.translation.proofs.Counts.{words-append}
 use Rattle.rule_words.proofs.RuleWords.{by-kind-bound}
 use Rattle.translation.proofs.Sums.{past}
@@ -30,7 +30,7 @@ turns f laws count =
 
 abbrev Inv-loop : tie.InvT-loop
 Inv-loop table₀ at count n static dynamic laws place₀ i₀ table place i =
-    (length laws ≡ 64) × Before (turns (rulesOf n static dynamic) laws count) i table place table₀ at (words (perLaw (rulesOf n static dynamic) (take count laws)))
+    (length laws ≡ 64) × Before (turns (lawRules n static dynamic) laws count) i table place table₀ at (words (perLaw (lawRules n static dynamic) (take count laws)))
 
 abbrev μ-loop : tie.MeasureT-loop
 μ-loop table₀ at count n static dynamic laws place₀ i₀ table place i = count - i
