@@ -2,12 +2,12 @@
 -- Assumes nothing.
 use mathlib.Core.Path.{_≡_, refl}
 use mathlib.Core.Bool.{Bool, true, false, _&&_}
-use mathlib.Core.List.{List, [], _∷_}
+use mathlib.Core.List.{List, [], _∷_, _++_}
 use Prim.Native.Nat.{ℕ, _+_, _-_, _*_, _≤_, _<_}
 use native.Mathlib.Nat.{zero-add}
 use borrow.Author.Tests.{eqb-true, leb-true}
 use lib.Dec.{eqb, leb}
-use lib.ListN.{getD, take, drop}
+use lib.ListN.{length, getD, take, drop, replicate}
 use Rattle.basics.specs.Search.{all, range}
 use Rattle.basics.proofs.Tests.{not-both, and-iff, all-each}
 use Rattle.basics.proofs.Lists.{each-range}
@@ -23,6 +23,11 @@ alike-same [] [] e = refl
 alike-same [] (y ∷ ys) e = absurd (not-both e refl)
 alike-same (x ∷ xs) [] e = absurd (not-both e refl)
 alike-same (x ∷ xs) (y ∷ ys) e = let h = and-iff (eqb x y) (alike xs ys) .0 e in rw (eqb-true x y (h .0), alike-same xs ys (h .1))
+
+-- rows of so many places: a word's length, its numbers, and 0 in the places behind them
+abbrev pub tableOf : ℕ → List (List ℕ) → List ℕ
+tableOf width [] = []
+tableOf width (w ∷ ws) = length w ∷ (w ++ (replicate (width - 1 - length w) 0 ++ tableOf width ws))
 
 module _ (table : List ℕ) (width most : ℕ) (words : List (List ℕ)) where
   -- what stands behind the length of row k

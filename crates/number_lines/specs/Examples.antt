@@ -5,6 +5,7 @@ use mathlib.Core.List.{List, [], _∷_}
 use mathlib.Core.Option.{Option, none, some}
 use Prim.Native.Nat.{ℕ, _+_}
 use lib.ListN.{length, take, drop}
+use Rattle.basics.specs.Quoted.{bytes}
 use Rattle.number_lines.specs.Lines.{numbersOf, lineSize}
 use Rattle.number_lines.specs.Runs.{runEnd, valuesOf}
 
@@ -19,14 +20,9 @@ abbrev pub Reads : LineExample → Type 0
 Reads e =
     (numbersOf 0 (drop (e .from) (e .text)) ≡ e .numbers) × (e .from + lineSize (drop (e .from) (e .text)) ≡ e .next)
 
--- `12 0 305`, `7`, an empty line, and `65536 70007`, which are cut to 16 bits, with no byte 10 behind
+-- four lines: the third is empty, the numbers of the fourth are cut to 16 bits, and no byte 10 stands behind it
 abbrev pub four : List ℕ
-four =
-    49 ∷ 50 ∷ 32 ∷ 48 ∷ 32 ∷ 51 ∷ 48 ∷ 53 ∷ 10
-    ∷ 55 ∷ 10
-    ∷ 10
-    ∷ 54 ∷ 53 ∷ 53 ∷ 51 ∷ 54 ∷ 32 ∷ 55 ∷ 48 ∷ 48 ∷ 48 ∷ 55
-    ∷ []
+four = bytes "12 0 305\n7\n\n65536 70007"
 
 abbrev pub lines : List LineExample
 lines =
@@ -38,7 +34,7 @@ lines =
     ∷ record { text = four; from = 23; numbers = 0 ∷ []; next = 23 }
     ∷ record { text = four; from = 40; numbers = 0 ∷ []; next = 40 }
     -- each space ends a number
-    ∷ record { text = 32 ∷ 57 ∷ 32 ∷ 10 ∷ []; from = 0; numbers = 0 ∷ 9 ∷ 0 ∷ []; next = 4 }
+    ∷ record { text = bytes " 9 \n"; from = 0; numbers = 0 ∷ 9 ∷ 0 ∷ []; next = 4 }
     ∷ []
 
 -- numbers and a place among them, and where the run that begins there ends

@@ -1,14 +1,15 @@
 -- Output lines, the words in them, and decimal numbers.
 -- Assumes nothing.
 use mathlib.Core.Bool.{cond}
-use mathlib.Core.List.{List, [], _∷_, _++_}
+use mathlib.Core.List.{List, _++_}
 use Prim.Native.Nat.{ℕ, zero, suc, _/_}
 use lib.Dec.{ltb}
+use Rattle.basics.specs.Quoted.{bytes}
 use Rattle.io.specs.Digits.{digits}
 
 -- key=value and byte 10
 abbrev pub outputLine : List ℕ → List ℕ → List ℕ
-outputLine key value = key ++ (61 ∷ []) ++ value ++ (10 ∷ [])
+outputLine key value = key ++ bytes "=" ++ value ++ bytes "\n"
 
 -- how many decimal digits a number below 10 to the k has, at least one
 abbrev pub placesIn : ℕ → ℕ → ℕ
@@ -19,82 +20,62 @@ placesIn (suc k) n = cond (ltb n 10) 1 (suc (placesIn k (n / 10)))
 unfoldable pub decimal : ℕ → List ℕ
 decimal n = digits 10 (placesIn 19 n) n
 
--- horizon
 abbrev pub horizonWord : List ℕ
-horizonWord = 104 ∷ 111 ∷ 114 ∷ 105 ∷ 122 ∷ 111 ∷ 110 ∷ []
+horizonWord = bytes "horizon"
 
--- atoms
 abbrev pub atomsWord : List ℕ
-atomsWord = 97 ∷ 116 ∷ 111 ∷ 109 ∷ 115 ∷ []
+atomsWord = bytes "atoms"
 
--- rules
 abbrev pub rulesWord : List ℕ
-rulesWord = 114 ∷ 117 ∷ 108 ∷ 101 ∷ 115 ∷ []
+rulesWord = bytes "rules"
 
--- words
 abbrev pub wordsWord : List ℕ
-wordsWord = 119 ∷ 111 ∷ 114 ∷ 100 ∷ 115 ∷ []
+wordsWord = bytes "words"
 
--- answer
 abbrev pub answerWord : List ℕ
-answerWord = 97 ∷ 110 ∷ 115 ∷ 119 ∷ 101 ∷ 114 ∷ []
+answerWord = bytes "answer"
 
--- at
 abbrev pub atWord : List ℕ
-atWord = 97 ∷ 116 ∷ []
+atWord = bytes "at"
 
--- causal
 abbrev pub causalWord : List ℕ
-causalWord = 99 ∷ 97 ∷ 117 ∷ 115 ∷ 97 ∷ 108 ∷ []
+causalWord = bytes "causal"
 
--- time
 abbrev pub timeWord : List ℕ
-timeWord = 116 ∷ 105 ∷ 109 ∷ 101 ∷ []
+timeWord = bytes "time"
 
--- item
 abbrev pub itemWord : List ℕ
-itemWord = 105 ∷ 116 ∷ 101 ∷ 109 ∷ []
+itemWord = bytes "item"
 
--- refused
 abbrev pub refusedWord : List ℕ
-refusedWord = 114 ∷ 101 ∷ 102 ∷ 117 ∷ 115 ∷ 101 ∷ 100 ∷ []
+refusedWord = bytes "refused"
 
--- place
 abbrev pub placeWord : List ℕ
-placeWord = 112 ∷ 108 ∷ 97 ∷ 99 ∷ 101 ∷ []
+placeWord = bytes "place"
 
--- passes
 abbrev pub passesWord : List ℕ
-passesWord = 112 ∷ 97 ∷ 115 ∷ 115 ∷ 101 ∷ 115 ∷ []
+passesWord = bytes "passes"
 
--- missing
 abbrev pub missingWord : List ℕ
-missingWord = 109 ∷ 105 ∷ 115 ∷ 115 ∷ 105 ∷ 110 ∷ 103 ∷ []
+missingWord = bytes "missing"
 
--- clash
 abbrev pub clashWord : List ℕ
-clashWord = 99 ∷ 108 ∷ 97 ∷ 115 ∷ 104 ∷ []
+clashWord = bytes "clash"
 
--- broken
 abbrev pub brokenWord : List ℕ
-brokenWord = 98 ∷ 114 ∷ 111 ∷ 107 ∷ 101 ∷ 110 ∷ []
+brokenWord = bytes "broken"
 
--- unfounded
 abbrev pub unfoundedWord : List ℕ
-unfoundedWord = 117 ∷ 110 ∷ 102 ∷ 111 ∷ 117 ∷ 110 ∷ 100 ∷ 101 ∷ 100 ∷ []
+unfoundedWord = bytes "unfounded"
 
--- none
 abbrev pub noneWord : List ℕ
-noneWord = 110 ∷ 111 ∷ 110 ∷ 101 ∷ []
+noneWord = bytes "none"
 
--- path
 abbrev pub pathWord : List ℕ
-pathWord = 112 ∷ 97 ∷ 116 ∷ 104 ∷ []
+pathWord = bytes "path"
 
--- contradicted
 abbrev pub contradictedWord : List ℕ
-contradictedWord = 99 ∷ 111 ∷ 110 ∷ 116 ∷ 114 ∷ 97 ∷ 100 ∷ 105 ∷ 99 ∷ 116 ∷ 101 ∷ 100 ∷ []
+contradictedWord = bytes "contradicted"
 
--- uncaused
 abbrev pub uncausedWord : List ℕ
-uncausedWord = 117 ∷ 110 ∷ 99 ∷ 97 ∷ 117 ∷ 115 ∷ 101 ∷ 100 ∷ []
+uncausedWord = bytes "uncaused"

@@ -6,6 +6,7 @@ use Prim.Native.Nat.{ℕ}
 use lib.Dec.{leb}
 use lib.ListN.{length}
 use Rattle.basics.specs.Search.{all}
+use Rattle.basics.specs.Quoted.{bytes}
 use Rattle.spelling.specs.Letters.{isLetter, isNameByte, lowered, same}
 
 -- two names are the same if they agree after lowering (02, §3)
@@ -16,7 +17,7 @@ abbrev pub sameName : List ℕ → List ℕ → Bool
 sameName xs ys = same (loweredName xs) (loweredName ys)
 
 abbrev pub falseBytes : List ℕ
-falseBytes = 102 ∷ 97 ∷ 108 ∷ 115 ∷ 101 ∷ []
+falseBytes = bytes "false"
 
 -- a letter, then up to 15 letters, digits or underscores; `false`, in any mix of capitals, is no name
 abbrev pub startsWithLetter : List ℕ → Bool

@@ -5,6 +5,7 @@ use mathlib.Core.Path.{_≡_, refl}
 use mathlib.Core.List.{List, [], _∷_, map}
 use mathlib.Core.Option.{Option, some}
 use Prim.Native.Nat.{ℕ}
+use Rattle.basics.specs.Quoted.{bytes}
 use Rattle.text.specs.Bytes.{cut}
 use Rattle.text.specs.Lines.{keys, horizonKey, fluentKey, actionKey, staticKey, dynamicKey, ifKey, afterKey, stateKey, actKey, endKey, defaultKey, inertialKey, causesKey, byKey, nonexecutableKey, keyNumber, firstLine}
 use Rattle.text.specs.Places.{lineSize, startOfLine, valueFrom, startOfValue, lineNumber}
@@ -18,13 +19,11 @@ pub keys-numbered : map keyNumber keys
 unfolding keyNumber
 keys-numbered = refl
 
--- if=a=b
--- act=
 abbrev two-lines : List ℕ
-two-lines = 105 ∷ 102 ∷ 61 ∷ 97 ∷ 61 ∷ 98 ∷ 10 ∷ 97 ∷ 99 ∷ 116 ∷ 61 ∷ 10 ∷ []
+two-lines = bytes "if=a=b\nact=\n"
 
 -- split at the first equals sign, ended by byte 10
-pub line-read : firstLine two-lines ≡ some (record { key = ifKey; value = 97 ∷ 61 ∷ 98 ∷ []; rest = 97 ∷ 99 ∷ 116 ∷ 61 ∷ 10 ∷ [] })
+pub line-read : firstLine two-lines ≡ some (record { key = ifKey; value = bytes "a=b"; rest = bytes "act=\n" })
 unfolding firstLine cut keyNumber
 line-read = refl
 
@@ -37,21 +36,19 @@ pub line-numbered : lineNumber 1 two-lines ≡ some (record { key = actKey; valu
 unfolding firstLine cut keyNumber lineSize
 line-numbered = refl
 
--- a
 abbrev names : List (List ℕ)
-names = (97 ∷ []) ∷ []
+names = bytes "a" ∷ []
 
--- a,-a
-pub both-signs : listOf names 0 1 2 (97 ∷ 44 ∷ 45 ∷ 97 ∷ []) ≡ codes (0 ∷ 1 ∷ [])
+pub both-signs : listOf names 0 1 2 (bytes "a,-a") ≡ codes (0 ∷ 1 ∷ [])
 unfolding listOf items literal cut
 both-signs = refl
 
 -- a,b where one literal is taken: 5 of the second item, before its spelling
-pub five-before-six : listOf names 0 1 1 (97 ∷ 44 ∷ 98 ∷ []) ≡ refused 5
+pub five-before-six : listOf names 0 1 1 (bytes "a,b") ≡ refused 5
 unfolding listOf items literal cut
 five-before-six = refl
 
 -- b,a where one is taken: 6 of the first item
-pub left-to-right : listOf names 0 1 1 (98 ∷ 44 ∷ 97 ∷ []) ≡ refused 6
+pub left-to-right : listOf names 0 1 1 (bytes "b,a") ≡ refused 6
 unfolding listOf items literal cut
 left-to-right = refl

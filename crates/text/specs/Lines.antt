@@ -4,42 +4,28 @@ use mathlib.Core.List.{List, [], _∷_}
 use mathlib.Core.Option.{Option, none, some}
 use Prim.Native.Nat.{ℕ}
 use Rattle.basics.specs.Search.{first}
+use Rattle.basics.specs.Quoted.{bytes}
 use Rattle.spelling.specs.Letters.{same}
 use Rattle.text.specs.Bytes.{newline, equalsSign, Cut, cut}
 
 -- the fifteen keys in their order; a key's number is its place in this list
 abbrev pub keys : List (List ℕ)
 keys =
-    -- horizon
-    (104 ∷ 111 ∷ 114 ∷ 105 ∷ 122 ∷ 111 ∷ 110 ∷ [])
-    -- fluent
-    ∷ (102 ∷ 108 ∷ 117 ∷ 101 ∷ 110 ∷ 116 ∷ [])
-    -- action
-    ∷ (97 ∷ 99 ∷ 116 ∷ 105 ∷ 111 ∷ 110 ∷ [])
-    -- static
-    ∷ (115 ∷ 116 ∷ 97 ∷ 116 ∷ 105 ∷ 99 ∷ [])
-    -- dynamic
-    ∷ (100 ∷ 121 ∷ 110 ∷ 97 ∷ 109 ∷ 105 ∷ 99 ∷ [])
-    -- if
-    ∷ (105 ∷ 102 ∷ [])
-    -- after
-    ∷ (97 ∷ 102 ∷ 116 ∷ 101 ∷ 114 ∷ [])
-    -- state
-    ∷ (115 ∷ 116 ∷ 97 ∷ 116 ∷ 101 ∷ [])
-    -- act
-    ∷ (97 ∷ 99 ∷ 116 ∷ [])
-    -- end
-    ∷ (101 ∷ 110 ∷ 100 ∷ [])
-    -- default
-    ∷ (100 ∷ 101 ∷ 102 ∷ 97 ∷ 117 ∷ 108 ∷ 116 ∷ [])
-    -- inertial
-    ∷ (105 ∷ 110 ∷ 101 ∷ 114 ∷ 116 ∷ 105 ∷ 97 ∷ 108 ∷ [])
-    -- causes
-    ∷ (99 ∷ 97 ∷ 117 ∷ 115 ∷ 101 ∷ 115 ∷ [])
-    -- by
-    ∷ (98 ∷ 121 ∷ [])
-    -- nonexecutable
-    ∷ (110 ∷ 111 ∷ 110 ∷ 101 ∷ 120 ∷ 101 ∷ 99 ∷ 117 ∷ 116 ∷ 97 ∷ 98 ∷ 108 ∷ 101 ∷ [])
+    bytes "horizon"
+    ∷ bytes "fluent"
+    ∷ bytes "action"
+    ∷ bytes "static"
+    ∷ bytes "dynamic"
+    ∷ bytes "if"
+    ∷ bytes "after"
+    ∷ bytes "state"
+    ∷ bytes "act"
+    ∷ bytes "end"
+    ∷ bytes "default"
+    ∷ bytes "inertial"
+    ∷ bytes "causes"
+    ∷ bytes "by"
+    ∷ bytes "nonexecutable"
     ∷ []
 
 abbrev pub horizonKey : ℕ

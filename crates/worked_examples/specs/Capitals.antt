@@ -1,6 +1,7 @@
 -- Worked examples of letter case (02, §3): a declared name in any mix of capitals is one name, and so is `false`; keys stay in lower
 -- case, and a name is shown as it was declared.
 -- Assumes nothing.
+use Rattle.basics.specs.Quoted.{bytes}
 use mathlib.Core.Bool.{cond, _&&_}
 use mathlib.Core.List.{List, [], _∷_, _++_, map}
 use Prim.Native.Nat.{ℕ, _-_}
@@ -25,82 +26,51 @@ use Rattle.worked_examples.specs.Examples.{Example, reads, readsHistory,
 -- 01's full recipe as a style sheet spells it, each use in a mix of its own
 abbrev pub styleText : List ℕ
 styleText =
-    -- horizon=1
-    (104 ∷ 111 ∷ 114 ∷ 105 ∷ 122 ∷ 111 ∷ 110 ∷ 61 ∷ 49 ∷ 10 ∷ [])
-    -- fluent=Locked
-    ++ (102 ∷ 108 ∷ 117 ∷ 101 ∷ 110 ∷ 116 ∷ 61 ∷ 76 ∷ 111 ∷ 99 ∷ 107 ∷ 101 ∷ 100 ∷ 10 ∷ [])
-    -- fluent=Flowed
-    ++ (102 ∷ 108 ∷ 117 ∷ 101 ∷ 110 ∷ 116 ∷ 61 ∷ 70 ∷ 108 ∷ 111 ∷ 119 ∷ 101 ∷ 100 ∷ 10 ∷ [])
-    -- action=Reflow
-    ++ (97 ∷ 99 ∷ 116 ∷ 105 ∷ 111 ∷ 110 ∷ 61 ∷ 82 ∷ 101 ∷ 102 ∷ 108 ∷ 111 ∷ 119 ∷ 10 ∷ [])
-    -- dynamic=flowed
-    ++ (100 ∷ 121 ∷ 110 ∷ 97 ∷ 109 ∷ 105 ∷ 99 ∷ 61 ∷ 102 ∷ 108 ∷ 111 ∷ 119 ∷ 101 ∷ 100 ∷ 10 ∷ [])
-    -- if=
-    ++ (105 ∷ 102 ∷ 61 ∷ 10 ∷ [])
-    -- after=reflow
-    ++ (97 ∷ 102 ∷ 116 ∷ 101 ∷ 114 ∷ 61 ∷ 114 ∷ 101 ∷ 102 ∷ 108 ∷ 111 ∷ 119 ∷ 10 ∷ [])
-    -- dynamic=False
-    ++ (100 ∷ 121 ∷ 110 ∷ 97 ∷ 109 ∷ 105 ∷ 99 ∷ 61 ∷ 70 ∷ 97 ∷ 108 ∷ 115 ∷ 101 ∷ 10 ∷ [])
-    -- if=
-    ++ (105 ∷ 102 ∷ 61 ∷ 10 ∷ [])
-    -- after=REFLOW,locked
-    ++ (97 ∷ 102 ∷ 116 ∷ 101 ∷ 114 ∷ 61 ∷ 82 ∷ 69 ∷ 70 ∷ 76 ∷ 79 ∷ 87 ∷ 44 ∷ 108 ∷ 111 ∷ 99 ∷ 107 ∷ 101 ∷ 100 ∷ 10 ∷ [])
-    -- dynamic=LOCKED
-    ++ (100 ∷ 121 ∷ 110 ∷ 97 ∷ 109 ∷ 105 ∷ 99 ∷ 61 ∷ 76 ∷ 79 ∷ 67 ∷ 75 ∷ 69 ∷ 68 ∷ 10 ∷ [])
-    -- if=lockeD
-    ++ (105 ∷ 102 ∷ 61 ∷ 108 ∷ 111 ∷ 99 ∷ 107 ∷ 101 ∷ 68 ∷ 10 ∷ [])
-    -- after=Locked
-    ++ (97 ∷ 102 ∷ 116 ∷ 101 ∷ 114 ∷ 61 ∷ 76 ∷ 111 ∷ 99 ∷ 107 ∷ 101 ∷ 100 ∷ 10 ∷ [])
-    -- dynamic=-locked
-    ++ (100 ∷ 121 ∷ 110 ∷ 97 ∷ 109 ∷ 105 ∷ 99 ∷ 61 ∷ 45 ∷ 108 ∷ 111 ∷ 99 ∷ 107 ∷ 101 ∷ 100 ∷ 10 ∷ [])
-    -- if=-LOCKED
-    ++ (105 ∷ 102 ∷ 61 ∷ 45 ∷ 76 ∷ 79 ∷ 67 ∷ 75 ∷ 69 ∷ 68 ∷ 10 ∷ [])
-    -- after=-lOCKED
-    ++ (97 ∷ 102 ∷ 116 ∷ 101 ∷ 114 ∷ 61 ∷ 45 ∷ 108 ∷ 79 ∷ 67 ∷ 75 ∷ 69 ∷ 68 ∷ 10 ∷ [])
-    -- dynamic=FLOWED
-    ++ (100 ∷ 121 ∷ 110 ∷ 97 ∷ 109 ∷ 105 ∷ 99 ∷ 61 ∷ 70 ∷ 76 ∷ 79 ∷ 87 ∷ 69 ∷ 68 ∷ 10 ∷ [])
-    -- if=flowed
-    ++ (105 ∷ 102 ∷ 61 ∷ 102 ∷ 108 ∷ 111 ∷ 119 ∷ 101 ∷ 100 ∷ 10 ∷ [])
-    -- after=Flowed
-    ++ (97 ∷ 102 ∷ 116 ∷ 101 ∷ 114 ∷ 61 ∷ 70 ∷ 108 ∷ 111 ∷ 119 ∷ 101 ∷ 100 ∷ 10 ∷ [])
-    -- dynamic=-flowed
-    ++ (100 ∷ 121 ∷ 110 ∷ 97 ∷ 109 ∷ 105 ∷ 99 ∷ 61 ∷ 45 ∷ 102 ∷ 108 ∷ 111 ∷ 119 ∷ 101 ∷ 100 ∷ 10 ∷ [])
-    -- if=-Flowed
-    ++ (105 ∷ 102 ∷ 61 ∷ 45 ∷ 70 ∷ 108 ∷ 111 ∷ 119 ∷ 101 ∷ 100 ∷ 10 ∷ [])
-    -- after=-floWED
-    ++ (97 ∷ 102 ∷ 116 ∷ 101 ∷ 114 ∷ 61 ∷ 45 ∷ 102 ∷ 108 ∷ 111 ∷ 87 ∷ 69 ∷ 68 ∷ 10 ∷ [])
-    -- end=
-    ++ (101 ∷ 110 ∷ 100 ∷ 61 ∷ 10 ∷ [])
+    (bytes "horizon=1\n")
+    ++ (bytes "fluent=Locked\n")
+    ++ (bytes "fluent=Flowed\n")
+    ++ (bytes "action=Reflow\n")
+    ++ (bytes "dynamic=flowed\n")
+    ++ (bytes "if=\n")
+    ++ (bytes "after=reflow\n")
+    ++ (bytes "dynamic=False\n")
+    ++ (bytes "if=\n")
+    ++ (bytes "after=REFLOW,locked\n")
+    ++ (bytes "dynamic=LOCKED\n")
+    ++ (bytes "if=lockeD\n")
+    ++ (bytes "after=Locked\n")
+    ++ (bytes "dynamic=-locked\n")
+    ++ (bytes "if=-LOCKED\n")
+    ++ (bytes "after=-lOCKED\n")
+    ++ (bytes "dynamic=FLOWED\n")
+    ++ (bytes "if=flowed\n")
+    ++ (bytes "after=Flowed\n")
+    ++ (bytes "dynamic=-flowed\n")
+    ++ (bytes "if=-Flowed\n")
+    ++ (bytes "after=-floWED\n")
+    ++ (bytes "end=\n")
 
 -- its history, and M2
 abbrev pub styleHistory : List ℕ
 styleHistory =
-    -- state=-LOCKED,-flowed
-    (115 ∷ 116 ∷ 97 ∷ 116 ∷ 101 ∷ 61 ∷ 45 ∷ 76 ∷ 79 ∷ 67 ∷ 75 ∷ 69 ∷ 68 ∷ 44 ∷ 45 ∷ 102 ∷ 108 ∷ 111 ∷ 119 ∷ 101 ∷ 100 ∷ 10 ∷ [])
-    -- act=REFLOW
-    ++ (97 ∷ 99 ∷ 116 ∷ 61 ∷ 82 ∷ 69 ∷ 70 ∷ 76 ∷ 79 ∷ 87 ∷ 10 ∷ [])
-    -- state=-locked,Flowed
-    ++ (115 ∷ 116 ∷ 97 ∷ 116 ∷ 101 ∷ 61 ∷ 45 ∷ 108 ∷ 111 ∷ 99 ∷ 107 ∷ 101 ∷ 100 ∷ 44 ∷ 70 ∷ 108 ∷ 111 ∷ 119 ∷ 101 ∷ 100 ∷ 10 ∷ [])
-    -- end=
-    ++ (101 ∷ 110 ∷ 100 ∷ 61 ∷ 10 ∷ [])
+    (bytes "state=-LOCKED,-flowed\n")
+    ++ (bytes "act=REFLOW\n")
+    ++ (bytes "state=-locked,Flowed\n")
+    ++ (bytes "end=\n")
 
 abbrev pub styleM2 : List ℕ
 styleM2 =
-    -- state=-Locked,-FLOWED
-    (115 ∷ 116 ∷ 97 ∷ 116 ∷ 101 ∷ 61 ∷ 45 ∷ 76 ∷ 111 ∷ 99 ∷ 107 ∷ 101 ∷ 100 ∷ 44 ∷ 45 ∷ 70 ∷ 76 ∷ 79 ∷ 87 ∷ 69 ∷ 68 ∷ 10 ∷ [])
-    -- act=-rEFLOW
-    ++ (97 ∷ 99 ∷ 116 ∷ 61 ∷ 45 ∷ 114 ∷ 69 ∷ 70 ∷ 76 ∷ 79 ∷ 87 ∷ 10 ∷ [])
-    -- state=-locked,flowed
-    ++ (115 ∷ 116 ∷ 97 ∷ 116 ∷ 101 ∷ 61 ∷ 45 ∷ 108 ∷ 111 ∷ 99 ∷ 107 ∷ 101 ∷ 100 ∷ 44 ∷ 102 ∷ 108 ∷ 111 ∷ 119 ∷ 101 ∷ 100 ∷ 10 ∷ [])
-    -- end=
-    ++ (101 ∷ 110 ∷ 100 ∷ 61 ∷ 10 ∷ [])
+    (bytes "state=-Locked,-FLOWED\n")
+    ++ (bytes "act=-rEFLOW\n")
+    ++ (bytes "state=-locked,flowed\n")
+    ++ (bytes "end=\n")
 
 -- Locked, Flowed and Reflow, as declared
 abbrev pub styleFluents : List (List ℕ)
-styleFluents = (76 ∷ 111 ∷ 99 ∷ 107 ∷ 101 ∷ 100 ∷ []) ∷ (70 ∷ 108 ∷ 111 ∷ 119 ∷ 101 ∷ 100 ∷ []) ∷ []
+styleFluents = (bytes "Locked") ∷ (bytes "Flowed") ∷ []
 
 abbrev pub styleActions : List (List ℕ)
-styleActions = (82 ∷ 101 ∷ 102 ∷ 108 ∷ 111 ∷ 119 ∷ []) ∷ []
+styleActions = (bytes "Reflow") ∷ []
 
 -- the spelling that has one use in capitals, by law or time, line and place, and the others as declared
 abbrev pub raised : ℕ → ℕ
@@ -124,16 +94,16 @@ styleExamples =
     ∷ readsHistory recipeText styleHistory 5 (answered (2 ∷ 2 ∷ 1 ∷ 2 ∷ 1 ∷ []))
     ∷ readsHistory styleText styleM2 5 (answered (2 ∷ 2 ∷ 2 ∷ 2 ∷ 1 ∷ []))
     -- Locked, Flowed, Reflow
-    ∷ showsFluent styleText 0 (76 ∷ 111 ∷ 99 ∷ 107 ∷ 101 ∷ 100 ∷ [])
-    ∷ showsFluent styleText 1 (70 ∷ 108 ∷ 111 ∷ 119 ∷ 101 ∷ 100 ∷ [])
-    ∷ showsAction styleText 0 (82 ∷ 101 ∷ 102 ∷ 108 ∷ 111 ∷ 119 ∷ [])
+    ∷ showsFluent styleText 0 (bytes "Locked")
+    ∷ showsFluent styleText 1 (bytes "Flowed")
+    ∷ showsAction styleText 0 (bytes "Reflow")
     -- one use of one law, FALSE, and one act in capitals
     -- dynamic=false / if= / after=c,a / dynamic=a / if= / after=c,A / end=
-    ∷ writes 1 ((97 ∷ []) ∷ []) ((99 ∷ []) ∷ []) (λ i. inFull) (capitalsAt 1 2 1) twoLaws (smallNames ++ (100 ∷ 121 ∷ 110 ∷ 97 ∷ 109 ∷ 105 ∷ 99 ∷ 61 ∷ 102 ∷ 97 ∷ 108 ∷ 115 ∷ 101 ∷ 10 ∷ 105 ∷ 102 ∷ 61 ∷ 10 ∷ 97 ∷ 102 ∷ 116 ∷ 101 ∷ 114 ∷ 61 ∷ 99 ∷ 44 ∷ 97 ∷ 10 ∷ 100 ∷ 121 ∷ 110 ∷ 97 ∷ 109 ∷ 105 ∷ 99 ∷ 61 ∷ 97 ∷ 10 ∷ 105 ∷ 102 ∷ 61 ∷ 10 ∷ 97 ∷ 102 ∷ 116 ∷ 101 ∷ 114 ∷ 61 ∷ 99 ∷ 44 ∷ 65 ∷ 10 ∷ 101 ∷ 110 ∷ 100 ∷ 61 ∷ 10 ∷ []))
+    ∷ writes 1 ((97 ∷ []) ∷ []) ((99 ∷ []) ∷ []) (λ i. inFull) (capitalsAt 1 2 1) twoLaws (smallNames ++ (bytes "dynamic=false\nif=\nafter=c,a\ndynamic=a\nif=\nafter=c,A\nend=\n"))
     -- causes=FALSE / by=c,a / causes=a / by=c,a / end=
-    ∷ writes 1 ((97 ∷ []) ∷ []) ((99 ∷ []) ∷ []) (λ i. asCauses) (capitalsAt 0 0 0) twoLaws (smallNames ++ (99 ∷ 97 ∷ 117 ∷ 115 ∷ 101 ∷ 115 ∷ 61 ∷ 70 ∷ 65 ∷ 76 ∷ 83 ∷ 69 ∷ 10 ∷ 98 ∷ 121 ∷ 61 ∷ 99 ∷ 44 ∷ 97 ∷ 10 ∷ 99 ∷ 97 ∷ 117 ∷ 115 ∷ 101 ∷ 115 ∷ 61 ∷ 97 ∷ 10 ∷ 98 ∷ 121 ∷ 61 ∷ 99 ∷ 44 ∷ 97 ∷ 10 ∷ 101 ∷ 110 ∷ 100 ∷ 61 ∷ 10 ∷ []))
+    ∷ writes 1 ((97 ∷ []) ∷ []) ((99 ∷ []) ∷ []) (λ i. asCauses) (capitalsAt 0 0 0) twoLaws (smallNames ++ (bytes "causes=FALSE\nby=c,a\ncauses=a\nby=c,a\nend=\n"))
     -- state=a / act=C / state=a / end=
-    ∷ writesHistory 1 ((97 ∷ []) ∷ []) ((99 ∷ []) ∷ []) (capitalsAt 0 1 0) everyAction (1 ∷ 1 ∷ 1 ∷ []) (115 ∷ 116 ∷ 97 ∷ 116 ∷ 101 ∷ 61 ∷ 97 ∷ 10 ∷ 97 ∷ 99 ∷ 116 ∷ 61 ∷ 67 ∷ 10 ∷ 115 ∷ 116 ∷ 97 ∷ 116 ∷ 101 ∷ 61 ∷ 97 ∷ 10 ∷ 101 ∷ 110 ∷ 100 ∷ 61 ∷ 10 ∷ [])
+    ∷ writesHistory 1 ((97 ∷ []) ∷ []) ((99 ∷ []) ∷ []) (capitalsAt 0 1 0) everyAction (1 ∷ 1 ∷ 1 ∷ []) (bytes "state=a\nact=C\nstate=a\nend=\n")
     ∷ []
 
 -- what is printed: as for the full recipe, and M2's fault with the name as it was declared
@@ -143,16 +113,11 @@ styleOutputs =
     ∷ prints (styleText ++ styleM2)
     (
     recipeCounts
-    -- answer=unfounded
-    ++ (97 ∷ 110 ∷ 115 ∷ 119 ∷ 101 ∷ 114 ∷ 61 ∷ 117 ∷ 110 ∷ 102 ∷ 111 ∷ 117 ∷ 110 ∷ 100 ∷ 101 ∷ 100 ∷ 10 ∷ [])
-    -- at=8
-    ++ (97 ∷ 116 ∷ 61 ∷ 56 ∷ 10 ∷ [])
-    -- causal=uncaused
-    ++ (99 ∷ 97 ∷ 117 ∷ 115 ∷ 97 ∷ 108 ∷ 61 ∷ 117 ∷ 110 ∷ 99 ∷ 97 ∷ 117 ∷ 115 ∷ 101 ∷ 100 ∷ 10 ∷ [])
-    -- time=1
-    ++ (116 ∷ 105 ∷ 109 ∷ 101 ∷ 61 ∷ 49 ∷ 10 ∷ [])
-    -- item=Flowed
-    ++ (105 ∷ 116 ∷ 101 ∷ 109 ∷ 61 ∷ 70 ∷ 108 ∷ 111 ∷ 119 ∷ 101 ∷ 100 ∷ 10 ∷ [])
+    ++ (bytes "answer=unfounded\n")
+    ++ (bytes "at=8\n")
+    ++ (bytes "causal=uncaused\n")
+    ++ (bytes "time=1\n")
+    ++ (bytes "item=Flowed\n")
     )
     ∷ []
 
@@ -165,16 +130,16 @@ capitalExamples =
     -- fluent=Z
     ∷ reads 64 (withFluent (90 ∷ [])) (answered (read (tinyDraft 1 (90 ∷ [])) [] 3))
     -- fluent=AZ
-    ∷ reads 64 (withFluent (65 ∷ 90 ∷ [])) (answered (read (tinyDraft 1 (65 ∷ 90 ∷ [])) [] 3))
+    ∷ reads 64 (withFluent (bytes "AZ")) (answered (read (tinyDraft 1 (bytes "AZ")) [] 3))
     -- fluent=aZ
-    ∷ reads 64 (withFluent (97 ∷ 90 ∷ [])) (answered (read (tinyDraft 1 (97 ∷ 90 ∷ [])) [] 3))
+    ∷ reads 64 (withFluent (bytes "aZ")) (answered (read (tinyDraft 1 (bytes "aZ")) [] 3))
     -- fluent=aA9_Z
-    ∷ reads 64 (withFluent (97 ∷ 65 ∷ 57 ∷ 95 ∷ 90 ∷ [])) (answered (read (tinyDraft 1 (97 ∷ 65 ∷ 57 ∷ 95 ∷ 90 ∷ [])) [] 3))
+    ∷ reads 64 (withFluent (bytes "aA9_Z")) (answered (read (tinyDraft 1 (bytes "aA9_Z")) [] 3))
     -- fluent=B.. of 16 bytes, then of 17
     ∷ reads 64 (withFluent (replicate 16 66)) (answered (read (tinyDraft 1 (replicate 16 66)) [] 3))
     ∷ reads 64 (withFluent (replicate 17 66)) (refused 4 2)
     -- fluent=FALSEY
-    ∷ reads 64 (withFluent (70 ∷ 65 ∷ 76 ∷ 83 ∷ 69 ∷ 89 ∷ [])) (answered (read (tinyDraft 1 (70 ∷ 65 ∷ 76 ∷ 83 ∷ 69 ∷ 89 ∷ [])) [] 3))
+    ∷ reads 64 (withFluent (bytes "FALSEY")) (answered (read (tinyDraft 1 (bytes "FALSEY")) [] 3))
     -- the bytes beside A to Z and a to z, and those 32 behind digits and the underscore, are in no name
     -- fluent=@
     ∷ reads 64 (withFluent (64 ∷ [])) (refused 4 2)
@@ -202,32 +167,31 @@ capitalExamples =
     ∷ reads 64 (withFluent (95 ∷ 65 ∷ [])) (refused 4 2)
     -- `false` in any mix of capitals is no name
     -- fluent=False
-    ∷ reads 64 (withFluent (70 ∷ 97 ∷ 108 ∷ 115 ∷ 101 ∷ [])) (refused 4 2)
+    ∷ reads 64 (withFluent (bytes "False")) (refused 4 2)
     -- fluent=FALSE
-    ∷ reads 64 (withFluent (70 ∷ 65 ∷ 76 ∷ 83 ∷ 69 ∷ [])) (refused 4 2)
+    ∷ reads 64 (withFluent (bytes "FALSE")) (refused 4 2)
     -- fluent=fALSe
-    ∷ reads 64 (withFluent (102 ∷ 65 ∷ 76 ∷ 83 ∷ 101 ∷ [])) (refused 4 2)
-    -- action=FALSE
-    ∷ reads 64 (tinyLines ++ (97 ∷ 99 ∷ 116 ∷ 105 ∷ 111 ∷ 110 ∷ 61 ∷ 70 ∷ 65 ∷ 76 ∷ 83 ∷ 69 ∷ 10 ∷ [])) (refused 4 3)
+    ∷ reads 64 (withFluent (bytes "fALSe")) (refused 4 2)
+    ∷ reads 64 (tinyLines ++ (bytes "action=FALSE\n")) (refused 4 3)
     -- declared before: fluent after fluent, action after fluent, action after action; names that differ otherwise are two
     -- horizon=1 / fluent=Reflow / fluent=reflow
-    ∷ reads 64 (104 ∷ 111 ∷ 114 ∷ 105 ∷ 122 ∷ 111 ∷ 110 ∷ 61 ∷ 49 ∷ 10 ∷ 102 ∷ 108 ∷ 117 ∷ 101 ∷ 110 ∷ 116 ∷ 61 ∷ 82 ∷ 101 ∷ 102 ∷ 108 ∷ 111 ∷ 119 ∷ 10 ∷ 102 ∷ 108 ∷ 117 ∷ 101 ∷ 110 ∷ 116 ∷ 61 ∷ 114 ∷ 101 ∷ 102 ∷ 108 ∷ 111 ∷ 119 ∷ 10 ∷ []) (refused 4 3)
+    ∷ reads 64 (bytes "horizon=1\nfluent=Reflow\nfluent=reflow\n") (refused 4 3)
     -- horizon=1 / fluent=reflow / fluent=Reflow
-    ∷ reads 64 (104 ∷ 111 ∷ 114 ∷ 105 ∷ 122 ∷ 111 ∷ 110 ∷ 61 ∷ 49 ∷ 10 ∷ 102 ∷ 108 ∷ 117 ∷ 101 ∷ 110 ∷ 116 ∷ 61 ∷ 114 ∷ 101 ∷ 102 ∷ 108 ∷ 111 ∷ 119 ∷ 10 ∷ 102 ∷ 108 ∷ 117 ∷ 101 ∷ 110 ∷ 116 ∷ 61 ∷ 82 ∷ 101 ∷ 102 ∷ 108 ∷ 111 ∷ 119 ∷ 10 ∷ []) (refused 4 3)
+    ∷ reads 64 (bytes "horizon=1\nfluent=reflow\nfluent=Reflow\n") (refused 4 3)
     -- horizon=1 / fluent=reflow / action=REFLOW
-    ∷ reads 64 (104 ∷ 111 ∷ 114 ∷ 105 ∷ 122 ∷ 111 ∷ 110 ∷ 61 ∷ 49 ∷ 10 ∷ 102 ∷ 108 ∷ 117 ∷ 101 ∷ 110 ∷ 116 ∷ 61 ∷ 114 ∷ 101 ∷ 102 ∷ 108 ∷ 111 ∷ 119 ∷ 10 ∷ 97 ∷ 99 ∷ 116 ∷ 105 ∷ 111 ∷ 110 ∷ 61 ∷ 82 ∷ 69 ∷ 70 ∷ 76 ∷ 79 ∷ 87 ∷ 10 ∷ []) (refused 4 3)
+    ∷ reads 64 (bytes "horizon=1\nfluent=reflow\naction=REFLOW\n") (refused 4 3)
     -- horizon=1 / fluent=a / action=rEFLOW / action=Reflow
-    ∷ reads 64 (104 ∷ 111 ∷ 114 ∷ 105 ∷ 122 ∷ 111 ∷ 110 ∷ 61 ∷ 49 ∷ 10 ∷ 102 ∷ 108 ∷ 117 ∷ 101 ∷ 110 ∷ 116 ∷ 61 ∷ 97 ∷ 10 ∷ 97 ∷ 99 ∷ 116 ∷ 105 ∷ 111 ∷ 110 ∷ 61 ∷ 114 ∷ 69 ∷ 70 ∷ 76 ∷ 79 ∷ 87 ∷ 10 ∷ 97 ∷ 99 ∷ 116 ∷ 105 ∷ 111 ∷ 110 ∷ 61 ∷ 82 ∷ 101 ∷ 102 ∷ 108 ∷ 111 ∷ 119 ∷ 10 ∷ []) (refused 4 4)
+    ∷ reads 64 (bytes "horizon=1\nfluent=a\naction=rEFLOW\naction=Reflow\n") (refused 4 4)
     -- horizon=1 / fluent=Re / fluent=reflow / fluent=r0 / fluent=rP / end=
-    ∷ reads 64 (104 ∷ 111 ∷ 114 ∷ 105 ∷ 122 ∷ 111 ∷ 110 ∷ 61 ∷ 49 ∷ 10 ∷ 102 ∷ 108 ∷ 117 ∷ 101 ∷ 110 ∷ 116 ∷ 61 ∷ 82 ∷ 101 ∷ 10 ∷ 102 ∷ 108 ∷ 117 ∷ 101 ∷ 110 ∷ 116 ∷ 61 ∷ 114 ∷ 101 ∷ 102 ∷ 108 ∷ 111 ∷ 119 ∷ 10 ∷ 102 ∷ 108 ∷ 117 ∷ 101 ∷ 110 ∷ 116 ∷ 61 ∷ 114 ∷ 48 ∷ 10 ∷ 102 ∷ 108 ∷ 117 ∷ 101 ∷ 110 ∷ 116 ∷ 61 ∷ 114 ∷ 80 ∷ 10 ∷ 101 ∷ 110 ∷ 100 ∷ 61 ∷ 10 ∷ []) (answered (read (record { horizon = 1; fluents = 4; names = (82 ∷ 101 ∷ []) ∷ (114 ∷ 101 ∷ 102 ∷ 108 ∷ 111 ∷ 119 ∷ []) ∷ (114 ∷ 48 ∷ []) ∷ (114 ∷ 80 ∷ []) ∷ []; laws = [] }) [] 6))
+    ∷ reads 64 (bytes "horizon=1\nfluent=Re\nfluent=reflow\nfluent=r0\nfluent=rP\nend=\n") (answered (read (record { horizon = 1; fluents = 4; names = (bytes "Re") ∷ (bytes "reflow") ∷ (114 ∷ 48 ∷ []) ∷ (bytes "rP") ∷ []; laws = [] }) [] 6))
     -- the first and the last letter, declared small and used as capitals, and the other way round
     -- horizon=1 / fluent=A / fluent=z / action=Z0 / static=a / if=Z,-A / dynamic=-Z / if=A / after=z0,-Z0 / end=
-    ∷ reads 64 (104 ∷ 111 ∷ 114 ∷ 105 ∷ 122 ∷ 111 ∷ 110 ∷ 61 ∷ 49 ∷ 10 ∷ 102 ∷ 108 ∷ 117 ∷ 101 ∷ 110 ∷ 116 ∷ 61 ∷ 65 ∷ 10 ∷ 102 ∷ 108 ∷ 117 ∷ 101 ∷ 110 ∷ 116 ∷ 61 ∷ 122 ∷ 10 ∷ 97 ∷ 99 ∷ 116 ∷ 105 ∷ 111 ∷ 110 ∷ 61 ∷ 90 ∷ 48 ∷ 10 ∷ 115 ∷ 116 ∷ 97 ∷ 116 ∷ 105 ∷ 99 ∷ 61 ∷ 97 ∷ 10 ∷ 105 ∷ 102 ∷ 61 ∷ 90 ∷ 44 ∷ 45 ∷ 65 ∷ 10 ∷ 100 ∷ 121 ∷ 110 ∷ 97 ∷ 109 ∷ 105 ∷ 99 ∷ 61 ∷ 45 ∷ 90 ∷ 10 ∷ 105 ∷ 102 ∷ 61 ∷ 65 ∷ 10 ∷ 97 ∷ 102 ∷ 116 ∷ 101 ∷ 114 ∷ 61 ∷ 122 ∷ 48 ∷ 44 ∷ 45 ∷ 90 ∷ 48 ∷ 10 ∷ 101 ∷ 110 ∷ 100 ∷ 61 ∷ 10 ∷ []) (answered (read (record { horizon = 1; fluents = 2; names = (65 ∷ []) ∷ (122 ∷ []) ∷ (90 ∷ 48 ∷ []) ∷ []; laws = lawOf Static (Lit 0) (2 ∷ 1 ∷ []) [] ∷ lawOf Dynamic (Lit 3) (0 ∷ []) (4 ∷ 5 ∷ []) ∷ [] }) [] 10))
+    ∷ reads 64 (bytes "horizon=1\nfluent=A\nfluent=z\naction=Z0\nstatic=a\nif=Z,-A\ndynamic=-Z\nif=A\nafter=z0,-Z0\nend=\n") (answered (read (record { horizon = 1; fluents = 2; names = (65 ∷ []) ∷ (122 ∷ []) ∷ (90 ∷ 48 ∷ []) ∷ []; laws = lawOf Static (Lit 0) (2 ∷ 1 ∷ []) [] ∷ lawOf Dynamic (Lit 3) (0 ∷ []) (4 ∷ 5 ∷ []) ∷ [] }) [] 10))
     -- digits and the underscore are as they are: r0 is not rP, though byte 80 stands 32 behind byte 48; _ is not byte 127
     -- horizon=1 / fluent=r0 / fluent=rP / static=Rp / if=R0 / end=
-    ∷ reads 64 (104 ∷ 111 ∷ 114 ∷ 105 ∷ 122 ∷ 111 ∷ 110 ∷ 61 ∷ 49 ∷ 10 ∷ 102 ∷ 108 ∷ 117 ∷ 101 ∷ 110 ∷ 116 ∷ 61 ∷ 114 ∷ 48 ∷ 10 ∷ 102 ∷ 108 ∷ 117 ∷ 101 ∷ 110 ∷ 116 ∷ 61 ∷ 114 ∷ 80 ∷ 10 ∷ 115 ∷ 116 ∷ 97 ∷ 116 ∷ 105 ∷ 99 ∷ 61 ∷ 82 ∷ 112 ∷ 10 ∷ 105 ∷ 102 ∷ 61 ∷ 82 ∷ 48 ∷ 10 ∷ 101 ∷ 110 ∷ 100 ∷ 61 ∷ 10 ∷ []) (answered (read (record { horizon = 1; fluents = 2; names = (114 ∷ 48 ∷ []) ∷ (114 ∷ 80 ∷ []) ∷ []; laws = lawOf Static (Lit 2) (0 ∷ []) [] ∷ [] }) [] 6))
+    ∷ reads 64 (bytes "horizon=1\nfluent=r0\nfluent=rP\nstatic=Rp\nif=R0\nend=\n") (answered (read (record { horizon = 1; fluents = 2; names = (114 ∷ 48 ∷ []) ∷ (bytes "rP") ∷ []; laws = lawOf Static (Lit 2) (0 ∷ []) [] ∷ [] }) [] 6))
     -- horizon=1 / fluent=r_ / static=R_ / if=r_ / end=
-    ∷ reads 64 (104 ∷ 111 ∷ 114 ∷ 105 ∷ 122 ∷ 111 ∷ 110 ∷ 61 ∷ 49 ∷ 10 ∷ 102 ∷ 108 ∷ 117 ∷ 101 ∷ 110 ∷ 116 ∷ 61 ∷ 114 ∷ 95 ∷ 10 ∷ 115 ∷ 116 ∷ 97 ∷ 116 ∷ 105 ∷ 99 ∷ 61 ∷ 82 ∷ 95 ∷ 10 ∷ 105 ∷ 102 ∷ 61 ∷ 114 ∷ 95 ∷ 10 ∷ 101 ∷ 110 ∷ 100 ∷ 61 ∷ 10 ∷ []) (answered (read (record { horizon = 1; fluents = 1; names = (114 ∷ 95 ∷ []) ∷ []; laws = lawOf Static (Lit 0) (0 ∷ []) [] ∷ [] }) [] 5))
+    ∷ reads 64 (bytes "horizon=1\nfluent=r_\nstatic=R_\nif=r_\nend=\n") (answered (read (record { horizon = 1; fluents = 1; names = (114 ∷ 95 ∷ []) ∷ []; laws = lawOf Static (Lit 0) (0 ∷ []) [] ∷ [] }) [] 5))
     -- horizon=1 / fluent=r_ / static=r<byte 127>
     ∷ reads 64 (104 ∷ 111 ∷ 114 ∷ 105 ∷ 122 ∷ 111 ∷ 110 ∷ 61 ∷ 49 ∷ 10 ∷ 102 ∷ 108 ∷ 117 ∷ 101 ∷ 110 ∷ 116 ∷ 61 ∷ 114 ∷ 95 ∷ 10 ∷ 115 ∷ 116 ∷ 97 ∷ 116 ∷ 105 ∷ 99 ∷ 61 ∷ 114 ∷ 127 ∷ 10 ∷ []) (refused 6 3)
     -- horizon=1 / fluent=r0 / static=r<byte 16>
@@ -238,47 +202,40 @@ capitalExamples =
     ∷ reads 64 (withHead (33 ∷ [])) (refused 6 4)
     -- False as head of each law that has one; it is no literal
     -- static=False
-    ∷ reads 64 (withHead (70 ∷ 97 ∷ 108 ∷ 115 ∷ 101 ∷ [])) (answered (read (smallDraft (lawOf Static False [] [] ∷ [])) [] 6))
+    ∷ reads 64 (withHead (bytes "False")) (answered (read (smallDraft (lawOf Static False [] [] ∷ [])) [] 6))
     -- static=FALSE
-    ∷ reads 64 (withHead (70 ∷ 65 ∷ 76 ∷ 83 ∷ 69 ∷ [])) (answered (read (smallDraft (lawOf Static False [] [] ∷ [])) [] 6))
+    ∷ reads 64 (withHead (bytes "FALSE")) (answered (read (smallDraft (lawOf Static False [] [] ∷ [])) [] 6))
     -- dynamic=fALSE / if=A / after=C / end=
-    ∷ reads 64 (smallNames ++ (100 ∷ 121 ∷ 110 ∷ 97 ∷ 109 ∷ 105 ∷ 99 ∷ 61 ∷ 102 ∷ 65 ∷ 76 ∷ 83 ∷ 69 ∷ 10 ∷ 105 ∷ 102 ∷ 61 ∷ 65 ∷ 10 ∷ 97 ∷ 102 ∷ 116 ∷ 101 ∷ 114 ∷ 61 ∷ 67 ∷ 10 ∷ 101 ∷ 110 ∷ 100 ∷ 61 ∷ 10 ∷ [])) (answered (read (smallDraft (lawOf Dynamic False (0 ∷ []) (2 ∷ []) ∷ [])) [] 7))
+    ∷ reads 64 (smallNames ++ (bytes "dynamic=fALSE\nif=A\nafter=C\nend=\n")) (answered (read (smallDraft (lawOf Dynamic False (0 ∷ []) (2 ∷ []) ∷ [])) [] 7))
     -- causes=FALSE / by=C,-A / end=
-    ∷ reads 64 (smallNames ++ (99 ∷ 97 ∷ 117 ∷ 115 ∷ 101 ∷ 115 ∷ 61 ∷ 70 ∷ 65 ∷ 76 ∷ 83 ∷ 69 ∷ 10 ∷ 98 ∷ 121 ∷ 61 ∷ 67 ∷ 44 ∷ 45 ∷ 65 ∷ 10 ∷ 101 ∷ 110 ∷ 100 ∷ 61 ∷ 10 ∷ [])) (answered (read (smallDraft (lawOf Dynamic False [] (2 ∷ 1 ∷ []) ∷ [])) [] 6))
+    ∷ reads 64 (smallNames ++ (bytes "causes=FALSE\nby=C,-A\nend=\n")) (answered (read (smallDraft (lawOf Dynamic False [] (2 ∷ 1 ∷ []) ∷ [])) [] 6))
     -- static=-False
-    ∷ reads 64 (withHead (45 ∷ 70 ∷ 97 ∷ 108 ∷ 115 ∷ 101 ∷ [])) (refused 6 4)
+    ∷ reads 64 (withHead (bytes "-False")) (refused 6 4)
     -- if=FALSE
-    ∷ reads 64 (withIf (70 ∷ 65 ∷ 76 ∷ 83 ∷ 69 ∷ [])) (refused 6 5)
-    -- default=False
-    ∷ reads 64 (smallNames ++ (100 ∷ 101 ∷ 102 ∷ 97 ∷ 117 ∷ 108 ∷ 116 ∷ 61 ∷ 70 ∷ 97 ∷ 108 ∷ 115 ∷ 101 ∷ 10 ∷ [])) (refused 6 4)
-    -- inertial=FALSE
-    ∷ reads 64 (smallNames ++ (105 ∷ 110 ∷ 101 ∷ 114 ∷ 116 ∷ 105 ∷ 97 ∷ 108 ∷ 61 ∷ 70 ∷ 65 ∷ 76 ∷ 83 ∷ 69 ∷ 10 ∷ [])) (refused 6 4)
-    -- nonexecutable=c,False
-    ∷ reads 64 (smallNames ++ (110 ∷ 111 ∷ 110 ∷ 101 ∷ 120 ∷ 101 ∷ 99 ∷ 117 ∷ 116 ∷ 97 ∷ 98 ∷ 108 ∷ 101 ∷ 61 ∷ 99 ∷ 44 ∷ 70 ∷ 97 ∷ 108 ∷ 115 ∷ 101 ∷ 10 ∷ [])) (refused 6 4)
+    ∷ reads 64 (withIf (bytes "FALSE")) (refused 6 5)
+    ∷ reads 64 (smallNames ++ (bytes "default=False\n")) (refused 6 4)
+    ∷ reads 64 (smallNames ++ (bytes "inertial=FALSE\n")) (refused 6 4)
+    ∷ reads 64 (smallNames ++ (bytes "nonexecutable=c,False\n")) (refused 6 4)
     -- short laws and lists; a capital does not make an action a fluent
     -- default=A / inertial=-A / nonexecutable=C,a / end=
-    ∷ reads 64 (smallNames ++ (100 ∷ 101 ∷ 102 ∷ 97 ∷ 117 ∷ 108 ∷ 116 ∷ 61 ∷ 65 ∷ 10 ∷ 105 ∷ 110 ∷ 101 ∷ 114 ∷ 116 ∷ 105 ∷ 97 ∷ 108 ∷ 61 ∷ 45 ∷ 65 ∷ 10 ∷ 110 ∷ 111 ∷ 110 ∷ 101 ∷ 120 ∷ 101 ∷ 99 ∷ 117 ∷ 116 ∷ 97 ∷ 98 ∷ 108 ∷ 101 ∷ 61 ∷ 67 ∷ 44 ∷ 97 ∷ 10 ∷ 101 ∷ 110 ∷ 100 ∷ 61 ∷ 10 ∷ [])) (answered (read (smallDraft (lawOf Static (Lit 0) (0 ∷ []) [] ∷ lawOf Dynamic (Lit 1) (1 ∷ []) (1 ∷ []) ∷ lawOf Dynamic False [] (2 ∷ 0 ∷ []) ∷ [])) [] 7))
+    ∷ reads 64 (smallNames ++ (bytes "default=A\ninertial=-A\nnonexecutable=C,a\nend=\n")) (answered (read (smallDraft (lawOf Static (Lit 0) (0 ∷ []) [] ∷ lawOf Dynamic (Lit 1) (1 ∷ []) (1 ∷ []) ∷ lawOf Dynamic False [] (2 ∷ 0 ∷ []) ∷ [])) [] 7))
     -- if=A,-A,a
     ∷ reads 64 (withIf (65 ∷ 44 ∷ 45 ∷ 65 ∷ 44 ∷ 97 ∷ [])) (answered (read (smallDraft (lawOf Static (Lit 0) (0 ∷ 1 ∷ 0 ∷ []) [] ∷ [])) [] 6))
     -- if=C
     ∷ reads 64 (withIf (67 ∷ [])) (refused 6 5)
     -- keys stay in lower case
-    -- Horizon=1
-    ∷ reads 64 (72 ∷ 111 ∷ 114 ∷ 105 ∷ 122 ∷ 111 ∷ 110 ∷ 61 ∷ 49 ∷ 10 ∷ []) (refused 2 1)
+    ∷ reads 64 (bytes "Horizon=1\n") (refused 2 1)
     -- horizon=1 / Fluent=a
-    ∷ reads 64 (104 ∷ 111 ∷ 114 ∷ 105 ∷ 122 ∷ 111 ∷ 110 ∷ 61 ∷ 49 ∷ 10 ∷ 70 ∷ 108 ∷ 117 ∷ 101 ∷ 110 ∷ 116 ∷ 61 ∷ 97 ∷ 10 ∷ []) (refused 2 2)
+    ∷ reads 64 (bytes "horizon=1\nFluent=a\n") (refused 2 2)
     -- horizon=1 / fluenT=a
-    ∷ reads 64 (104 ∷ 111 ∷ 114 ∷ 105 ∷ 122 ∷ 111 ∷ 110 ∷ 61 ∷ 49 ∷ 10 ∷ 102 ∷ 108 ∷ 117 ∷ 101 ∷ 110 ∷ 84 ∷ 61 ∷ 97 ∷ 10 ∷ []) (refused 2 2)
-    -- Action=d
-    ∷ reads 64 (smallNames ++ (65 ∷ 99 ∷ 116 ∷ 105 ∷ 111 ∷ 110 ∷ 61 ∷ 100 ∷ 10 ∷ [])) (refused 2 4)
+    ∷ reads 64 (bytes "horizon=1\nfluenT=a\n") (refused 2 2)
+    ∷ reads 64 (smallNames ++ (bytes "Action=d\n")) (refused 2 4)
     -- static=a / If=
-    ∷ reads 64 (smallNames ++ (115 ∷ 116 ∷ 97 ∷ 116 ∷ 105 ∷ 99 ∷ 61 ∷ 97 ∷ 10 ∷ 73 ∷ 102 ∷ 61 ∷ 10 ∷ [])) (refused 2 5)
+    ∷ reads 64 (smallNames ++ (bytes "static=a\nIf=\n")) (refused 2 5)
     -- causes=a / BY=c
-    ∷ reads 64 (smallNames ++ (99 ∷ 97 ∷ 117 ∷ 115 ∷ 101 ∷ 115 ∷ 61 ∷ 97 ∷ 10 ∷ 66 ∷ 89 ∷ 61 ∷ 99 ∷ 10 ∷ [])) (refused 2 5)
-    -- enD=
-    ∷ reads 64 (smallNames ++ (101 ∷ 110 ∷ 68 ∷ 61 ∷ 10 ∷ [])) (refused 2 4)
-    -- State=
-    ∷ readsHistory recipeText (83 ∷ 116 ∷ 97 ∷ 116 ∷ 101 ∷ 61 ∷ 10 ∷ []) 5 (refused 2 1)
+    ∷ reads 64 (smallNames ++ (bytes "causes=a\nBY=c\n")) (refused 2 5)
+    ∷ reads 64 (smallNames ++ (bytes "enD=\n")) (refused 2 4)
+    ∷ readsHistory recipeText (bytes "State=\n") 5 (refused 2 1)
     -- state= / acT=
-    ∷ readsHistory recipeText (115 ∷ 116 ∷ 97 ∷ 116 ∷ 101 ∷ 61 ∷ 10 ∷ 97 ∷ 99 ∷ 84 ∷ 61 ∷ 10 ∷ []) 5 (refused 2 2)
+    ∷ readsHistory recipeText (bytes "state=\nacT=\n") 5 (refused 2 2)
     ∷ []

@@ -1,6 +1,7 @@
 -- Worked examples of cutting and joining (02, §6): recipes of three steps cut after one and after two, two that fit and join, and two whose
 -- states differ, put together.
 -- Assumes nothing.
+use Rattle.basics.specs.Quoted.{bytes}
 use mathlib.Core.List.{List, [], _∷_, _++_}
 use Prim.Native.Nat.{ℕ, _-_}
 use lib.ListN.{drop}
@@ -93,14 +94,12 @@ apartExamples =
 -- the full recipe's text for two and for three steps: all but its first line, which has ten bytes, is as in 01
 abbrev pub twoStepText : List ℕ
 twoStepText =
-    -- horizon=2
-    (104 ∷ 111 ∷ 114 ∷ 105 ∷ 122 ∷ 111 ∷ 110 ∷ 61 ∷ 50 ∷ 10 ∷ [])
+    (bytes "horizon=2\n")
     ++ drop 10 recipeText
 
 abbrev pub threeStepText : List ℕ
 threeStepText =
-    -- horizon=3
-    (104 ∷ 111 ∷ 114 ∷ 105 ∷ 122 ∷ 111 ∷ 110 ∷ 61 ∷ 51 ∷ 10 ∷ [])
+    (bytes "horizon=3\n")
     ++ drop 10 recipeText
 
 -- the lines of its history
@@ -131,26 +130,18 @@ endLine =
 
 abbrev pub twoStepOutput : List ℕ
 twoStepOutput =
-    -- horizon=2
-    (104 ∷ 111 ∷ 114 ∷ 105 ∷ 122 ∷ 111 ∷ 110 ∷ 61 ∷ 50 ∷ 10 ∷ [])
-    -- atoms=8
-    ++ (97 ∷ 116 ∷ 111 ∷ 109 ∷ 115 ∷ 61 ∷ 56 ∷ 10 ∷ [])
-    -- rules=20
-    ++ (114 ∷ 117 ∷ 108 ∷ 101 ∷ 115 ∷ 61 ∷ 50 ∷ 48 ∷ 10 ∷ [])
-    -- words=90
-    ++ (119 ∷ 111 ∷ 114 ∷ 100 ∷ 115 ∷ 61 ∷ 57 ∷ 48 ∷ 10 ∷ [])
+    (bytes "horizon=2\n")
+    ++ (bytes "atoms=8\n")
+    ++ (bytes "rules=20\n")
+    ++ (bytes "words=90\n")
     ++ passedLines
 
 abbrev pub threeStepOutput : List ℕ
 threeStepOutput =
-    -- horizon=3
-    (104 ∷ 111 ∷ 114 ∷ 105 ∷ 122 ∷ 111 ∷ 110 ∷ 61 ∷ 51 ∷ 10 ∷ [])
-    -- atoms=11
-    ++ (97 ∷ 116 ∷ 111 ∷ 109 ∷ 115 ∷ 61 ∷ 49 ∷ 49 ∷ 10 ∷ [])
-    -- rules=28
-    ++ (114 ∷ 117 ∷ 108 ∷ 101 ∷ 115 ∷ 61 ∷ 50 ∷ 56 ∷ 10 ∷ [])
-    -- words=127
-    ++ (119 ∷ 111 ∷ 114 ∷ 100 ∷ 115 ∷ 61 ∷ 49 ∷ 50 ∷ 55 ∷ 10 ∷ [])
+    (bytes "horizon=3\n")
+    ++ (bytes "atoms=11\n")
+    ++ (bytes "rules=28\n")
+    ++ (bytes "words=127\n")
     ++ passedLines
 
 -- the recipe of three steps as a text, and its halves

@@ -1,6 +1,7 @@
 -- Worked examples of atoms that have no value or both (02, §5): the lowest decides, where before the lowest without a value did, wherever
 -- those with both were.
 -- Assumes nothing.
+use Rattle.basics.specs.Quoted.{bytes}
 use mathlib.Core.List.{List, [], _∷_, _++_}
 use Prim.Native.Nat.{ℕ}
 use lib.ListN.{replicate}
@@ -62,38 +63,26 @@ faultExamples =
 -- a clash in a state that lacks a fluent above it
 abbrev pub bothBelowText : List ℕ
 bothBelowText =
-    -- state=-locked,locked
-    (115 ∷ 116 ∷ 97 ∷ 116 ∷ 101 ∷ 61 ∷ 45 ∷ 108 ∷ 111 ∷ 99 ∷ 107 ∷ 101 ∷ 100 ∷ 44 ∷ 108 ∷ 111 ∷ 99 ∷ 107 ∷ 101 ∷ 100 ∷ 10 ∷ [])
-    -- act=reflow
-    ++ (97 ∷ 99 ∷ 116 ∷ 61 ∷ 114 ∷ 101 ∷ 102 ∷ 108 ∷ 111 ∷ 119 ∷ 10 ∷ [])
-    -- state=-locked,flowed
-    ++ (115 ∷ 116 ∷ 97 ∷ 116 ∷ 101 ∷ 61 ∷ 45 ∷ 108 ∷ 111 ∷ 99 ∷ 107 ∷ 101 ∷ 100 ∷ 44 ∷ 102 ∷ 108 ∷ 111 ∷ 119 ∷ 101 ∷ 100 ∷ 10 ∷ [])
-    -- end=
-    ++ (101 ∷ 110 ∷ 100 ∷ 61 ∷ 10 ∷ [])
+    (bytes "state=-locked,locked\n")
+    ++ (bytes "act=reflow\n")
+    ++ (bytes "state=-locked,flowed\n")
+    ++ (bytes "end=\n")
 
 -- a fluent lacking in the first state, a clash in the second
 abbrev pub noneBelowText : List ℕ
 noneBelowText =
-    -- state=-locked
-    (115 ∷ 116 ∷ 97 ∷ 116 ∷ 101 ∷ 61 ∷ 45 ∷ 108 ∷ 111 ∷ 99 ∷ 107 ∷ 101 ∷ 100 ∷ 10 ∷ [])
-    -- act=reflow
-    ++ (97 ∷ 99 ∷ 116 ∷ 61 ∷ 114 ∷ 101 ∷ 102 ∷ 108 ∷ 111 ∷ 119 ∷ 10 ∷ [])
-    -- state=-locked,locked,flowed
-    ++ (115 ∷ 116 ∷ 97 ∷ 116 ∷ 101 ∷ 61 ∷ 45 ∷ 108 ∷ 111 ∷ 99 ∷ 107 ∷ 101 ∷ 100 ∷ 44 ∷ 108 ∷ 111 ∷ 99 ∷ 107 ∷ 101 ∷ 100 ∷ 44 ∷ 102 ∷ 108 ∷ 111 ∷ 119 ∷ 101 ∷ 100 ∷ 10 ∷ [])
-    -- end=
-    ++ (101 ∷ 110 ∷ 100 ∷ 61 ∷ 10 ∷ [])
+    (bytes "state=-locked\n")
+    ++ (bytes "act=reflow\n")
+    ++ (bytes "state=-locked,locked,flowed\n")
+    ++ (bytes "end=\n")
 
 -- an action done and not done, and a fluent lacking after it
 abbrev pub actBelowText : List ℕ
 actBelowText =
-    -- state=-locked,-flowed
-    (115 ∷ 116 ∷ 97 ∷ 116 ∷ 101 ∷ 61 ∷ 45 ∷ 108 ∷ 111 ∷ 99 ∷ 107 ∷ 101 ∷ 100 ∷ 44 ∷ 45 ∷ 102 ∷ 108 ∷ 111 ∷ 119 ∷ 101 ∷ 100 ∷ 10 ∷ [])
-    -- act=reflow,-reflow
-    ++ (97 ∷ 99 ∷ 116 ∷ 61 ∷ 114 ∷ 101 ∷ 102 ∷ 108 ∷ 111 ∷ 119 ∷ 44 ∷ 45 ∷ 114 ∷ 101 ∷ 102 ∷ 108 ∷ 111 ∷ 119 ∷ 10 ∷ [])
-    -- state=-locked
-    ++ (115 ∷ 116 ∷ 97 ∷ 116 ∷ 101 ∷ 61 ∷ 45 ∷ 108 ∷ 111 ∷ 99 ∷ 107 ∷ 101 ∷ 100 ∷ 10 ∷ [])
-    -- end=
-    ++ (101 ∷ 110 ∷ 100 ∷ 61 ∷ 10 ∷ [])
+    (bytes "state=-locked,-flowed\n")
+    ++ (bytes "act=reflow,-reflow\n")
+    ++ (bytes "state=-locked\n")
+    ++ (bytes "end=\n")
 
 -- what is printed: clash at atom 0 as for M5, missing at atom 1 as for M4, and clash at atom 2
 abbrev pub faultOutputs : List Example

@@ -1,5 +1,6 @@
 -- Worked examples of the text format, rule by rule: what is taken, and refusals 1 to 7 and 10 of the readers in their order.
 -- Assumes nothing.
+use Rattle.basics.specs.Quoted.{bytes}
 use mathlib.Core.List.{List, [], _∷_, _++_, map}
 use Prim.Native.Nat.{ℕ}
 use lib.ListN.{replicate}
@@ -23,7 +24,7 @@ doorDraft =
       horizon = 1;
       fluents = 1;
       -- closed, open_1
-      names = (99 ∷ 108 ∷ 111 ∷ 115 ∷ 101 ∷ 100 ∷ []) ∷ (111 ∷ 112 ∷ 101 ∷ 110 ∷ 95 ∷ 49 ∷ []) ∷ [];
+      names = (bytes "closed") ∷ (bytes "open_1") ∷ [];
       laws = doorLaws;
     }
 
@@ -55,11 +56,11 @@ readerExamples =
     ∷ reads 64 (withFluent (replicate 16 98)) (answered (read (tinyDraft 1 (replicate 16 98)) [] 3))
     ∷ reads 64 (withFluent (replicate 17 98)) (refused 4 2)
     -- fluent=falsey
-    ∷ reads 64 (withFluent (102 ∷ 97 ∷ 108 ∷ 115 ∷ 101 ∷ 121 ∷ [])) (answered (read (tinyDraft 1 (102 ∷ 97 ∷ 108 ∷ 115 ∷ 101 ∷ 121 ∷ [])) [] 3))
+    ∷ reads 64 (withFluent (bytes "falsey")) (answered (read (tinyDraft 1 (bytes "falsey")) [] 3))
     -- fluent=az0_9
-    ∷ reads 64 (withFluent (97 ∷ 122 ∷ 48 ∷ 95 ∷ 57 ∷ [])) (answered (read (tinyDraft 1 (97 ∷ 122 ∷ 48 ∷ 95 ∷ 57 ∷ [])) [] 3))
+    ∷ reads 64 (withFluent (bytes "az0_9")) (answered (read (tinyDraft 1 (bytes "az0_9")) [] 3))
     -- fluent=false
-    ∷ reads 64 (withFluent (102 ∷ 97 ∷ 108 ∷ 115 ∷ 101 ∷ [])) (refused 4 2)
+    ∷ reads 64 (withFluent (bytes "false")) (refused 4 2)
     -- fluent=1a
     ∷ reads 64 (withFluent (49 ∷ 97 ∷ [])) (refused 4 2)
     -- fluent=_a
@@ -67,7 +68,7 @@ readerExamples =
     -- fluent=
     ∷ reads 64 (withFluent []) (refused 4 2)
     -- fluent=a=b
-    ∷ reads 64 (withFluent (97 ∷ 61 ∷ 98 ∷ [])) (refused 4 2)
+    ∷ reads 64 (withFluent (bytes "a=b")) (refused 4 2)
     -- fluent=a`
     ∷ reads 64 (withFluent (97 ∷ 96 ∷ [])) (refused 4 2)
     -- fluent=a{
@@ -77,10 +78,8 @@ readerExamples =
     -- fluent=a:
     ∷ reads 64 (withFluent (97 ∷ 58 ∷ [])) (refused 4 2)
     -- no name is declared twice, fluents and actions taken together
-    -- fluent=a
-    ∷ reads 64 (tinyLines ++ (102 ∷ 108 ∷ 117 ∷ 101 ∷ 110 ∷ 116 ∷ 61 ∷ 97 ∷ 10 ∷ [])) (refused 4 3)
-    -- action=a
-    ∷ reads 64 (tinyLines ++ (97 ∷ 99 ∷ 116 ∷ 105 ∷ 111 ∷ 110 ∷ 61 ∷ 97 ∷ 10 ∷ [])) (refused 4 3)
+    ∷ reads 64 (tinyLines ++ (bytes "fluent=a\n")) (refused 4 3)
+    ∷ reads 64 (tinyLines ++ (bytes "action=a\n")) (refused 4 3)
     -- a horizon is 1 to 30 and has no leading zero
     -- horizon=30
     ∷ reads 64 (fullWithHorizon (51 ∷ 48 ∷ [])) (answered (read (tinyDraft 30 (97 ∷ [])) [] 3))
@@ -102,13 +101,13 @@ readerExamples =
     -- static=-a
     ∷ reads 64 (withHead (45 ∷ 97 ∷ [])) (answered (read (smallDraft (lawOf Static (Lit 1) [] [] ∷ [])) [] 6))
     -- static=false
-    ∷ reads 64 (withHead (102 ∷ 97 ∷ 108 ∷ 115 ∷ 101 ∷ [])) (answered (read (smallDraft (lawOf Static False [] [] ∷ [])) [] 6))
+    ∷ reads 64 (withHead (bytes "false")) (answered (read (smallDraft (lawOf Static False [] [] ∷ [])) [] 6))
     -- static=c
     ∷ reads 64 (withHead (99 ∷ [])) (refused 6 4)
     -- static=b
     ∷ reads 64 (withHead (98 ∷ [])) (refused 6 4)
     -- static=-false
-    ∷ reads 64 (withHead (45 ∷ 102 ∷ 97 ∷ 108 ∷ 115 ∷ 101 ∷ [])) (refused 6 4)
+    ∷ reads 64 (withHead (bytes "-false")) (refused 6 4)
     -- static=-
     ∷ reads 64 (withHead (45 ∷ [])) (refused 6 4)
     -- static=--a
@@ -127,7 +126,7 @@ readerExamples =
     -- if=a,
     ∷ reads 64 (withIf (97 ∷ 44 ∷ [])) (refused 6 5)
     -- if=false
-    ∷ reads 64 (withIf (102 ∷ 97 ∷ 108 ∷ 115 ∷ 101 ∷ [])) (refused 6 5)
+    ∷ reads 64 (withIf (bytes "false")) (refused 6 5)
     -- a seventh literal: item by item, 5 before 6 at each
     -- if=a,a,a,a,a,a,a
     ∷ reads 64 (withIf (97 ∷ 44 ∷ 97 ∷ 44 ∷ 97 ∷ 44 ∷ 97 ∷ 44 ∷ 97 ∷ 44 ∷ 97 ∷ 44 ∷ 97 ∷ [])) (refused 5 5)
@@ -151,56 +150,41 @@ readerExamples =
 abbrev pub lineExamples : List Example
 lineExamples =
     -- a key that is not allowed here, among names
-    -- fluent=a
-    reads 64 (102 ∷ 108 ∷ 117 ∷ 101 ∷ 110 ∷ 116 ∷ 61 ∷ 97 ∷ 10 ∷ []) (refused 2 1)
+    reads 64 (bytes "fluent=a\n") (refused 2 1)
     -- horizon=1 / end=
-    ∷ reads 64 (104 ∷ 111 ∷ 114 ∷ 105 ∷ 122 ∷ 111 ∷ 110 ∷ 61 ∷ 49 ∷ 10 ∷ 101 ∷ 110 ∷ 100 ∷ 61 ∷ 10 ∷ []) (refused 2 2)
+    ∷ reads 64 (bytes "horizon=1\nend=\n") (refused 2 2)
     -- horizon=1 / action=c
-    ∷ reads 64 (104 ∷ 111 ∷ 114 ∷ 105 ∷ 122 ∷ 111 ∷ 110 ∷ 61 ∷ 49 ∷ 10 ∷ 97 ∷ 99 ∷ 116 ∷ 105 ∷ 111 ∷ 110 ∷ 61 ∷ 99 ∷ 10 ∷ []) (refused 2 2)
-    -- horizon=1
-    ∷ reads 64 (tinyLines ++ (104 ∷ 111 ∷ 114 ∷ 105 ∷ 122 ∷ 111 ∷ 110 ∷ 61 ∷ 49 ∷ 10 ∷ [])) (refused 2 3)
-    -- fluent=b
-    ∷ reads 64 (smallNames ++ (102 ∷ 108 ∷ 117 ∷ 101 ∷ 110 ∷ 116 ∷ 61 ∷ 98 ∷ 10 ∷ [])) (refused 2 4)
+    ∷ reads 64 (bytes "horizon=1\naction=c\n") (refused 2 2)
+    ∷ reads 64 (tinyLines ++ (bytes "horizon=1\n")) (refused 2 3)
+    ∷ reads 64 (smallNames ++ (bytes "fluent=b\n")) (refused 2 4)
     -- and among laws; no key at all
-    -- action=d
-    ∷ reads 64 (smallNames ++ lawText ++ (97 ∷ 99 ∷ 116 ∷ 105 ∷ 111 ∷ 110 ∷ 61 ∷ 100 ∷ 10 ∷ [])) (refused 2 6)
+    ∷ reads 64 (smallNames ++ lawText ++ (bytes "action=d\n")) (refused 2 6)
     -- static=a / end=
-    ∷ reads 64 (smallNames ++ (115 ∷ 116 ∷ 97 ∷ 116 ∷ 105 ∷ 99 ∷ 61 ∷ 97 ∷ 10 ∷ 101 ∷ 110 ∷ 100 ∷ 61 ∷ 10 ∷ [])) (refused 2 5)
-    -- after=
-    ∷ reads 64 (smallNames ++ lawText ++ (97 ∷ 102 ∷ 116 ∷ 101 ∷ 114 ∷ 61 ∷ 10 ∷ [])) (refused 2 6)
+    ∷ reads 64 (smallNames ++ (bytes "static=a\nend=\n")) (refused 2 5)
+    ∷ reads 64 (smallNames ++ lawText ++ (bytes "after=\n")) (refused 2 6)
     -- dynamic=a / if= / end=
-    ∷ reads 64 (smallNames ++ (100 ∷ 121 ∷ 110 ∷ 97 ∷ 109 ∷ 105 ∷ 99 ∷ 61 ∷ 97 ∷ 10 ∷ 105 ∷ 102 ∷ 61 ∷ 10 ∷ 101 ∷ 110 ∷ 100 ∷ 61 ∷ 10 ∷ [])) (refused 2 6)
-    -- state=a
-    ∷ reads 64 (smallNames ++ (115 ∷ 116 ∷ 97 ∷ 116 ∷ 101 ∷ 61 ∷ 97 ∷ 10 ∷ [])) (refused 2 4)
-    -- Horizon=1
-    ∷ reads 64 (72 ∷ 111 ∷ 114 ∷ 105 ∷ 122 ∷ 111 ∷ 110 ∷ 61 ∷ 49 ∷ 10 ∷ []) (refused 2 1)
-    -- horizons=1
-    ∷ reads 64 (104 ∷ 111 ∷ 114 ∷ 105 ∷ 122 ∷ 111 ∷ 110 ∷ 115 ∷ 61 ∷ 49 ∷ 10 ∷ []) (refused 2 1)
+    ∷ reads 64 (smallNames ++ (bytes "dynamic=a\nif=\nend=\n")) (refused 2 6)
+    ∷ reads 64 (smallNames ++ (bytes "state=a\n")) (refused 2 4)
+    ∷ reads 64 (bytes "Horizon=1\n") (refused 2 1)
+    ∷ reads 64 (bytes "horizons=1\n") (refused 2 1)
     -- no equals sign; no ending byte; a line lacking; a value after end; nothing
-    -- horizon
-    ∷ reads 64 (104 ∷ 111 ∷ 114 ∷ 105 ∷ 122 ∷ 111 ∷ 110 ∷ 10 ∷ []) (refused 2 1)
+    ∷ reads 64 (bytes "horizon\n") (refused 2 1)
     -- horizon=1, without its ending byte
-    ∷ reads 64 (104 ∷ 111 ∷ 114 ∷ 105 ∷ 122 ∷ 111 ∷ 110 ∷ 61 ∷ 49 ∷ []) (refused 2 1)
-    -- horizon=1
-    ∷ reads 64 (104 ∷ 111 ∷ 114 ∷ 105 ∷ 122 ∷ 111 ∷ 110 ∷ 61 ∷ 49 ∷ 10 ∷ []) (refused 2 2)
-    -- end=a
-    ∷ reads 64 (smallNames ++ (101 ∷ 110 ∷ 100 ∷ 61 ∷ 97 ∷ 10 ∷ [])) (refused 2 4)
+    ∷ reads 64 (bytes "horizon=1") (refused 2 1)
+    ∷ reads 64 (bytes "horizon=1\n") (refused 2 2)
+    ∷ reads 64 (smallNames ++ (bytes "end=a\n")) (refused 2 4)
     ∷ reads 64 [] (refused 2 1)
     -- the first bad line decides: horizon 0 before a bad name
     -- horizon=0 / fluent=1
-    ∷ reads 64 (104 ∷ 111 ∷ 114 ∷ 105 ∷ 122 ∷ 111 ∷ 110 ∷ 61 ∷ 48 ∷ 10 ∷ 102 ∷ 108 ∷ 117 ∷ 101 ∷ 110 ∷ 116 ∷ 61 ∷ 49 ∷ 10 ∷ []) (refused 3 1)
+    ∷ reads 64 (bytes "horizon=0\nfluent=1\n") (refused 3 1)
     -- 24 fluents; a 25th, and 5 before 4: one declared before
     ∷ reads 64 (fluents24 ++ endText) (answered (read (record { horizon = 1; fluents = 24; names = named 97 24; laws = [] }) [] 26))
-    -- fluent=y
-    ∷ reads 64 (fluents24 ++ (102 ∷ 108 ∷ 117 ∷ 101 ∷ 110 ∷ 116 ∷ 61 ∷ 121 ∷ 10 ∷ [])) (refused 5 26)
-    -- fluent=a
-    ∷ reads 64 (fluents24 ++ (102 ∷ 108 ∷ 117 ∷ 101 ∷ 110 ∷ 116 ∷ 61 ∷ 97 ∷ 10 ∷ [])) (refused 5 26)
+    ∷ reads 64 (fluents24 ++ (bytes "fluent=y\n")) (refused 5 26)
+    ∷ reads 64 (fluents24 ++ (bytes "fluent=a\n")) (refused 5 26)
     -- 8 actions; a 9th, and 5 before 4
     ∷ reads 64 (actions8 ++ endText) (answered (read (record { horizon = 1; fluents = 1; names = named 97 9; laws = [] }) [] 11))
-    -- action=j
-    ∷ reads 64 (actions8 ++ (97 ∷ 99 ∷ 116 ∷ 105 ∷ 111 ∷ 110 ∷ 61 ∷ 106 ∷ 10 ∷ [])) (refused 5 11)
-    -- action=1
-    ∷ reads 64 (actions8 ++ (97 ∷ 99 ∷ 116 ∷ 105 ∷ 111 ∷ 110 ∷ 61 ∷ 49 ∷ 10 ∷ [])) (refused 5 11)
+    ∷ reads 64 (actions8 ++ (bytes "action=j\n")) (refused 5 11)
+    ∷ reads 64 (actions8 ++ (bytes "action=1\n")) (refused 5 11)
     -- a run of 2 takes two laws; one past it, and 5 before 6: its head is no literal; a run of 3 has 6 there
     ∷ reads 2 (smallNames ++ copies 2 lawText ++ endText) (answered (read (smallDraft (replicate 2 plainLaw)) [] 8))
     ∷ reads 2 (smallNames ++ copies 3 lawText ++ endText) (refused 5 8)
@@ -243,16 +227,15 @@ historyExamples =
     -- act=a
     ∷ readsHistory smallText (withAct (97 ∷ [])) 3 (refused 6 2)
     -- a key that is not allowed here, a line lacking, a value after end
-    -- act=c
-    ∷ readsHistory smallText (97 ∷ 99 ∷ 116 ∷ 61 ∷ 99 ∷ 10 ∷ []) 3 (refused 2 1)
+    ∷ readsHistory smallText (bytes "act=c\n") 3 (refused 2 1)
     -- state=a / state=a
-    ∷ readsHistory smallText (115 ∷ 116 ∷ 97 ∷ 116 ∷ 101 ∷ 61 ∷ 97 ∷ 10 ∷ 115 ∷ 116 ∷ 97 ∷ 116 ∷ 101 ∷ 61 ∷ 97 ∷ 10 ∷ []) 3 (refused 2 2)
+    ∷ readsHistory smallText (bytes "state=a\nstate=a\n") 3 (refused 2 2)
     -- state=a / act=c / state=a
-    ∷ readsHistory smallText (115 ∷ 116 ∷ 97 ∷ 116 ∷ 101 ∷ 61 ∷ 97 ∷ 10 ∷ 97 ∷ 99 ∷ 116 ∷ 61 ∷ 99 ∷ 10 ∷ 115 ∷ 116 ∷ 97 ∷ 116 ∷ 101 ∷ 61 ∷ 97 ∷ 10 ∷ []) 3 (refused 2 4)
+    ∷ readsHistory smallText (bytes "state=a\nact=c\nstate=a\n") 3 (refused 2 4)
     -- state=a / act=c / state=a / end=a
-    ∷ readsHistory smallText (115 ∷ 116 ∷ 97 ∷ 116 ∷ 101 ∷ 61 ∷ 97 ∷ 10 ∷ 97 ∷ 99 ∷ 116 ∷ 61 ∷ 99 ∷ 10 ∷ 115 ∷ 116 ∷ 97 ∷ 116 ∷ 101 ∷ 61 ∷ 97 ∷ 10 ∷ 101 ∷ 110 ∷ 100 ∷ 61 ∷ 97 ∷ 10 ∷ []) 3 (refused 2 4)
+    ∷ readsHistory smallText (bytes "state=a\nact=c\nstate=a\nend=a\n") 3 (refused 2 4)
     -- state=a / act=c / state=a / act=c
-    ∷ readsHistory smallText (115 ∷ 116 ∷ 97 ∷ 116 ∷ 101 ∷ 61 ∷ 97 ∷ 10 ∷ 97 ∷ 99 ∷ 116 ∷ 61 ∷ 99 ∷ 10 ∷ 115 ∷ 116 ∷ 97 ∷ 116 ∷ 101 ∷ 61 ∷ 97 ∷ 10 ∷ 97 ∷ 99 ∷ 116 ∷ 61 ∷ 99 ∷ 10 ∷ []) 3 (refused 2 4)
+    ∷ readsHistory smallText (bytes "state=a\nact=c\nstate=a\nact=c\n") 3 (refused 2 4)
     -- bytes behind the end line
     -- state=a
     ∷ readsHistory smallText (withState (97 ∷ []) ++ (10 ∷ [])) 3 (refused 7 5)

@@ -1,6 +1,7 @@
 -- Worked examples of the command log (02, §2): an action absent from its act line is false, fluents are as before, and a caller's own
 -- values are not filled.
 -- Assumes nothing.
+use Rattle.basics.specs.Quoted.{bytes}
 use mathlib.Core.Bool.{Bool}
 use mathlib.Core.List.{List, [], _∷_, _++_}
 use Prim.Native.Nat.{ℕ}
@@ -19,112 +20,75 @@ use Rattle.worked_examples.specs.Examples.{Example, historySays, causalS
 -- M2, M3 and M4 with an empty act line
 abbrev pub m2Log : List ℕ
 m2Log =
-    -- state=-locked,-flowed
-    (115 ∷ 116 ∷ 97 ∷ 116 ∷ 101 ∷ 61 ∷ 45 ∷ 108 ∷ 111 ∷ 99 ∷ 107 ∷ 101 ∷ 100 ∷ 44 ∷ 45 ∷ 102 ∷ 108 ∷ 111 ∷ 119 ∷ 101 ∷ 100 ∷ 10 ∷ [])
-    -- act=
-    ++ (97 ∷ 99 ∷ 116 ∷ 61 ∷ 10 ∷ [])
-    -- state=-locked,flowed
-    ++ (115 ∷ 116 ∷ 97 ∷ 116 ∷ 101 ∷ 61 ∷ 45 ∷ 108 ∷ 111 ∷ 99 ∷ 107 ∷ 101 ∷ 100 ∷ 44 ∷ 102 ∷ 108 ∷ 111 ∷ 119 ∷ 101 ∷ 100 ∷ 10 ∷ [])
-    -- end=
-    ++ (101 ∷ 110 ∷ 100 ∷ 61 ∷ 10 ∷ [])
+    (bytes "state=-locked,-flowed\n")
+    ++ (bytes "act=\n")
+    ++ (bytes "state=-locked,flowed\n")
+    ++ (bytes "end=\n")
 
 abbrev pub m3Log : List ℕ
 m3Log =
-    -- state=locked,-flowed
-    (115 ∷ 116 ∷ 97 ∷ 116 ∷ 101 ∷ 61 ∷ 108 ∷ 111 ∷ 99 ∷ 107 ∷ 101 ∷ 100 ∷ 44 ∷ 45 ∷ 102 ∷ 108 ∷ 111 ∷ 119 ∷ 101 ∷ 100 ∷ 10 ∷ [])
-    -- act=
-    ++ (97 ∷ 99 ∷ 116 ∷ 61 ∷ 10 ∷ [])
-    -- state=-locked,-flowed
-    ++ (115 ∷ 116 ∷ 97 ∷ 116 ∷ 101 ∷ 61 ∷ 45 ∷ 108 ∷ 111 ∷ 99 ∷ 107 ∷ 101 ∷ 100 ∷ 44 ∷ 45 ∷ 102 ∷ 108 ∷ 111 ∷ 119 ∷ 101 ∷ 100 ∷ 10 ∷ [])
-    -- end=
-    ++ (101 ∷ 110 ∷ 100 ∷ 61 ∷ 10 ∷ [])
+    (bytes "state=locked,-flowed\n")
+    ++ (bytes "act=\n")
+    ++ (bytes "state=-locked,-flowed\n")
+    ++ (bytes "end=\n")
 
 abbrev pub m4Log : List ℕ
 m4Log =
-    -- state=-locked
-    (115 ∷ 116 ∷ 97 ∷ 116 ∷ 101 ∷ 61 ∷ 45 ∷ 108 ∷ 111 ∷ 99 ∷ 107 ∷ 101 ∷ 100 ∷ 10 ∷ [])
-    -- act=
-    ++ (97 ∷ 99 ∷ 116 ∷ 61 ∷ 10 ∷ [])
-    -- state=-locked,flowed
-    ++ (115 ∷ 116 ∷ 97 ∷ 116 ∷ 101 ∷ 61 ∷ 45 ∷ 108 ∷ 111 ∷ 99 ∷ 107 ∷ 101 ∷ 100 ∷ 44 ∷ 102 ∷ 108 ∷ 111 ∷ 119 ∷ 101 ∷ 100 ∷ 10 ∷ [])
-    -- end=
-    ++ (101 ∷ 110 ∷ 100 ∷ 61 ∷ 10 ∷ [])
+    (bytes "state=-locked\n")
+    ++ (bytes "act=\n")
+    ++ (bytes "state=-locked,flowed\n")
+    ++ (bytes "end=\n")
 
 -- both literals of an action
 abbrev pub bothText : List ℕ
 bothText =
-    -- state=-locked,-flowed
-    (115 ∷ 116 ∷ 97 ∷ 116 ∷ 101 ∷ 61 ∷ 45 ∷ 108 ∷ 111 ∷ 99 ∷ 107 ∷ 101 ∷ 100 ∷ 44 ∷ 45 ∷ 102 ∷ 108 ∷ 111 ∷ 119 ∷ 101 ∷ 100 ∷ 10 ∷ [])
-    -- act=reflow,-reflow
-    ++ (97 ∷ 99 ∷ 116 ∷ 61 ∷ 114 ∷ 101 ∷ 102 ∷ 108 ∷ 111 ∷ 119 ∷ 44 ∷ 45 ∷ 114 ∷ 101 ∷ 102 ∷ 108 ∷ 111 ∷ 119 ∷ 10 ∷ [])
-    -- state=-locked,flowed
-    ++ (115 ∷ 116 ∷ 97 ∷ 116 ∷ 101 ∷ 61 ∷ 45 ∷ 108 ∷ 111 ∷ 99 ∷ 107 ∷ 101 ∷ 100 ∷ 44 ∷ 102 ∷ 108 ∷ 111 ∷ 119 ∷ 101 ∷ 100 ∷ 10 ∷ [])
-    -- end=
-    ++ (101 ∷ 110 ∷ 100 ∷ 61 ∷ 10 ∷ [])
+    (bytes "state=-locked,-flowed\n")
+    ++ (bytes "act=reflow,-reflow\n")
+    ++ (bytes "state=-locked,flowed\n")
+    ++ (bytes "end=\n")
 
 abbrev pub bothOutput : List ℕ
 bothOutput =
     recipeCounts
-    -- answer=clash
-    ++ (97 ∷ 110 ∷ 115 ∷ 119 ∷ 101 ∷ 114 ∷ 61 ∷ 99 ∷ 108 ∷ 97 ∷ 115 ∷ 104 ∷ 10 ∷ [])
-    -- at=2
-    ++ (97 ∷ 116 ∷ 61 ∷ 50 ∷ 10 ∷ [])
-    -- causal=none
-    ++ (99 ∷ 97 ∷ 117 ∷ 115 ∷ 97 ∷ 108 ∷ 61 ∷ 110 ∷ 111 ∷ 110 ∷ 101 ∷ 10 ∷ [])
-    -- time=
-    ++ (116 ∷ 105 ∷ 109 ∷ 101 ∷ 61 ∷ 10 ∷ [])
-    -- item=
-    ++ (105 ∷ 116 ∷ 101 ∷ 109 ∷ 61 ∷ 10 ∷ [])
+    ++ (bytes "answer=clash\n")
+    ++ (bytes "at=2\n")
+    ++ (bytes "causal=none\n")
+    ++ (bytes "time=\n")
+    ++ (bytes "item=\n")
 
 -- two actions
 abbrev pub twoText : List ℕ
 twoText =
-    -- horizon=2
-    (104 ∷ 111 ∷ 114 ∷ 105 ∷ 122 ∷ 111 ∷ 110 ∷ 61 ∷ 50 ∷ 10 ∷ [])
-    -- fluent=a
-    ++ (102 ∷ 108 ∷ 117 ∷ 101 ∷ 110 ∷ 116 ∷ 61 ∷ 97 ∷ 10 ∷ [])
-    -- action=c
-    ++ (97 ∷ 99 ∷ 116 ∷ 105 ∷ 111 ∷ 110 ∷ 61 ∷ 99 ∷ 10 ∷ [])
-    -- action=d
-    ++ (97 ∷ 99 ∷ 116 ∷ 105 ∷ 111 ∷ 110 ∷ 61 ∷ 100 ∷ 10 ∷ [])
-    -- default=a
-    ++ (100 ∷ 101 ∷ 102 ∷ 97 ∷ 117 ∷ 108 ∷ 116 ∷ 61 ∷ 97 ∷ 10 ∷ [])
-    -- end=
-    ++ (101 ∷ 110 ∷ 100 ∷ 61 ∷ 10 ∷ [])
+    (bytes "horizon=2\n")
+    ++ (bytes "fluent=a\n")
+    ++ (bytes "action=c\n")
+    ++ (bytes "action=d\n")
+    ++ (bytes "default=a\n")
+    ++ (bytes "end=\n")
 
 -- a history of it, by what its first act line, its second state line and its second act line list
 abbrev pub twoHistory : List ℕ → List ℕ → List ℕ → List ℕ
 twoHistory first middle second =
-    -- state=a
-    (115 ∷ 116 ∷ 97 ∷ 116 ∷ 101 ∷ 61 ∷ 97 ∷ 10 ∷ [])
-    -- act=
-    ++ (97 ∷ 99 ∷ 116 ∷ 61 ∷ [])
+    (bytes "state=a\n")
+    ++ (bytes "act=")
     ++ first
     ++ (10 ∷ [])
-    -- state=
-    ++ (115 ∷ 116 ∷ 97 ∷ 116 ∷ 101 ∷ 61 ∷ [])
+    ++ (bytes "state=")
     ++ middle
     ++ (10 ∷ [])
-    -- act=
-    ++ (97 ∷ 99 ∷ 116 ∷ 61 ∷ [])
+    ++ (bytes "act=")
     ++ second
     ++ (10 ∷ [])
-    -- state=a
-    ++ (115 ∷ 116 ∷ 97 ∷ 116 ∷ 101 ∷ 61 ∷ 97 ∷ 10 ∷ [])
-    -- end=
-    ++ (101 ∷ 110 ∷ 100 ∷ 61 ∷ 10 ∷ [])
+    ++ (bytes "state=a\n")
+    ++ (bytes "end=\n")
 
 -- what is printed where the first act line lists one of them and the second none
 abbrev pub twoOutput : List ℕ
 twoOutput =
-    -- horizon=2
-    (104 ∷ 111 ∷ 114 ∷ 105 ∷ 122 ∷ 111 ∷ 110 ∷ 61 ∷ 50 ∷ 10 ∷ [])
-    -- atoms=7
-    ++ (97 ∷ 116 ∷ 111 ∷ 109 ∷ 115 ∷ 61 ∷ 55 ∷ 10 ∷ [])
-    -- rules=13
-    ++ (114 ∷ 117 ∷ 108 ∷ 101 ∷ 115 ∷ 61 ∷ 49 ∷ 51 ∷ 10 ∷ [])
-    -- words=52
-    ++ (119 ∷ 111 ∷ 114 ∷ 100 ∷ 115 ∷ 61 ∷ 53 ∷ 50 ∷ 10 ∷ [])
+    (bytes "horizon=2\n")
+    ++ (bytes "atoms=7\n")
+    ++ (bytes "rules=13\n")
+    ++ (bytes "words=52\n")
     ++ passedLines
 
 -- false actions are listed at time 1 alone

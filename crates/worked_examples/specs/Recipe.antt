@@ -1,5 +1,6 @@
 -- What the description reader is left with of 01's full recipe.
 -- Assumes nothing.
+use Rattle.basics.specs.Quoted.{bytes}
 use mathlib.Core.List.{List, [], _∷_, _++_}
 use Prim.Native.Nat.{ℕ}
 use Rattle.action_language.specs.Examples.{recipeLaws}
@@ -7,11 +8,11 @@ use Rattle.description_reader.specs.LineSteps.{Draft}
 
 -- locked, flowed
 abbrev pub recipeFluents : List (List ℕ)
-recipeFluents = (108 ∷ 111 ∷ 99 ∷ 107 ∷ 101 ∷ 100 ∷ []) ∷ (102 ∷ 108 ∷ 111 ∷ 119 ∷ 101 ∷ 100 ∷ []) ∷ []
+recipeFluents = (bytes "locked") ∷ (bytes "flowed") ∷ []
 
 -- reflow
 abbrev pub recipeActions : List (List ℕ)
-recipeActions = (114 ∷ 101 ∷ 102 ∷ 108 ∷ 111 ∷ 119 ∷ []) ∷ []
+recipeActions = (bytes "reflow") ∷ []
 
 -- what the description reader is left with
 abbrev pub recipeDraft : Draft

@@ -3,6 +3,7 @@
 -- laws, of the command log and of letter case one by one; the same recipes and programs by the completion formulas;
 -- histories with atoms of both faults; and histories cut and joined.
 -- Assumes nothing.
+use Rattle.basics.specs.Quoted.{bytes}
 use mathlib.Core.List.{List, [], _∷_, _++_, map}
 use Prim.Native.Nat.{ℕ}
 use lib.ListN.{replicate}
@@ -121,10 +122,10 @@ textExamples =
     ∷ readsHistory recipeText m5Text 5 (answered (3 ∷ 2 ∷ 1 ∷ 2 ∷ 1 ∷ []))
     ∷ readsHistory recipeText otherOrderText 5 (answered (3 ∷ 2 ∷ 1 ∷ 2 ∷ 1 ∷ []))
     -- the names shown: the part where each was declared; an empty one for a number that nothing declares
-    ∷ showsFluent recipeText 0 (108 ∷ 111 ∷ 99 ∷ 107 ∷ 101 ∷ 100 ∷ [])
-    ∷ showsFluent recipeText 1 (102 ∷ 108 ∷ 111 ∷ 119 ∷ 101 ∷ 100 ∷ [])
+    ∷ showsFluent recipeText 0 (bytes "locked")
+    ∷ showsFluent recipeText 1 (bytes "flowed")
     ∷ showsFluent recipeText 2 []
-    ∷ showsAction recipeText 0 (114 ∷ 101 ∷ 102 ∷ 108 ∷ 111 ∷ 119 ∷ [])
+    ∷ showsAction recipeText 0 (bytes "reflow")
     ∷ showsAction recipeText 1 []
     -- the same texts are written for what was read
     ∷ writes 1 recipeFluents recipeActions (λ i. inFull) asDeclared recipeLaws recipeText
