@@ -16,7 +16,7 @@ use Rattle.basics.proofs.Tests.{and-iff, not-iff}
 use Rattle.basics.proofs.Loops.{to-the-end}
 use Rattle.logic_programs.specs.Literals.{Lits}
 use Rattle.logic_programs.specs.Words.{ruleSize}
-use Rattle.answer_sets.specs.Waiting.{outside, waitsFor, headWordAt, plainAt, Waiting}
+use Rattle.answer_sets.specs.Internal.{outside, waitsFor, headWordAt, plainAt, Waiting}
 
 -- the search for it, element by element
 module _ (Y : Lits) (cs : List ℕ) (i : ℕ) {R : ℕ} where

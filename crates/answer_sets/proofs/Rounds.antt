@@ -23,7 +23,7 @@ use Rattle.rule_tables.specs.Marks.{marked}
 use Rattle.rule_tables.proofs.Bits.{withMark, in-clear, in-stored, length-with}
 use Rattle.answer_sets.specs.Verdicts.{round, rounds}
 use Rattle.answer_sets.specs.Derived.{Derived}
-use Rattle.answer_sets.specs.Waiting.{headWordAt, plainAt, heads, waitsFor, Waiting, EachWaiting, Begun, Made}
+use Rattle.answer_sets.specs.Internal.{headWordAt, plainAt, heads, waitsFor, Waiting, EachWaiting, Begun, Made}
 use Rattle.answer_sets.proofs.Least.{HeadsBelow, rounds-within, rounds-below, least-closed}
 use Rattle.answer_sets.proofs.Sets.{all-within, within-subset}
 use Rattle.answer_sets.proofs.Outside.{wordsFrom, settled, still}

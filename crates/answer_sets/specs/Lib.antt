@@ -3,5 +3,5 @@ pub mod Verdicts
 pub mod Answers
 pub mod Demand2
 pub mod Derived
-pub mod Waiting
+pub mod Internal
 pub mod Examples

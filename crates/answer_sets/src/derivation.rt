@@ -11,7 +11,7 @@ ghost use Rattle.logic_programs.specs.Words.{rulesOf, badRule};
 ghost use Rattle.rule_tables.specs.Marks.{marked};
 ghost use Rattle.answer_sets.specs.Verdicts.{isBroken};
 ghost use Rattle.answer_sets.specs.Derived.{Derived};
-ghost use Rattle.answer_sets.specs.Waiting.{EachWaiting, Made, Roomy};
+ghost use Rattle.answer_sets.specs.Internal.{EachWaiting, Made, Roomy};
 
 // The marks after a round, and how many rules still wait.
 struct Outcome {

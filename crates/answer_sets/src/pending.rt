@@ -14,7 +14,7 @@ ghost use Rattle.logic_programs.specs.Words.{ruleSize, rulesOf};
 ghost use Rattle.rule_tables.specs.Marks.{marked};
 ghost use Rattle.rule_tables.specs.Internal.{Sound};
 ghost use Rattle.answer_sets.specs.Verdicts.{isBroken};
-ghost use Rattle.answer_sets.specs.Waiting.{outside, waitsFor, Begun, Roomy};
+ghost use Rattle.answer_sets.specs.Internal.{outside, waitsFor, Begun, Roomy};
 
 // Room for the starts of 256 rules, and for those of 4,096.
 pub(crate) fn few_starts() -> [u32; 256]

@@ -1,4 +1,5 @@
--- Internal: what the crate's own functions promise each other. No public promise rests on it; a reader may pass it over.
+-- Internal: what the crate's own functions promise each other, and what `read_alone` promises the history reader. No promise of
+-- `read_description`, nor of the history reader, rests on it; a reader may pass it over.
 -- Assumes nothing.
 use mathlib.Core.Path.{_≡_}
 use mathlib.Core.Bool.{Bool, false, cond, _&&_, _||_}

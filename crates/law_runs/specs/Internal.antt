@@ -1,6 +1,5 @@
--- Internal: what the crate's own functions promise each other. No public promise rests on it; a reader may pass it over.
--- It says what is gathered from a run of any length into 64 places, and what is stored back; the functions over a lent run, one crate
--- above, rest their walks on it and promise nothing in its words.
+-- Internal: what `gather`, `fitting` and `scatter` promise the functions over a lent run, one crate above: what is gathered from a
+-- run of any length into 64 places, and what is stored back. Those functions promise nothing in its words; a reader may pass it over.
 -- Assumes nothing.
 use mathlib.Core.List.{List}
 use Prim.Native.Nat.{ℕ, zero, suc, min}

@@ -1,5 +1,5 @@
 // The functions over a lent run of law records, one after the other: reads a description and its history from standard input, and
-// prints what each of them answers, and the words that are left in the table.
+// prints what each of them answers, the words that are left in the table, and names as they are shown.
 use action_language::Description;
 use action_language::Law;
 use causal_reading::Reading;
@@ -110,6 +110,14 @@ fn show_laws(d: Description, laws: [Law; 64], values: &[u8]) {
     }
 }
 
+// Names as they were declared; a number that nothing declares shows an empty part.
+fn show_names(text: &[u8]) {
+    print_word(b"fluent=", shown_names::fluent_name(text, 0));
+    print_word(b"fluent=", shown_names::fluent_name(text, 2));
+    print_word(b"action=", shown_names::action_name(text, 0));
+    print_word(b"action=", shown_names::action_name(text, 1));
+}
+
 // The whole input is read through a lent run, as check does it.
 fn show(input: &[u8]) {
     let whole = inputs::read_input(input);
@@ -131,4 +139,5 @@ fn main() {
     let mut input = io::large_buffer();
     let got = io::read_full(STDIN_FILENO, &mut input);
     show(&input[..got]);
+    show_names(&input[..got]);
 }

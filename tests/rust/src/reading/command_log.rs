@@ -314,7 +314,7 @@ fn a_whole_input_is_read_causally_as_filled() {
 /// 9 actions: 46. A step's laws have 4 + 5 + 4 * 5 + 4 + 4 = 37 words, a free atom's rules 8: 3 * 37 + 11 * 8 = 199.
 #[test]
 fn the_log_recipe_file_passes() {
-    let file = include_bytes!("../../../recipes/log.txt");
+    let file = include_bytes!("../../../../examples/log.txt");
     let wanted = "horizon=3\natoms=17\nrules=46\nwords=199\nanswer=passes\nat=\ncausal=path\ntime=\nitem=\n";
     assert_eq!(String::from_utf8(output(file)).unwrap(), wanted);
 }

@@ -333,7 +333,7 @@ fn a_name_is_shown_as_it_was_declared() {
 /// 5 atoms, 12 rules and 53 words, as in the contract's recipe, whose spelling differs in capitals alone.
 #[test]
 fn the_capitals_recipe_file_passes() {
-    let file = include_str!("../../../recipes/capitals.txt");
+    let file = include_str!("../../../../examples/capitals.txt");
     assert_eq!(file.to_ascii_lowercase(), format!("{FULL_DESCRIPTION}{FULL_HISTORY}"));
     let wanted = "horizon=1\natoms=5\nrules=12\nwords=53\nanswer=passes\nat=\ncausal=path\ntime=\nitem=\n";
     assert_eq!(String::from_utf8(output(file.as_bytes())).unwrap(), wanted);

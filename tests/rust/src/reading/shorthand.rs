@@ -114,7 +114,7 @@ fn the_short_full_recipe_prints_what_the_long_one_prints() {
 
 #[test]
 fn the_short_recipe_file_is_this_one() {
-    let file = include_str!("../../../recipes/full_short.txt");
+    let file = include_str!("../../../../examples/full_short.txt");
     assert_eq!(file, [SHORT_DESCRIPTION, FULL_HISTORY].concat());
 }
 
