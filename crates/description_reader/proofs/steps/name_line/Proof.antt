@@ -49,8 +49,8 @@ with-name-requires c κs =
     let a = p .before .before .before .before .before .before in
     below-32 (a .args .action) _ _ (a .pre .1 .few) (a .pre .1 .actions) (place p)
 
-add-reading : tie.Need-add-reading
-add-reading c = search needs
+add-draft : tie.Need-add-draft
+add-draft c = search needs
 
 returns-3 : tie.Need-returns-3
 unfolding stepOf
@@ -89,6 +89,6 @@ name-line-spec =
     refused-requires-2
     returns-2
     with-name-requires
-    add-reading
+    add-draft
     returns-3
     returns-4)
