@@ -44,7 +44,7 @@ ABOUT = """\
 Made by docs/promises.py from the sources; do not edit.
 
 This page has every function open to callers, {functions} in {crates} crates, with what it promises: {clauses} clauses.
-Each is proved of every input. None of these functions has a `requires`: a caller owes them nothing.
+Each is proved of every input. {owed}
 
 ## How to read a clause
 
@@ -59,7 +59,10 @@ Each is proved of every input. None of these functions has a `requires`: a calle
 
 A function with several clauses has a name for each. The name of a field of the result says what that field is;
 `demand_3_f` says `demand_3` of the field f. The others say:
+
 """
+
+NOTHING_OWED = "None of these functions has a `requires`: a caller owes them nothing."
 
 FUNCTION = re.compile(r'^ *pub (?:(?:const|unsafe|extern "C") )*fn (\w+)', re.M)
 CLAUSE = re.compile(r"\s*(requires|ensures|ghost)\b(?: (\w+))? *(?=\{)")
@@ -238,14 +241,18 @@ def shown(function, mark):
     return lines
 
 
+def owes(function):
+    """Whether a function asks something of its callers."""
+    return any(clause.kind == "requires" for clause in function.clauses)
+
+
 def faults(functions):
     """What no function open to callers may have: a `requires`, or clauses that can't be told apart by their names."""
     found = []
     for function in functions:
-        found += [f"{function.name} has a requires" for clause in function.clauses if clause.kind == "requires"]
-        if sum(clause.kind == "ensures" for clause in function.clauses) < 2:
-            continue
-        for clause in function.clauses:
+        found += [f"{function.name} has a requires"] if owes(function) else []
+        promised = [clause for clause in function.clauses if clause.kind == "ensures"]
+        for clause in promised if len(promised) > 1 else []:
             said = next((name for name in NAMES if f"{clause.name}_".startswith(f"{name}_")), "")
             field = clause.name[len(said) :].lstrip("_")
             if not clause.name or field and f" .{field}" not in clause.text:
@@ -253,13 +260,23 @@ def faults(functions):
     return found
 
 
-def page(rooms, functions):
+def top(functions):
+    """The page's beginning: how many functions there are, how to read a clause, and what the names say."""
     every = [function for some in functions.values() for function in some]
-    clauses = sum(len(function.clauses) for function in every)
-    crates = sum(bool(some) for some in functions.values())
-    lines = [ABOUT.format(functions=len(every), crates=crates, clauses=clauses)]
+    owing = [function.name for function in every if owes(function)]
+    lines = ABOUT.format(
+        functions=len(every),
+        crates=sum(bool(some) for some in functions.values()),
+        clauses=sum(len(function.clauses) for function in every),
+        owed=f"These have a `requires`: {', '.join(owing)}." if owing else NOTHING_OWED,
+    ).splitlines()
     lines += ["| Name | What the clause says |", "|---|---|"]
-    lines += [f"| `{name}` | {what} |" for name, what in NAMES.items()] + [""]
+    return lines + [f"| `{name}` | {what} |" for name, what in NAMES.items()] + [""]
+
+
+def page(rooms, functions):
+    """The whole page; where there are rooms, they are headings above the crates'."""
+    lines = top(functions)
     mark = "###" if any(heading for heading, _ in rooms) else "##"
     for heading, crates in rooms:
         if heading:
@@ -279,14 +296,14 @@ def main():
         sys.exit(__doc__)
     rooms = read_rooms()
     functions = {name: open_functions(name) for _, crates in rooms for name, _ in crates}
-    wrong = faults([function for some in functions.values() for function in some])
-    if wrong:
-        sys.exit("\n".join(wrong))
     made = page(rooms, functions)
+    wrong = faults([function for some in functions.values() for function in some])
     if not sys.argv[1:]:
         PAGE.write_text(made)
     elif not PAGE.is_file() or PAGE.read_text() != made:
-        sys.exit("docs/PROMISES.md: not what the sources say; run docs/promises.py")
+        wrong.append("docs/PROMISES.md: not what the sources say; run docs/promises.py")
+    if wrong:
+        sys.exit("\n".join(wrong))
 
 
 if __name__ == "__main__":
