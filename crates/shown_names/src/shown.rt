@@ -17,19 +17,19 @@ pub(crate) fn name(text: &[u8], action: bool, number: usize) -> &[u8]
     if 0 < state.refused {
         return lines::no_part(text);
     }
-    let reading = state.reading;
-    let names = reading.names;
+    let draft = state.draft;
+    let names = draft.names;
     if action {
         if 8 <= number {
             return lines::no_part(text);
         }
-        let place = reading.fluents + number;
+        let place = draft.fluents + number;
         if names.count <= place {
             return lines::no_part(text);
         }
         return lines::value_of_line(text, place + 1);
     }
-    if reading.fluents <= number {
+    if draft.fluents <= number {
         return lines::no_part(text);
     }
     lines::value_of_line(text, number + 1)

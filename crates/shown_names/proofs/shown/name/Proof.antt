@@ -25,7 +25,7 @@ abbrev end-at : tie.After-names → Ending
 end-at n = n .before .before .before .before .before .read-alone .result
 
 abbrev draft-at : tie.After-names → Draft
-draft-at n = draftOf (text-at n) (end-at n .state .reading)
+draft-at n = draftOf (text-at n) (end-at n .state .draft)
 
 abbrev rest-at : tie.After-names → List ℕ
 rest-at n = drop (end-at n .at) (text-at n)
@@ -35,8 +35,8 @@ is-read n =
     sym (n .before .before .before .before .before .read-alone .ensures .0) ∙ ends-read (text-at n) (end-at n) (n .before .before .if1 .left)
 
 -- how many names there are
-counted : (n : tie.After-names) → length (draft-at n .names) ≡ end-at n .state .reading .names .count
-counted n = spelled-length (text-at n) (end-at n .state .reading .names)
+counted : (n : tie.After-names) → length (draft-at n .names) ≡ end-at n .state .draft .names .count
+counted n = spelled-length (text-at n) (end-at n .state .draft .names)
 
 read-alone-requires : tie.Need-read-alone-requires
 read-alone-requires c κs = tt
@@ -93,7 +93,7 @@ returns-4 c =
     let n = c .before .before .before .before .before .before in
     let r = n .before .before .before .before .before in
     let a = r .before .before .args in
-    let i = end-at n .state .reading .fluents + a .number in
+    let i = end-at n .state .draft .fluents + a .number in
     let below : i < length (draft-at n .names) = omega (arith, counted n, c .before .if4 .left) in
     shown-part (a .text) (c .value-of-line .result) (a .action) (a .number) _ (is-read n) (getD (draft-at n .names) i []) _
     (part-action (text-at n) (a .action) (draft-at n) (rest-at n) (end-at n .line) (a .number) (c .before .before .before .before .before .if2 .taken) below)
