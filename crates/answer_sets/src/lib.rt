@@ -20,8 +20,8 @@ pub enum Answer {
 
 // The answer to value bytes, one an atom, and the words of a rule table. Nothing that is lent changes.
 pub fn check_set(values: &[u8], table: &[u16]) -> Answer
-    ensures { λ r. ⌜ replyOf r ≡ answer (now (values .entry)) (now (table .entry)) ⌝ }
-    ensures { λ r. ⌜ Demand2 (now (values .entry)) (now (table .entry)) (replyOf r) ⌝ }
+    ensures answers { λ r. ⌜ replyOf r ≡ answer (now (values .entry)) (now (table .entry)) ⌝ }
+    ensures demand_2 { λ r. ⌜ Demand2 (now (values .entry)) (now (table .entry)) (replyOf r) ⌝ }
 {
     let atoms = values.len();
     if 1024 < atoms {

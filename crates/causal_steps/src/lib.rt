@@ -32,10 +32,10 @@ pub fn try_laws(
     done: &[u8],
     new: &[u8],
 ) -> Tried
-    ensures { λ r. ⌜ placeOf (r .contradicting) ≡ first (contradicts
+    ensures contradicting { λ r. ⌜ placeOf (r .contradicting) ≡ first (contradicts
         (appliesInStep n (read (now (old .entry))) (read (now (done .entry))) (read (now (new .entry))))
         (read (now (new .entry)))) 0 (take count laws) ⌝ }
-    ensures { λ r. ⌜ MarksOf (caused n (read (now (old .entry))) (read (now (done .entry))) (read (now (new .entry)))
+    ensures marks { λ r. ⌜ MarksOf (caused n (read (now (old .entry))) (read (now (done .entry))) (read (now (new .entry)))
         (before (contradicts
         (appliesInStep n (read (now (old .entry))) (read (now (done .entry))) (read (now (new .entry))))
         (read (now (new .entry)))) (take count laws))) (r .marks) ⌝ }

@@ -74,8 +74,8 @@ fn judge(values: &[u8], table: &[u16]) -> Answer
 
 // The answer to value bytes, one an atom, and the words of a rule table. Nothing that is lent changes.
 pub fn check_completion(values: &[u8], table: &[u16]) -> Answer
-    ensures { λ r. ⌜ replyOf r ≡ answer (now (values .entry)) (now (table .entry)) ⌝ }
-    ensures { λ r. ⌜ SaysFormulas (now (values .entry)) (now (table .entry)) (replyOf r) ⌝ }
+    ensures answers { λ r. ⌜ replyOf r ≡ answer (now (values .entry)) (now (table .entry)) ⌝ }
+    ensures by_formulas { λ r. ⌜ SaysFormulas (now (values .entry)) (now (table .entry)) (replyOf r) ⌝ }
 {
     let result = test(values, table);
     match result {
@@ -86,8 +86,8 @@ pub fn check_completion(values: &[u8], table: &[u16]) -> Answer
 
 // The same with a level for each literal code, which show that the table is tight: then it holds exactly if the engine passes.
 pub fn check_by_levels(values: &[u8], table: &[u16], levels: &[u16]) -> Answer
-    ensures { λ r. ⌜ replyOf r ≡ answerByLevels (now (values .entry)) (now (table .entry)) (now (levels .entry)) ⌝ }
-    ensures { λ r. ⌜ SaysLevels (now (values .entry)) (now (table .entry)) (now (levels .entry)) (replyOf r) ⌝ }
+    ensures answers { λ r. ⌜ replyOf r ≡ answerByLevels (now (values .entry)) (now (table .entry)) (now (levels .entry)) ⌝ }
+    ensures by_levels { λ r. ⌜ SaysLevels (now (values .entry)) (now (table .entry)) (now (levels .entry)) (replyOf r) ⌝ }
 {
     let result = test(values, table);
     match result {

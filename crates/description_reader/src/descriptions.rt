@@ -167,8 +167,8 @@ fn no_laws() -> [Law; 64] {
 
 // Reads a description where no law run counts, for its names.
 pub fn read_alone(text: &[u8]) -> Ending
-    ensures { λ r. ⌜ takenOf (now (text .entry)) r ≡ described 64 (now (text .entry)) ⌝ }
-    ensures { λ r. ⌜ Limits (r .state .draft) ⌝ }
+    ensures answers { λ r. ⌜ takenOf (now (text .entry)) r ≡ described 64 (now (text .entry)) ⌝ }
+    ensures bounded { λ r. ⌜ Limits (r .state .draft) ⌝ }
 {
     read(text, no_laws(), 64)
 }

@@ -31,10 +31,10 @@ pub struct Described {
 
 // Reads a description's text. Laws are counted up to those lent, at most 64; on a refusal the laws are those handed in.
 pub fn read_description(text: &[u8], laws: [Law; 64], lent: usize) -> Described
-    ensures { λ r. ⌜ replyOf (r .answer) ≡ replied (now (text .entry)) (described lent (now (text .entry))) ⌝ }
-    ensures { λ r. ⌜ r .description ≡ recordOf (described lent (now (text .entry))) ⌝ }
-    ensures { λ r. ⌜ r .run .laws ≡ lawsLeft (described lent (now (text .entry))) laws ⌝ }
-    ensures { λ r. ⌜ r .run .count ≡ recordOf (described lent (now (text .entry))) .laws ⌝ }
+    ensures answers { λ r. ⌜ replyOf (r .answer) ≡ replied (now (text .entry)) (described lent (now (text .entry))) ⌝ }
+    ensures description { λ r. ⌜ r .description ≡ recordOf (described lent (now (text .entry))) ⌝ }
+    ensures laws { λ r. ⌜ r .run .laws ≡ lawsLeft (described lent (now (text .entry))) laws ⌝ }
+    ensures count { λ r. ⌜ r .run .count ≡ recordOf (described lent (now (text .entry))) .laws ⌝ }
 {
     let end = descriptions::read(text, laws, lent);
     let state = end.state;

@@ -25,10 +25,10 @@ pub struct ReadRun {
 
 // Lends a run by value to the description reader, and hands it out as the reader left it.
 pub fn read_run(text: &[u8], laws: [Law; 64]) -> ReadRun
-    ensures { λ r. ⌜ replyOf (r .read .answer) ≡ replied (now (text .entry)) (described 64 (now (text .entry))) ⌝ }
-    ensures { λ r. ⌜ r .read .description ≡ recordOf (described 64 (now (text .entry))) ⌝ }
-    ensures { λ r. ⌜ r .laws ≡ lawsLeft (described 64 (now (text .entry))) laws ⌝ }
-    ensures { λ r. ⌜ TakesAccepted (replyOf (r .read .answer)) (r .read .description) (r .laws) ⌝ }
+    ensures answers { λ r. ⌜ replyOf (r .read .answer) ≡ replied (now (text .entry)) (described 64 (now (text .entry))) ⌝ }
+    ensures description { λ r. ⌜ r .read .description ≡ recordOf (described 64 (now (text .entry))) ⌝ }
+    ensures laws { λ r. ⌜ r .laws ≡ lawsLeft (described 64 (now (text .entry))) laws ⌝ }
+    ensures accepted { λ r. ⌜ TakesAccepted (replyOf (r .read .answer)) (r .read .description) (r .laws) ⌝ }
 {
     let mut laws = laws;
     let read = lent_laws::read_description(text, &mut laws);
@@ -37,9 +37,9 @@ pub fn read_run(text: &[u8], laws: [Law; 64]) -> ReadRun
 
 // Lends a run by value to be translated into the table.
 pub fn translate_run(d: Description, laws: [Law; 64], table: &mut [u16]) -> Translated
-    ensures { λ r. ⌜ outcomeOf r ≡ outcome d laws 64 (length (now (table .entry))) ⌝ }
-    ensures { λ _. ⌜ now (table .exit) ≡ tableAfter d laws 64 (now (table .entry)) ⌝ }
-    ensures { λ _. ⌜ TranslatesExactly d laws 64 (now (table .entry)) (now (table .exit)) ⌝ }
+    ensures answers { λ r. ⌜ outcomeOf r ≡ outcome d laws 64 (length (now (table .entry))) ⌝ }
+    ensures leaves { λ _. ⌜ now (table .exit) ≡ tableAfter d laws 64 (now (table .entry)) ⌝ }
+    ensures demand_3 { λ _. ⌜ TranslatesExactly d laws 64 (now (table .entry)) (now (table .exit)) ⌝ }
 {
     lent_laws::translate(d, &laws, table)
 }
@@ -53,12 +53,12 @@ pub struct Judged {
 // Lends a run by value to be checked against a history, and then to be read with it. The table is left as the check leaves it: with
 // the description's translation, or as it was where the check refuses.
 pub fn judge(d: Description, laws: [Law; 64], values: &[u8], table: &mut [u16]) -> Judged
-    ensures { λ r. ⌜ Checks.replyOf (r .checked) ≡ Checks.checked d laws 64 (now (values .entry)) (length (now (table .entry))) ⌝ }
-    ensures { λ r. ⌜ Readings.replyOf (r .reading) ≡ Readings.reading d laws 64 (now (values .entry)) ⌝ }
-    ensures { λ _. ⌜ now (table .exit) ≡ Checks.tableAfter d laws 64 (now (values .entry)) (now (table .entry)) ⌝ }
-    ensures { λ r. ⌜ PassesExactly d laws 64 (now (values .entry)) (length (now (table .entry))) (r .checked) ⌝ }
-    ensures { λ r. ⌜ PathExactly d laws 64 (now (values .entry)) (r .reading) ⌝ }
-    ensures { λ r. ⌜ NamesFault d laws 64 (now (values .entry)) (r .reading) ⌝ }
+    ensures checked { λ r. ⌜ Checks.replyOf (r .checked) ≡ Checks.checked d laws 64 (now (values .entry)) (length (now (table .entry))) ⌝ }
+    ensures reading { λ r. ⌜ Readings.replyOf (r .reading) ≡ Readings.reading d laws 64 (now (values .entry)) ⌝ }
+    ensures leaves { λ _. ⌜ now (table .exit) ≡ Checks.tableAfter d laws 64 (now (values .entry)) (now (table .entry)) ⌝ }
+    ensures demand_3_checked { λ r. ⌜ PassesExactly d laws 64 (now (values .entry)) (length (now (table .entry))) (r .checked) ⌝ }
+    ensures demand_3_reading { λ r. ⌜ PathExactly d laws 64 (now (values .entry)) (r .reading) ⌝ }
+    ensures fault { λ r. ⌜ NamesFault d laws 64 (now (values .entry)) (r .reading) ⌝ }
 {
     let run: &[Law] = &laws;
     let checked = lent_laws::check_history(d, run, values, table);

@@ -54,8 +54,8 @@ pub fn check_history(
     values: &[u8],
     table: &mut [u16],
 ) -> Checked
-    ensures { λ r. ⌜ replyOf r ≡ checked d laws lent (now (values .entry)) (length (now (table .entry))) ⌝ }
-    ensures { λ _. ⌜ now (table .exit) ≡ tableAfter d laws lent (now (values .entry)) (now (table .entry)) ⌝ }
+    ensures answers { λ r. ⌜ replyOf r ≡ checked d laws lent (now (values .entry)) (length (now (table .entry))) ⌝ }
+    ensures leaves { λ _. ⌜ now (table .exit) ≡ tableAfter d laws lent (now (values .entry)) (now (table .entry)) ⌝ }
 {
     let measured = translation::measure(d, laws, lent, table.len());
     match measured {

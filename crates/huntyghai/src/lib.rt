@@ -23,9 +23,9 @@ ghost use Rattle.huntyghai.specs.CodeLists.{CodeAmong};
 // What the program check prints for an input, as far as the buffer goes; the result is the whole output's length, at most 400.
 #[no_mangle]
 pub extern "C" fn huntyghai_report(input: &[u8], out: &mut [u8]) -> usize
-    ensures { λ r. ⌜ (r ≡ length (output (now (input .entry)))) × (now (out .exit) ≡ sets (now (out .entry)) 0 (output (now (input .entry)))) ⌝ }
-    ensures { λ r. ⌜ r ≤ 400 ⌝ }
-    ensures { λ _. ⌜ Program (now (input .entry)) (output (now (input .entry))) ⌝ }
+    ensures writes { λ r. ⌜ (r ≡ length (output (now (input .entry)))) × (now (out .exit) ≡ sets (now (out .entry)) 0 (output (now (input .entry)))) ⌝ }
+    ensures bounded { λ r. ⌜ r ≤ 400 ⌝ }
+    ensures printed { λ _. ⌜ Program (now (input .entry)) (output (now (input .entry))) ⌝ }
 {
     report::report(input, out)
 }
@@ -33,9 +33,9 @@ pub extern "C" fn huntyghai_report(input: &[u8], out: &mut [u8]) -> usize
 // The engine's answer to values and a table.
 #[no_mangle]
 pub extern "C" fn huntyghai_check_set(values: &[u8], table: &[u16]) -> u64
-    ensures { λ r. ⌜ r ≡ replyCode verdictCode (answer (now (values .entry)) (now (table .entry))) ⌝ }
-    ensures { λ r. ⌜ SetNumbered (now (values .entry)) (now (table .entry)) r ⌝ }
-    ensures { λ r. ⌜ CodeAmong (10 ∷ 11 ∷ 12 ∷ 64 ∷ 65 ∷ 66 ∷ 67 ∷ []) r ⌝ }
+    ensures answers { λ r. ⌜ r ≡ replyCode verdictCode (answer (now (values .entry)) (now (table .entry))) ⌝ }
+    ensures demand_2 { λ r. ⌜ SetNumbered (now (values .entry)) (now (table .entry)) r ⌝ }
+    ensures possible_codes { λ r. ⌜ CodeAmong (10 ∷ 11 ∷ 12 ∷ 64 ∷ 65 ∷ 66 ∷ 67 ∷ []) r ⌝ }
 {
     answer_codes::of_answer(answer_sets::check_set(values, table))
 }
@@ -43,9 +43,9 @@ pub extern "C" fn huntyghai_check_set(values: &[u8], table: &[u16]) -> u64
 // The answer by the completion formulas to values and a table.
 #[no_mangle]
 pub extern "C" fn huntyghai_check_completion(values: &[u8], table: &[u16]) -> u64
-    ensures { λ r. ⌜ r ≡ replyCode formulaCode (completed.answer (now (values .entry)) (now (table .entry))) ⌝ }
-    ensures { λ r. ⌜ CompletionNumbered (now (values .entry)) (now (table .entry)) r ⌝ }
-    ensures { λ r. ⌜ CodeAmong (10 ∷ 11 ∷ 12 ∷ 65 ∷ 68 ∷ 72 ∷ 73 ∷ []) r ⌝ }
+    ensures answers { λ r. ⌜ r ≡ replyCode formulaCode (completed.answer (now (values .entry)) (now (table .entry))) ⌝ }
+    ensures by_formulas { λ r. ⌜ CompletionNumbered (now (values .entry)) (now (table .entry)) r ⌝ }
+    ensures possible_codes { λ r. ⌜ CodeAmong (10 ∷ 11 ∷ 12 ∷ 65 ∷ 68 ∷ 72 ∷ 73 ∷ []) r ⌝ }
 {
     answer_codes::of_completion(completion::check_completion(values, table))
 }
@@ -53,9 +53,9 @@ pub extern "C" fn huntyghai_check_completion(values: &[u8], table: &[u16]) -> u6
 // The same with a level for each literal code.
 #[no_mangle]
 pub extern "C" fn huntyghai_check_by_levels(values: &[u8], table: &[u16], levels: &[u16]) -> u64
-    ensures { λ r. ⌜ r ≡ replyCode formulaCode (completed.answerByLevels (now (values .entry)) (now (table .entry)) (now (levels .entry))) ⌝ }
-    ensures { λ r. ⌜ LevelsNumbered (now (values .entry)) (now (table .entry)) (now (levels .entry)) r ⌝ }
-    ensures { λ r. ⌜ CodeAmong (10 ∷ 11 ∷ 12 ∷ 13 ∷ 65 ∷ 68 ∷ 72 ∷ 73 ∷ []) r ⌝ }
+    ensures answers { λ r. ⌜ r ≡ replyCode formulaCode (completed.answerByLevels (now (values .entry)) (now (table .entry)) (now (levels .entry))) ⌝ }
+    ensures by_levels { λ r. ⌜ LevelsNumbered (now (values .entry)) (now (table .entry)) (now (levels .entry)) r ⌝ }
+    ensures possible_codes { λ r. ⌜ CodeAmong (10 ∷ 11 ∷ 12 ∷ 13 ∷ 65 ∷ 68 ∷ 72 ∷ 73 ∷ []) r ⌝ }
 {
     answer_codes::of_completion(completion::check_by_levels(values, table, levels))
 }
@@ -63,10 +63,10 @@ pub extern "C" fn huntyghai_check_by_levels(values: &[u8], table: &[u16], levels
 // Translates the description at the text's start.
 #[no_mangle]
 pub extern "C" fn huntyghai_translate(text: &[u8], table: &mut [u16]) -> u64
-    ensures { λ r. ⌜ r ≡ translatedText (now (text .entry)) (length (now (table .entry))) ⌝ }
-    ensures { λ _. ⌜ now (table .exit) ≡ tableOfText (now (text .entry)) (now (table .entry)) ⌝ }
-    ensures { λ r. ⌜ CodeAmong (1 ∷ 2 ∷ 3 ∷ 4 ∷ 5 ∷ 6 ∷ 9 ∷ 96 ∷ []) r ⌝ }
-    ensures { λ _. ⌜ TextTranslates (now (text .entry)) (now (table .entry)) (now (table .exit)) ⌝ }
+    ensures answers { λ r. ⌜ r ≡ translatedText (now (text .entry)) (length (now (table .entry))) ⌝ }
+    ensures leaves { λ _. ⌜ now (table .exit) ≡ tableOfText (now (text .entry)) (now (table .entry)) ⌝ }
+    ensures possible_codes { λ r. ⌜ CodeAmong (1 ∷ 2 ∷ 3 ∷ 4 ∷ 5 ∷ 6 ∷ 9 ∷ 96 ∷ []) r ⌝ }
+    ensures demand_3 { λ _. ⌜ TextTranslates (now (text .entry)) (now (table .entry)) (now (table .exit)) ⌝ }
 {
     let run = held_laws::read_run(text, law_runs::no_laws());
     let read = run.read;
@@ -84,9 +84,9 @@ pub extern "C" fn huntyghai_translate(text: &[u8], table: &mut [u16]) -> u64
 // Reads a history's text by the names of the description's.
 #[no_mangle]
 pub extern "C" fn huntyghai_read_history(description: &[u8], text: &[u8], values: &mut [u8]) -> u64
-    ensures { λ r. ⌜ r ≡ replyCode readCode (historyReplied (readHistory (now (description .entry)) (now (text .entry)) (length (now (values .entry))))) ⌝ }
-    ensures { λ _. ⌜ now (values .exit) ≡ valuesLeft (readHistory (now (description .entry)) (now (text .entry)) (length (now (values .entry)))) (now (values .entry)) ⌝ }
-    ensures { λ r. ⌜ CodeAmong (1 ∷ 2 ∷ 3 ∷ 4 ∷ 5 ∷ 6 ∷ 7 ∷ 10 ∷ 112 ∷ []) r ⌝ }
+    ensures answers { λ r. ⌜ r ≡ replyCode readCode (historyReplied (readHistory (now (description .entry)) (now (text .entry)) (length (now (values .entry))))) ⌝ }
+    ensures leaves { λ _. ⌜ now (values .exit) ≡ valuesLeft (readHistory (now (description .entry)) (now (text .entry)) (length (now (values .entry)))) (now (values .entry)) ⌝ }
+    ensures possible_codes { λ r. ⌜ CodeAmong (1 ∷ 2 ∷ 3 ∷ 4 ∷ 5 ∷ 6 ∷ 7 ∷ 10 ∷ 112 ∷ []) r ⌝ }
 {
     answer_codes::of_history(history_reader::read_history(description, text, values))
 }
@@ -94,10 +94,10 @@ pub extern "C" fn huntyghai_read_history(description: &[u8], text: &[u8], values
 // Checks values against the description at the text's start.
 #[no_mangle]
 pub extern "C" fn huntyghai_check_history(text: &[u8], values: &[u8], table: &mut [u16]) -> u64
-    ensures { λ r. ⌜ r ≡ checkedText (now (text .entry)) (now (values .entry)) (length (now (table .entry))) ⌝ }
-    ensures { λ _. ⌜ now (table .exit) ≡ tableOfCheck (now (text .entry)) (now (values .entry)) (now (table .entry)) ⌝ }
-    ensures { λ r. ⌜ CodeAmong (1 ∷ 2 ∷ 3 ∷ 4 ∷ 5 ∷ 6 ∷ 9 ∷ 10 ∷ 11 ∷ 64 ∷ 65 ∷ 66 ∷ 67 ∷ 68 ∷ []) r ⌝ }
-    ensures { λ r. ⌜ TextChecks (now (text .entry)) (now (values .entry)) (length (now (table .entry))) r ⌝ }
+    ensures answers { λ r. ⌜ r ≡ checkedText (now (text .entry)) (now (values .entry)) (length (now (table .entry))) ⌝ }
+    ensures leaves { λ _. ⌜ now (table .exit) ≡ tableOfCheck (now (text .entry)) (now (values .entry)) (now (table .entry)) ⌝ }
+    ensures possible_codes { λ r. ⌜ CodeAmong (1 ∷ 2 ∷ 3 ∷ 4 ∷ 5 ∷ 6 ∷ 9 ∷ 10 ∷ 11 ∷ 64 ∷ 65 ∷ 66 ∷ 67 ∷ 68 ∷ []) r ⌝ }
+    ensures demand_3 { λ r. ⌜ TextChecks (now (text .entry)) (now (values .entry)) (length (now (table .entry))) r ⌝ }
 {
     let run = held_laws::read_run(text, law_runs::no_laws());
     let read = run.read;
@@ -115,8 +115,8 @@ pub extern "C" fn huntyghai_check_history(text: &[u8], values: &[u8], table: &mu
 // Reads the history of a whole input causally.
 #[no_mangle]
 pub extern "C" fn huntyghai_causal_reading(input: &[u8]) -> u64
-    ensures { λ r. ⌜ r ≡ readingOfInput (now (input .entry)) ⌝ }
-    ensures { λ r. ⌜ CodeAmong (1 ∷ 2 ∷ 3 ∷ 4 ∷ 5 ∷ 6 ∷ 7 ∷ 11 ∷ 80 ∷ 81 ∷ 82 ∷ []) r ⌝ }
+    ensures answers { λ r. ⌜ r ≡ readingOfInput (now (input .entry)) ⌝ }
+    ensures possible_codes { λ r. ⌜ CodeAmong (1 ∷ 2 ∷ 3 ∷ 4 ∷ 5 ∷ 6 ∷ 7 ∷ 11 ∷ 80 ∷ 81 ∷ 82 ∷ []) r ⌝ }
 {
     let whole = inputs::read_input(input);
     let answer = whole.answer;

@@ -52,10 +52,10 @@ fn read_of(d: Described) -> Read
 
 // Reads a description's text into the run lent: the laws read, and behind them the old records. On a refusal every record stays.
 pub fn read_description(text: &[u8], laws: &mut [Law]) -> Read
-    ensures { λ r. ⌜ replyOf (r .answer) ≡ replied (now (text .entry)) (described (length (now (laws .entry))) (now (text .entry))) ⌝ }
-    ensures { λ r. ⌜ r .description ≡ recordOf (described (length (now (laws .entry))) (now (text .entry))) ⌝ }
-    ensures { λ _. ⌜ now (laws .exit) ≡ lawsLeft (described (length (now (laws .entry))) (now (text .entry))) (now (laws .entry)) ⌝ }
-    ensures { λ r. ⌜ TakesAccepted (replyOf (r .answer)) (r .description) (now (laws .exit)) ⌝ }
+    ensures answers { λ r. ⌜ replyOf (r .answer) ≡ replied (now (text .entry)) (described (length (now (laws .entry))) (now (text .entry))) ⌝ }
+    ensures description { λ r. ⌜ r .description ≡ recordOf (described (length (now (laws .entry))) (now (text .entry))) ⌝ }
+    ensures leaves { λ _. ⌜ now (laws .exit) ≡ lawsLeft (described (length (now (laws .entry))) (now (text .entry))) (now (laws .entry)) ⌝ }
+    ensures accepted { λ r. ⌜ TakesAccepted (replyOf (r .answer)) (r .description) (now (laws .exit)) ⌝ }
 {
     let end = description_reader::read_description(text, law_runs::gather(laws), laws.len());
     law_runs::scatter(laws, run_of(end), count_of(end));
@@ -64,9 +64,9 @@ pub fn read_description(text: &[u8], laws: &mut [Law]) -> Read
 
 // Writes the translation of the laws that the description counts, of those lent.
 pub fn translate(d: Description, laws: &[Law], table: &mut [u16]) -> Translated
-    ensures { λ r. ⌜ outcomeOf r ≡ outcome d (now (laws .entry)) (length (now (laws .entry))) (length (now (table .entry))) ⌝ }
-    ensures { λ _. ⌜ now (table .exit) ≡ tableAfter d (now (laws .entry)) (length (now (laws .entry))) (now (table .entry)) ⌝ }
-    ensures { λ _. ⌜ TranslatesExactly d (now (laws .entry)) (length (now (laws .entry))) (now (table .entry)) (now (table .exit)) ⌝ }
+    ensures answers { λ r. ⌜ outcomeOf r ≡ outcome d (now (laws .entry)) (length (now (laws .entry))) (length (now (table .entry))) ⌝ }
+    ensures leaves { λ _. ⌜ now (table .exit) ≡ tableAfter d (now (laws .entry)) (length (now (laws .entry))) (now (table .entry)) ⌝ }
+    ensures demand_3 { λ _. ⌜ TranslatesExactly d (now (laws .entry)) (length (now (laws .entry))) (now (table .entry)) (now (table .exit)) ⌝ }
 {
     translation::translate(d, law_runs::gather(laws), laws.len(), table)
 }
@@ -74,18 +74,18 @@ pub fn translate(d: Description, laws: &[Law], table: &mut [u16]) -> Translated
 // Checks values, one byte an atom, against the description's translation, which is left in the table unless the answer is a
 // refusal.
 pub fn check_history(d: Description, laws: &[Law], values: &[u8], table: &mut [u16]) -> Checked
-    ensures { λ r. ⌜ Checks.replyOf r ≡ Checks.checked d (now (laws .entry)) (length (now (laws .entry))) (now (values .entry)) (length (now (table .entry))) ⌝ }
-    ensures { λ _. ⌜ now (table .exit) ≡ Checks.tableAfter d (now (laws .entry)) (length (now (laws .entry))) (now (values .entry)) (now (table .entry)) ⌝ }
-    ensures { λ r. ⌜ PassesExactly d (now (laws .entry)) (length (now (laws .entry))) (now (values .entry)) (length (now (table .entry))) r ⌝ }
+    ensures answers { λ r. ⌜ Checks.replyOf r ≡ Checks.checked d (now (laws .entry)) (length (now (laws .entry))) (now (values .entry)) (length (now (table .entry))) ⌝ }
+    ensures leaves { λ _. ⌜ now (table .exit) ≡ Checks.tableAfter d (now (laws .entry)) (length (now (laws .entry))) (now (values .entry)) (now (table .entry)) ⌝ }
+    ensures demand_3 { λ r. ⌜ PassesExactly d (now (laws .entry)) (length (now (laws .entry))) (now (values .entry)) (length (now (table .entry))) r ⌝ }
 {
     history_check::check_history(d, law_runs::gather(laws), laws.len(), values, table)
 }
 
 // Reads values as a history, state by state.
 pub fn causal_reading(d: Description, laws: &[Law], values: &[u8]) -> Reading
-    ensures { λ r. ⌜ Readings.replyOf r ≡ Readings.reading d (now (laws .entry)) (length (now (laws .entry))) (now (values .entry)) ⌝ }
-    ensures { λ r. ⌜ PathExactly d (now (laws .entry)) (length (now (laws .entry))) (now (values .entry)) r ⌝ }
-    ensures { λ r. ⌜ NamesFault d (now (laws .entry)) (length (now (laws .entry))) (now (values .entry)) r ⌝ }
+    ensures answers { λ r. ⌜ Readings.replyOf r ≡ Readings.reading d (now (laws .entry)) (length (now (laws .entry))) (now (values .entry)) ⌝ }
+    ensures demand_3 { λ r. ⌜ PathExactly d (now (laws .entry)) (length (now (laws .entry))) (now (values .entry)) r ⌝ }
+    ensures fault { λ r. ⌜ NamesFault d (now (laws .entry)) (length (now (laws .entry))) (now (values .entry)) r ⌝ }
 {
     causal_reading::causal_reading(d, law_runs::gather(laws), laws.len(), values)
 }

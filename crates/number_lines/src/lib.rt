@@ -41,9 +41,9 @@ pub fn no_numbers() -> [u16; 4096]
 // Reads the numbers of the line that begins at a place; those that have no room are only counted. At the text's end or past it
 // the line is empty, and an empty line has one number, 0.
 pub fn read_line(text: &[u8], from: usize, numbers: &mut [u16]) -> Line
-    ensures { λ r. ⌜ r .count ≡ length (numbersOf 0 (drop from (now (text .entry)))) ⌝ }
-    ensures { λ r. ⌜ r .next ≡ from + lineSize (drop from (now (text .entry))) ⌝ }
-    ensures { λ _. ⌜ now (numbers .exit) ≡ sets (now (numbers .entry)) 0 (numbersOf 0 (drop from (now (text .entry)))) ⌝ }
+    ensures count { λ r. ⌜ r .count ≡ length (numbersOf 0 (drop from (now (text .entry)))) ⌝ }
+    ensures next { λ r. ⌜ r .next ≡ from + lineSize (drop from (now (text .entry))) ⌝ }
+    ensures leaves { λ _. ⌜ now (numbers .exit) ≡ sets (now (numbers .entry)) 0 (numbersOf 0 (drop from (now (text .entry)))) ⌝ }
 {
     let mut count = 0;
     let mut value = 0;

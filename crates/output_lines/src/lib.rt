@@ -90,9 +90,9 @@ fn put_value(out: &mut [u8], at: usize, key: usize, input: &[u8], value: Value) 
 
 // A refusal's number and place, from the buffer's first byte on.
 pub fn put_refusal(out: &mut [u8], number: u8, place: usize) -> usize
-    ensures { λ r. ⌜ (let ws = refusalLines number place in
+    ensures writes { λ r. ⌜ (let ws = refusalLines number place in
         (r ≡ 0 + length ws) × (now (out .exit) ≡ sets (now (out .entry)) 0 ws)) ⌝ }
-    ensures { λ r. ⌜ r ≤ 400 ⌝ }
+    ensures bounded { λ r. ⌜ r ≤ 400 ⌝ }
 {
     let numbered = put_number(out, 0, REFUSED, number as usize);
     put_number(out, numbered, PLACE, place)
@@ -137,10 +137,10 @@ pub fn put_checked(
     checked: Checked,
     reading: Reading,
 ) -> usize
-    ensures { λ r. ⌜ (let ws = checkedLines (now (input .entry)) (countLines (counts .horizon) (counts .atoms) (counts .rules) (counts .words))
+    ensures writes { λ r. ⌜ (let ws = checkedLines (now (input .entry)) (countLines (counts .horizon) (counts .atoms) (counts .rules) (counts .words))
         (Checks.replyOf checked) (Readings.replyOf reading) in
         (r ≡ 0 + length ws) × (now (out .exit) ≡ sets (now (out .entry)) 0 ws)) ⌝ }
-    ensures { λ r. ⌜ r ≤ 400 ⌝ }
+    ensures bounded { λ r. ⌜ r ≤ 400 ⌝ }
 {
     match checked {
         Checked::Refused(number, place) => put_refusal(out, number, place),

@@ -53,9 +53,9 @@ fn put_outcome(
 // Writes the output for an input from the buffer's first byte on, as far as the buffer goes, and returns how long the whole
 // output is: never more than 400 bytes.
 pub fn report(input: &[u8], out: &mut [u8]) -> usize
-    ensures { λ r. ⌜ (r ≡ length (output (now (input .entry)))) × (now (out .exit) ≡ sets (now (out .entry)) 0 (output (now (input .entry)))) ⌝ }
-    ensures { λ r. ⌜ r ≤ 400 ⌝ }
-    ensures { λ _. ⌜ Program (now (input .entry)) (output (now (input .entry))) ⌝ }
+    ensures writes { λ r. ⌜ (r ≡ length (output (now (input .entry)))) × (now (out .exit) ≡ sets (now (out .entry)) 0 (output (now (input .entry)))) ⌝ }
+    ensures bounded { λ r. ⌜ r ≤ 400 ⌝ }
+    ensures printed { λ _. ⌜ Program (now (input .entry)) (output (now (input .entry))) ⌝ }
 {
     let whole = inputs::read_input(input);
     let answer = whole.answer;
@@ -73,8 +73,8 @@ pub fn report(input: &[u8], out: &mut [u8]) -> usize
 
 // How many bytes of an output of some length a buffer holds.
 pub fn held(size: usize, out: &[u8]) -> usize
-    ensures { λ r. ⌜ (r ≤ length (now (out .entry))) × (r ≡ length (take r (now (out .entry)))) ⌝ }
-    ensures { λ r. ⌜ r ≡ min size (length (now (out .entry))) ⌝ }
+    ensures bounded { λ r. ⌜ (r ≤ length (now (out .entry))) × (r ≡ length (take r (now (out .entry)))) ⌝ }
+    ensures answers { λ r. ⌜ r ≡ min size (length (now (out .entry))) ⌝ }
 {
     if size < out.len() { size } else { out.len() }
 }

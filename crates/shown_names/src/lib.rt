@@ -7,16 +7,16 @@ ghost use Rattle.shown_names.specs.Shown.{shownFluent, shownAction, show
 
 // The part of the description text where a fluent was declared; empty for a number that nothing declares, and in a text that is refused.
 pub fn fluent_name(text: &[u8], fluent: usize) -> &[u8]
-    ensures { λ r. ⌜ now r ≡ shownFluent (now (text .entry)) fluent ⌝ }
-    ensures { λ r. ⌜ LiesAt (shownFluentStart (now (text .entry)) fluent) (text .entry) r ⌝ }
+    ensures answers { λ r. ⌜ now r ≡ shownFluent (now (text .entry)) fluent ⌝ }
+    ensures lies { λ r. ⌜ LiesAt (shownFluentStart (now (text .entry)) fluent) (text .entry) r ⌝ }
 {
     shown::name(text, false, fluent)
 }
 
 // The same for an action.
 pub fn action_name(text: &[u8], action: usize) -> &[u8]
-    ensures { λ r. ⌜ now r ≡ shownAction (now (text .entry)) action ⌝ }
-    ensures { λ r. ⌜ LiesAt (shownActionStart (now (text .entry)) action) (text .entry) r ⌝ }
+    ensures answers { λ r. ⌜ now r ≡ shownAction (now (text .entry)) action ⌝ }
+    ensures lies { λ r. ⌜ LiesAt (shownActionStart (now (text .entry)) action) (text .entry) r ⌝ }
 {
     shown::name(text, true, action)
 }

@@ -110,8 +110,8 @@ fn no_line(at: usize) -> LineAt
 
 // The line that begins at a place; behind the end of the text there is none.
 pub fn line_at(text: &[u8], at: usize) -> LineAt
-    ensures { λ r. ⌜ lineOf (now (text .entry)) r ≡ firstLine (drop at (now (text .entry))) ⌝ }
-    ensures { λ r. ⌜ LineFits (now (text .entry)) at r ⌝ }
+    ensures answers { λ r. ⌜ lineOf (now (text .entry)) r ≡ firstLine (drop at (now (text .entry))) ⌝ }
+    ensures lies { λ r. ⌜ LineFits (now (text .entry)) at r ⌝ }
 {
     let end = text.len();
     let rest = bytes::part(text, at, end);

@@ -23,8 +23,8 @@ pub fn next_item(
     low: usize,
     high: usize,
 ) -> Item
-    ensures { λ r. ⌜ placeOf (r .code) ≡ literal (spelled (now (text .entry)) names) low high (itemAt (now (list .entry)) from) ⌝ }
-    ensures { λ r. ⌜ r .next ≡ nextAt (now (list .entry)) from ⌝ }
+    ensures code { λ r. ⌜ placeOf (r .code) ≡ literal (spelled (now (text .entry)) names) low high (itemAt (now (list .entry)) from) ⌝ }
+    ensures next { λ r. ⌜ r .next ≡ nextAt (now (list .entry)) from ⌝ }
 {
     let rest = bytes::part(list, from, list.len());
     if let Found::At(size) = bytes::find(rest, 44) {

@@ -35,8 +35,8 @@ pub fn measure(d: Description, laws: [Law; 64], lent: usize, room: usize) -> Tra
 
 // Writes the translation of the laws that the description counts. Nothing is written where the answer is a refusal.
 pub fn translate(d: Description, laws: [Law; 64], lent: usize, table: &mut [u16]) -> Translated
-    ensures { λ r. ⌜ outcomeOf r ≡ outcome d laws lent (length (now (table .entry))) ⌝ }
-    ensures { λ _. ⌜ now (table .exit) ≡ tableAfter d laws lent (now (table .entry)) ⌝ }
+    ensures answers { λ r. ⌜ outcomeOf r ≡ outcome d laws lent (length (now (table .entry))) ⌝ }
+    ensures leaves { λ _. ⌜ now (table .exit) ≡ tableAfter d laws lent (now (table .entry)) ⌝ }
 {
     let measured = measure(d, laws, lent, table.len());
     match measured {
