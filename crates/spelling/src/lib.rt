@@ -74,6 +74,7 @@ fn is_letter(b: u8) -> bool
     65 <= b && b <= 90
 }
 
+// Whether a byte is a digit, 0 to 9.
 pub fn is_digit(b: u8) -> bool
     ensures { λ r. ⌜ r ≡ isDigit b ⌝ }
 {
