@@ -1,10 +1,12 @@
 #!/usr/bin/env python3
-"""Holds the pages of the repository to two rules: a link leads to something that is there, and a line has at most 120
-characters, rows of tables and lines of code aside.
+"""Holds the pages of the repository to two rules: a link leads to what it says, and a line has at most 120 characters,
+rows of tables, lines of code and where links lead aside.
 
-    docs/pages.py    fails and names each place that breaks a rule
+    docs/pages.py           fails and names each place that breaks a rule
+    docs/pages.py --mend    first puts the line numbers of links right
 
-A link into a file may name a line of it, as #L12, or on a page a heading.
+A link may lead to a heading of a page, or as #L12 to a line of a source: the one where the link's name is defined, as in
+[AnswerSet](..#L50), [`AnswerSet`](..#L50) or [AnswerSet]: ..#L50. In front of the name may stand a word and a point.
 """
 
 import pathlib
@@ -13,7 +15,7 @@ import subprocess
 import sys
 
 ROOT = pathlib.Path(__file__).resolve().parent.parent
-LINK = re.compile(r"\]\(([^)\s]+)\)")
+LINK = re.compile(r"\[([^\]\[]*)\]\(([^)\s]+)\)|^\[([^\]]+)\]: (\S+)$")
 WIDEST = 120
 
 
@@ -33,36 +35,70 @@ def prose(text):
             yield number, line
 
 
-def leads_nowhere(page, target):
-    """Whether a link of a page leads to no file, no line of it, or no heading."""
+def links(line):
+    """The links of a line: the name that each has, and where it leads."""
+    for inline, target, name, defined in LINK.findall(line):
+        if "://" not in (target or defined):
+            yield (inline or name).strip("`").rsplit(".", 1)[-1], target or defined
+
+
+def line_of(file, name):
+    """The number of the line where a source defines a name; 0 where it does not."""
+    start = re.compile(r"\s*(?:(?:abbrev|unfoldable|pub|data|record) )*" + re.escape(name) + r"(?=[ :]|$)")
+    lines = file.read_text().splitlines()
+    return next((number for number, line in enumerate(lines, 1) if start.match(line)), 0)
+
+
+def amiss(page, name, target):
+    """What is wrong with a link of a page, or nothing."""
     path, _, place = target.partition("#")
     file = (page.parent / path).resolve() if path else page
     if not file.exists():
-        return True
-    if not place or file.is_dir():
-        return False
+        return f"{target} leads nowhere"
     if re.fullmatch(r"L\d+", place):
-        return int(place[1:]) > len(file.read_text().splitlines())
-    headings = [anchor(line.lstrip("#")) for _, line in prose(file.read_text()) if line.startswith("#")]
-    return place not in headings
+        at = line_of(file, name)
+        return "" if place == f"L{at}" else f"{name} is defined in line {at}: {target}"
+    if place and file.is_file():
+        headings = [anchor(line.lstrip("#")) for _, line in prose(file.read_text()) if line.startswith("#")]
+        return "" if place in headings else f"{target} leads to no heading"
+    return ""
 
 
 def faults(page):
     """What breaks a rule on a page: the line's number, and what is wrong there."""
     for number, line in prose(page.read_text()):
-        if len(line) > WIDEST and not line.startswith("|"):
+        if len(line) > WIDEST and not line.startswith(("|", "[")):
             yield number, f"{len(line)} characters"
-        for target in LINK.findall(line):
-            if "://" not in target and leads_nowhere(page, target):
-                yield number, f"{target} leads nowhere"
+        for name, target in links(line):
+            if said := amiss(page, name, target):
+                yield number, said
+
+
+def mend(page):
+    """Puts the line numbers of a page's links right, where their names are defined."""
+    text = page.read_text()
+    for _, line in prose(text):
+        for name, target in links(line):
+            path, _, place = target.partition("#")
+            file = (page.parent / path).resolve()
+            if re.fullmatch(r"L\d+", place) and file.is_file() and (at := line_of(file, name)):
+                mended = line.replace(target, f"{path}#L{at}")
+                text = text.replace(line, mended)
+                line = mended
+    page.write_text(text)
 
 
 def main():
+    if sys.argv[1:] not in ([], ["--mend"]):
+        sys.exit(__doc__)
     listed = subprocess.run(["git", "ls-files", "*.md"], cwd=ROOT, capture_output=True, text=True, check=True)
+    pages = [ROOT / name for name in listed.stdout.split()]
     found = 0
-    for name in listed.stdout.split():
-        for number, what in faults(ROOT / name):
-            print(f"{name}:{number}: {what}")
+    for page in pages:
+        if sys.argv[1:]:
+            mend(page)
+        for number, what in faults(page):
+            print(f"{page.relative_to(ROOT)}:{number}: {what}")
             found += 1
     if found:
         sys.exit(f"pages: {found} places break a rule")
