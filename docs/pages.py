@@ -5,8 +5,8 @@ rows of tables, lines of code and where links lead aside.
     docs/pages.py           fails and names each place that breaks a rule
     docs/pages.py --mend    first puts the line numbers of links right
 
-A link may lead to a heading of a page, or as #L12 to a line of a source: the one where the link's name is defined, as in
-[AnswerSet](..#L50), [`AnswerSet`](..#L50) or [AnswerSet]: ..#L50. In front of the name may stand a word and a point.
+A link may lead to a heading of a page, or as #L12 to a line of a source: the one where the link's name is defined, as
+in [AnswerSet](..#L50), [`AnswerSet`](..#L50) or [AnswerSet]: ..#L50. A word and a point may stand in front of the name.
 """
 
 import pathlib
@@ -15,7 +15,8 @@ import subprocess
 import sys
 
 ROOT = pathlib.Path(__file__).resolve().parent.parent
-LINK = re.compile(r"\[([^\]\[]*)\]\(([^)\s]+)\)|^\[([^\]]+)\]: (\S+)$")
+# The text of a link may begin in the line before.
+LINK = re.compile(r"(?:\[([^\]\[]*))?\]\(([^)\s]+)\)|^\[([^\]]+)\]: (\S+)$")
 WIDEST = 120
 
 
