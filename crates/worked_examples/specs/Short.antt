@@ -14,7 +14,7 @@ use Rattle.action_language.specs.Laws.{lawOf}
 use Rattle.action_language.specs.Examples.{recipeLaws}
 use Rattle.description_reader.specs.Descriptions.{read}
 use Rattle.written_form.specs.Writing.{Form, asCauses, asNonexecutable, asInertial, asDeclared}
-use Rattle.worked_examples.specs.Texts.{historyText, tinyLines, smallNames, lawText, copies}
+use Rattle.worked_examples.specs.Texts.{tinyLines, smallNames, lawText, copies}
 use Rattle.worked_examples.specs.Format.{drafted, takesLaws}
 use Rattle.worked_examples.specs.Recipe.{recipeFluents, recipeActions, recipeDraft}
 use Rattle.worked_examples.specs.Examples.{Example, reads, writes}
@@ -35,7 +35,7 @@ shortForms i = cond (eqb i 0) asCauses (cond (eqb i 1) asNonexecutable asInertia
 -- the same record as in full, and the text is written for it
 abbrev pub shortRecipeExamples : List Example
 shortRecipeExamples =
-    reads 64 (shortRecipeText ++ historyText) (answered (read recipeDraft historyText 12))
+    reads 64 shortRecipeText (answered (read recipeDraft [] 12))
     ∷ writes 1 recipeFluents recipeActions shortForms asDeclared recipeLaws shortRecipeText
     ∷ []
 
