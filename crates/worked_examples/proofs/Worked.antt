@@ -5,26 +5,26 @@ use Rattle.basics.specs.Search.{Each}
 use Rattle.basics.proofs.Tests.{each-append}
 use Rattle.worked_examples.specs.Examples.{Example, Holds}
 use Rattle.worked_examples.specs.Format.{readerExamples, lineExamples, historyExamples, longExamples}
-use Rattle.worked_examples.specs.Short.{shortRecipeExamples, shortOutputExamples, shortExamples}
-use Rattle.worked_examples.specs.Log.{logExamples, callerExamples, logOutputs}
-use Rattle.worked_examples.specs.Capitals.{styleExamples, styleOutputs, capitalExamples}
+use Rattle.worked_examples.specs.Short.{shortRecipeExamples, shortExamples}
+use Rattle.worked_examples.specs.Log.{logExamples, callerExamples}
+use Rattle.worked_examples.specs.Capitals.{styleExamples, capitalExamples}
 use Rattle.worked_examples.specs.Worked.{worked, gathered, recordExamples, largestExamples, engineExamples, paperExamples, textExamples}
-use Rattle.worked_examples.specs.Worked.{outputExamples, longOutputs, codeExamples}
+use Rattle.worked_examples.specs.Worked.{outputExamples, codeExamples}
 use Rattle.worked_examples.specs.Formulas.{crateFormulas, crateLevels, formulaExamples}
-use Rattle.worked_examples.specs.Faults.{faultExamples, faultOutputs}
-use Rattle.worked_examples.specs.Cuts.{cutExamples, joinExamples, apartExamples, cutOutputs}
+use Rattle.worked_examples.specs.Faults.{faultExamples}
+use Rattle.worked_examples.specs.Cuts.{cutExamples, joinExamples, apartExamples}
 use Rattle.worked_examples.proofs.WorkedRecords.{record-examples, engine-examples, paper-examples}
 use Rattle.worked_examples.proofs.WorkedCodes.{largest-examples, code-examples}
 use Rattle.worked_examples.proofs.WorkedTexts.{text-examples}
 use Rattle.worked_examples.proofs.WorkedFormat.{reader-examples, line-examples, history-examples}
-use Rattle.worked_examples.proofs.WorkedLong.{long-examples, long-outputs}
+use Rattle.worked_examples.proofs.WorkedLong.{long-examples}
 use Rattle.worked_examples.proofs.WorkedShort.{short-recipe, short-examples}
 use Rattle.worked_examples.proofs.WorkedLog.{log-examples, caller-examples}
 use Rattle.worked_examples.proofs.WorkedCapitals.{style-examples, capital-examples}
 use Rattle.worked_examples.proofs.WorkedFormulas.{crate-formulas, crate-levels, formula-examples}
 use Rattle.worked_examples.proofs.WorkedFaults.{fault-examples}
 use Rattle.worked_examples.proofs.WorkedCuts.{cut-examples, join-examples, apart-examples}
-use Rattle.worked_examples.proofs.WorkedOutputs.{output-examples, short-outputs, log-outputs, style-outputs, fault-outputs, cut-outputs}
+use Rattle.worked_examples.proofs.WorkedOutputs.{output-examples}
 
 all-hold : (ess : List (List Example)) → Each (λ es. Each Holds es) ess → Each Holds (gathered ess)
 all-hold [] h = tt
@@ -33,5 +33,5 @@ all-hold (es ∷ ess) h = each-append Holds es (gathered ess) .1 (h .0, all-hold
 pub worked-examples : Each Holds worked
 worked-examples =
     all-hold
-    (recordExamples ∷ largestExamples ∷ engineExamples ∷ paperExamples ∷ textExamples ∷ readerExamples ∷ lineExamples ∷ historyExamples ∷ longExamples ∷ outputExamples ∷ shortRecipeExamples ∷ shortExamples ∷ shortOutputExamples ∷ logExamples ∷ callerExamples ∷ logOutputs ∷ styleExamples ∷ styleOutputs ∷ capitalExamples ∷ longOutputs ∷ codeExamples ∷ crateFormulas ∷ crateLevels ∷ formulaExamples ∷ faultExamples ∷ faultOutputs ∷ cutExamples ∷ joinExamples ∷ apartExamples ∷ cutOutputs ∷ [])
-    (record-examples, (largest-examples, (engine-examples, (paper-examples, (text-examples, (reader-examples, (line-examples, (history-examples, (long-examples, (output-examples, (short-recipe, (short-examples, (short-outputs, (log-examples, (caller-examples, (log-outputs, (style-examples, (style-outputs, (capital-examples, (long-outputs, (code-examples, (crate-formulas, (crate-levels, (formula-examples, (fault-examples, (fault-outputs, (cut-examples, (join-examples, (apart-examples, (cut-outputs, tt))))))))))))))))))))))))))))))
+    (recordExamples ∷ largestExamples ∷ engineExamples ∷ paperExamples ∷ textExamples ∷ readerExamples ∷ lineExamples ∷ historyExamples ∷ longExamples ∷ outputExamples ∷ shortRecipeExamples ∷ shortExamples ∷ logExamples ∷ callerExamples ∷ styleExamples ∷ capitalExamples ∷ codeExamples ∷ crateFormulas ∷ crateLevels ∷ formulaExamples ∷ faultExamples ∷ cutExamples ∷ joinExamples ∷ apartExamples ∷ [])
+    (record-examples, (largest-examples, (engine-examples, (paper-examples, (text-examples, (reader-examples, (line-examples, (history-examples, (long-examples, (output-examples, (short-recipe, (short-examples, (log-examples, (caller-examples, (style-examples, (capital-examples, (code-examples, (crate-formulas, (crate-levels, (formula-examples, (fault-examples, (cut-examples, (join-examples, (apart-examples, tt))))))))))))))))))))))))

@@ -3,8 +3,8 @@
 use mathlib.Core.Path.{refl}
 use mathlib.Core.List.{[], _∷_}
 use native.Mathlib.Omega.{arith}
-use Rattle.logic_programs.specs.Literals.{complement}
 use Rattle.basics.specs.Search.{Each}
+use Rattle.basics.specs.Quoted.{bytes}
 use Rattle.spelling.specs.Spelling.{isName}
 use Rattle.text.specs.Bytes.{cut}
 use Rattle.text.specs.Lines.{keyNumber, firstLine}
@@ -15,7 +15,6 @@ use Rattle.description_reader.specs.LineSteps.{readHead, lineStep}
 use Rattle.description_reader.specs.Descriptions.{described}
 use Rattle.shown_names.specs.Shown.{shownFluent, shownAction}
 use Rattle.history_reader.specs.Histories.{readHistory}
-use Rattle.translation.specs.Rules.{translation}
 use Rattle.written_form.specs.Writing.{descriptionText}
 use Rattle.written_form.specs.HistoryWriting.{valuesText}
 use Rattle.written_form.specs.Writable.{Writable}
@@ -23,7 +22,7 @@ use Rattle.worked_examples.specs.Examples.{Holds}
 use Rattle.worked_examples.specs.Capitals.{twoLaws, styleExamples, capitalExamples}
 use Rattle.worked_examples.proofs.Spelled.{capitals-any}
 
-two-writable : Writable 2 1 ((97 ∷ []) ∷ []) ((99 ∷ []) ∷ []) twoLaws
+two-writable : Writable 2 1 (bytes "a" ∷ []) (bytes "c" ∷ []) twoLaws
 unfolding isName
 two-writable = record {
   horizon-from = omega arith;
@@ -40,9 +39,9 @@ two-writable = record {
 }
 
 pub style-examples : Each Holds styleExamples
-unfolding cut keyNumber firstLine isName literal items listOf horizonOf readHead lineStep described readHistory shownFluent shownAction complement translation descriptionText valuesText
-style-examples = (refl, (refl, (refl, (refl, (refl, (refl, (refl, (refl, (refl, ((refl, two-writable, capitals-any 1 2 1), ((refl, two-writable, capitals-any 0 0 0), ((refl, capitals-any 0 1 0), tt))))))))))))
+unfolding cut keyNumber firstLine isName literal items listOf horizonOf readHead lineStep described readHistory shownFluent shownAction descriptionText valuesText
+style-examples = (refl, (refl, (refl, (refl, (refl, ((refl, two-writable, capitals-any 1 2 1), ((refl, two-writable, capitals-any 0 0 0), ((refl, capitals-any 0 1 0), tt))))))))
 
 pub capital-examples : Each Holds capitalExamples
 unfolding cut keyNumber firstLine isName literal items listOf horizonOf readHead lineStep described readHistory
-capital-examples = (refl, (refl, (refl, (refl, (refl, (refl, (refl, (refl, (refl, (refl, (refl, (refl, (refl, (refl, (refl, (refl, (refl, (refl, (refl, (refl, (refl, (refl, (refl, (refl, (refl, (refl, (refl, (refl, (refl, (refl, (refl, (refl, (refl, (refl, (refl, (refl, (refl, (refl, (refl, (refl, (refl, (refl, (refl, (refl, (refl, (refl, (refl, (refl, (refl, (refl, (refl, (refl, (refl, (refl, (refl, (refl, (refl, tt)))))))))))))))))))))))))))))))))))))))))))))))))))))))))
+capital-examples = (refl, (refl, (refl, (refl, (refl, (refl, (refl, (refl, (refl, (refl, (refl, (refl, (refl, (refl, (refl, (refl, (refl, (refl, (refl, (refl, (refl, (refl, (refl, (refl, tt))))))))))))))))))))))))

@@ -19,12 +19,12 @@ use Rattle.worked_examples.specs.Cuts.{cutExamples, joinExamples, apartE
 
 pub cut-examples : Each Holds cutExamples
 unfolding engine.answer verdict rulesOf badRule setOf holdsTrue holdsFalse complement badRecord badHorizon translation translated.outcome history.checked causalVerdict causal.reading completion.answer formulas.formulaFinding formulas.judgedByFormulas
-cut-examples = (refl, (refl, (refl, (refl, ((refl, refl), (refl, (refl, (refl, (refl, (refl, (refl, (refl, (refl, ((refl, refl), (refl, (refl, (refl, (refl, (refl, (refl, (refl, (refl, (refl, (refl, (refl, (refl, ((refl, refl), (refl, (refl, (refl, (refl, (refl, (refl, (refl, (refl, ((refl, refl), (refl, (refl, (refl, (refl, (refl, (refl, (refl, (refl, ((refl, refl), (refl, (refl, (refl, (refl, (refl, (refl, (refl, (refl, ((refl, refl), ((refl, refl), (refl, (refl, tt)))))))))))))))))))))))))))))))))))))))))))))))))))))))))
+cut-examples = (refl, (refl, (refl, (refl, ((refl, refl), (refl, (refl, (refl, (refl, (refl, (refl, (refl, (refl, ((refl, refl), (refl, (refl, (refl, (refl, (refl, (refl, (refl, (refl, ((refl, refl), (refl, (refl, (refl, (refl, (refl, (refl, (refl, (refl, ((refl, refl), ((refl, refl), (refl, (refl, tt)))))))))))))))))))))))))))))))))))
 
 pub join-examples : Each Holds joinExamples
 unfolding engine.answer verdict rulesOf badRule setOf holdsTrue holdsFalse complement badRecord badHorizon translation translated.outcome history.checked causalVerdict causal.reading completion.answer formulas.formulaFinding formulas.judgedByFormulas
-join-examples = ((refl, refl), ((refl, refl), (refl, (refl, (refl, (refl, (refl, (refl, (refl, (refl, (refl, (refl, (refl, (refl, (refl, (refl, (refl, tt)))))))))))))))))
+join-examples = ((refl, refl), ((refl, refl), (refl, (refl, (refl, (refl, (refl, (refl, (refl, tt)))))))))
 
 pub apart-examples : Each Holds apartExamples
 unfolding engine.answer verdict rulesOf badRule setOf holdsTrue holdsFalse complement badRecord badHorizon translation translated.outcome history.checked causalVerdict causal.reading completion.answer formulas.formulaFinding formulas.judgedByFormulas
-apart-examples = (refl, (refl, (refl, (refl, ((refl, refl), (refl, (refl, (refl, (refl, (refl, (refl, (refl, (refl, (refl, (refl, (refl, (refl, (refl, (refl, (refl, (refl, (refl, (refl, (refl, (refl, (refl, (refl, tt)))))))))))))))))))))))))))
+apart-examples = (refl, (refl, (refl, (refl, ((refl, refl), (refl, (refl, (refl, (refl, (refl, (refl, (refl, (refl, (refl, (refl, (refl, (refl, (refl, (refl, (refl, (refl, tt)))))))))))))))))))))

@@ -22,4 +22,4 @@ crate-levels = each-mapped Holds fromLevels of-crate.levelExamples .1 of-crate-h
 
 pub formula-examples : Each Holds formulaExamples
 unfolding answer answerByLevels badLevels formulaFinding judgedByFormulas rulesOf badRule setOf holdsTrue holdsFalse complement
-formula-examples = (refl, (refl, (refl, (refl, (refl, (refl, (refl, (refl, (refl, (refl, (refl, (refl, (refl, (refl, (refl, (refl, (refl, tt)))))))))))))))))
+formula-examples = (refl, (refl, (refl, (refl, (refl, (refl, (refl, (refl, (refl, (refl, (refl, (refl, (refl, tt)))))))))))))

@@ -29,7 +29,7 @@ use Rattle.worked_examples.specs.Log.{logExamples, callerExamples}
 
 pub log-examples : Each Holds logExamples
 unfolding cut keyNumber firstLine isName literal items listOf horizonOf readHead lineStep described readHistory valuesText
-log-examples = (refl, (refl, (refl, (refl, (refl, (refl, (refl, (refl, (refl, (refl, (refl, (refl, ((refl, declared), ((refl, declared), ((refl, declared), ((refl, declared), ((refl, declared), tt)))))))))))))))))
+log-examples = (refl, (refl, (refl, (refl, (refl, ((refl, declared), ((refl, declared), ((refl, declared), tt))))))))
 
 pub caller-examples : Each Holds callerExamples
 unfolding engine.answer verdict rulesOf badRule setOf holdsTrue holdsFalse complement badRecord badHorizon translation translated.outcome history.checked causalVerdict causal.reading
@@ -38,11 +38,8 @@ caller-examples = (
   (
     refl,
     (
-      refl,
-      (
-        (λ h. h 0 0 (omega arith) (omega arith) refl),
-        ((λ h. h 1 1 (omega arith) (omega arith) refl), ((λ h. h 1 1 (omega arith) (omega arith) refl), tt)),
-      ),
+      (λ h. h 0 0 (omega arith) (omega arith) refl),
+      ((λ h. h 1 1 (omega arith) (omega arith) refl), ((λ h. h 1 1 (omega arith) (omega arith) refl), tt)),
     ),
   ),
 )

@@ -2,28 +2,24 @@
 -- Assumes nothing.
 use mathlib.Core.Path.{_≡_, refl, ap, _∙_}
 use mathlib.Core.Bool.{Bool, true, false, cond}
-use mathlib.Core.List.{List, [], _∷_, _++_}
+use mathlib.Core.List.{List, [], _++_}
 use mathlib.Core.Option.{none}
 use Prim.Native.Nat.{ℕ, zero, suc, _+_}
 use lib.Dec.{eqb, ltb}
 use lib.ListN.{length, replicate, length-append, length-replicate}
 use Rattle.basics.specs.Search.{Each, first}
 use Rattle.basics.specs.Replies.{refused, answered}
+use Rattle.basics.specs.Quoted.{bytes}
 use Rattle.text.specs.Bytes.{cut, cutAt, newline}
 use Rattle.text.specs.Lines.{keyNumber, ended, firstLine}
 use Rattle.spelling.specs.Spelling.{isName}
 use Rattle.line_values.specs.HorizonText.{horizonOf}
 use Rattle.description_reader.specs.LineSteps.{lineStep}
-use Rattle.description_reader.specs.Descriptions.{read, linesFrom, described}
+use Rattle.description_reader.specs.Descriptions.{read, described}
 use Rattle.history_reader.specs.Histories.{readHistory, byNames}
-use Rattle.inputs.specs.Inputs.{afterDescription, recordedIn}
-use Rattle.output_lines.specs.Writing.{decimal}
-use Rattle.report.specs.Output.{afterInput, output}
 use Rattle.worked_examples.specs.Examples.{Holds}
 use Rattle.worked_examples.specs.Texts.{tinyText, letters}
-use Rattle.worked_examples.specs.Outputs.{longOutput}
 use Rattle.worked_examples.specs.Format.{tinyDraft, longExamples}
-use Rattle.worked_examples.specs.Worked.{longOutputs}
 
 length-letters : (n : ℕ) → length (letters n) ≡ n
 unfolding letters
@@ -35,11 +31,11 @@ length-behind n = length-append tinyText (letters n) ∙ ap (λ k. 24 + k) (leng
 
 -- whatever stands behind the tiny text, it is read, unless all is too long
 tiny-read : (more : List ℕ) (long : Bool) → ltb 65535 (length (tinyText ++ more)) ≡ long
-    → described 64 (tinyText ++ more) ≡ cond long (refused 1 0) (answered (read (tinyDraft 1 (97 ∷ [])) more 3))
+    → described 64 (tinyText ++ more) ≡ cond long (refused 1 0) (answered (read (tinyDraft 1 (bytes "a")) more 3))
 unfolding described lineStep horizonOf isName firstLine keyNumber cut
-tiny-read more long e = ap (λ b. cond b (refused 1 0) (answered (read (tinyDraft 1 (97 ∷ [])) more 3))) e
+tiny-read more long e = ap (λ b. cond b (refused 1 0) (answered (read (tinyDraft 1 (bytes "a")) more 3))) e
 
-tiny-alone : described 64 tinyText ≡ answered (read (tinyDraft 1 (97 ∷ [])) [] 3)
+tiny-alone : described 64 tinyText ≡ answered (read (tinyDraft 1 (bytes "a")) [] 3)
 unfolding described lineStep horizonOf isName firstLine keyNumber cut
 tiny-alone = refl
 
@@ -66,15 +62,4 @@ long-examples = (
     tiny-read (letters 65512) true (ap (ltb 65535) (length-behind 65512)),
     (tiny-history 65535 false refl, (tiny-history 65536 true refl, (wrong-room (letters 65536), tt))),
   ),
-)
-
-too-long : (text : List ℕ) → ltb 65535 (length text) ≡ true → described 64 text ≡ refused 1 0
-unfolding described
-too-long text e = rw e
-
-pub long-outputs : Each Holds longOutputs
-unfolding output recordedIn decimal
-long-outputs = (
-  ap (λ o. afterInput (letters 65536) o (afterDescription (letters 65536) o)) (too-long (letters 65536) (ap (ltb 65535) (length-letters 65536))),
-  tt,
 )

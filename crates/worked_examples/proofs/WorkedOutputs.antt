@@ -26,33 +26,8 @@ use Rattle.inputs.specs.Inputs.{recordedIn}
 use Rattle.output_lines.specs.Writing.{decimal}
 use Rattle.report.specs.Output.{output}
 use Rattle.worked_examples.specs.Examples.{Holds}
-use Rattle.worked_examples.specs.Short.{shortOutputExamples}
-use Rattle.worked_examples.specs.Log.{logOutputs}
-use Rattle.worked_examples.specs.Capitals.{styleOutputs}
-use Rattle.worked_examples.specs.Faults.{faultOutputs}
-use Rattle.worked_examples.specs.Cuts.{cutOutputs}
 use Rattle.worked_examples.specs.Worked.{outputExamples}
 
 pub output-examples : Each Holds outputExamples
 unfolding output decimal shownFluent engine.answer verdict rulesOf badRule setOf holdsTrue holdsFalse complement badRecord badHorizon translation translated.outcome history.checked causalVerdict causal.reading cut keyNumber firstLine isName literal items listOf horizonOf readHead lineStep described readHistory recordedIn
-output-examples = (refl, (refl, (refl, (refl, (refl, (refl, (refl, (refl, (refl, (refl, (refl, (refl, (refl, tt)))))))))))))
-
-pub short-outputs : Each Holds shortOutputExamples
-unfolding output decimal shownFluent engine.answer verdict rulesOf badRule setOf holdsTrue holdsFalse complement badRecord badHorizon translation translated.outcome history.checked causalVerdict causal.reading cut keyNumber firstLine isName literal items listOf horizonOf readHead lineStep described readHistory recordedIn
-short-outputs = (refl, (refl, tt))
-
-pub log-outputs : Each Holds logOutputs
-unfolding output decimal shownFluent engine.answer verdict rulesOf badRule setOf holdsTrue holdsFalse complement badRecord badHorizon translation translated.outcome history.checked causalVerdict causal.reading cut keyNumber firstLine isName literal items listOf horizonOf readHead lineStep described readHistory recordedIn
-log-outputs = (refl, (refl, (refl, (refl, (refl, tt)))))
-
-pub style-outputs : Each Holds styleOutputs
-unfolding output decimal shownFluent engine.answer verdict rulesOf badRule setOf holdsTrue holdsFalse complement badRecord badHorizon translation translated.outcome history.checked causalVerdict causal.reading cut keyNumber firstLine isName literal items listOf horizonOf readHead lineStep described readHistory recordedIn
-style-outputs = (refl, (refl, tt))
-
-pub fault-outputs : Each Holds faultOutputs
-unfolding output decimal shownFluent engine.answer verdict rulesOf badRule setOf holdsTrue holdsFalse complement badRecord badHorizon translation translated.outcome history.checked causalVerdict causal.reading cut keyNumber firstLine isName literal items listOf horizonOf readHead lineStep described readHistory recordedIn
-fault-outputs = (refl, (refl, (refl, tt)))
-
-pub cut-outputs : Each Holds cutOutputs
-unfolding output decimal shownFluent engine.answer verdict rulesOf badRule setOf holdsTrue holdsFalse complement badRecord badHorizon translation translated.outcome history.checked causalVerdict causal.reading cut keyNumber firstLine isName literal items listOf horizonOf readHead lineStep described readHistory recordedIn
-cut-outputs = (refl, (refl, (refl, (refl, (refl, tt)))))
+output-examples = (refl, (refl, (refl, (refl, (refl, (refl, (refl, (refl, (refl, (refl, tt))))))))))

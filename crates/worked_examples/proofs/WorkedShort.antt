@@ -1,7 +1,6 @@
 -- The worked examples of the short laws hold.
 -- Assumes nothing.
 use mathlib.Core.Path.{refl}
-use Rattle.logic_programs.specs.Literals.{complement}
 use Rattle.basics.specs.Search.{Each}
 use Rattle.text.specs.Bytes.{cut}
 use Rattle.text.specs.Lines.{keyNumber, firstLine}
@@ -11,9 +10,6 @@ use Rattle.text.specs.Lists.{items, listOf}
 use Rattle.line_values.specs.HorizonText.{horizonOf}
 use Rattle.description_reader.specs.LineSteps.{readHead, lineStep}
 use Rattle.description_reader.specs.Descriptions.{described}
-use Rattle.shown_names.specs.Shown.{shownFluent}
-use Rattle.history_reader.specs.Histories.{readHistory}
-use Rattle.translation.specs.Rules.{translation}
 use Rattle.written_form.specs.Writing.{descriptionText}
 use Rattle.worked_examples.specs.Examples.{Holds}
 use Rattle.worked_examples.specs.Short.{shortRecipeExamples, shortExamples}
@@ -21,9 +17,9 @@ use Rattle.worked_examples.proofs.Spelled.{declared}
 use Rattle.worked_examples.proofs.WorkedTexts.{recipe-writable}
 
 pub short-recipe : Each Holds shortRecipeExamples
-unfolding cut keyNumber firstLine isName literal items listOf horizonOf readHead lineStep described readHistory shownFluent complement translation descriptionText
-short-recipe = (refl, (refl, (refl, (refl, ((refl, recipe-writable, declared), tt)))))
+unfolding cut keyNumber firstLine isName literal items listOf horizonOf readHead lineStep described descriptionText
+short-recipe = (refl, ((refl, recipe-writable, declared), tt))
 
 pub short-examples : Each Holds shortExamples
 unfolding cut keyNumber firstLine isName literal items listOf horizonOf readHead lineStep described
-short-examples = (refl, (refl, (refl, (refl, (refl, (refl, (refl, (refl, (refl, (refl, (refl, (refl, (refl, (refl, (refl, (refl, (refl, (refl, (refl, (refl, (refl, (refl, (refl, (refl, (refl, (refl, (refl, (refl, (refl, (refl, (refl, (refl, (refl, (refl, (refl, (refl, (refl, (refl, (refl, (refl, (refl, (refl, (refl, (refl, (refl, (refl, (refl, (refl, tt))))))))))))))))))))))))))))))))))))))))))))))))
+short-examples = (refl, (refl, (refl, (refl, (refl, (refl, (refl, (refl, (refl, (refl, (refl, (refl, (refl, (refl, (refl, (refl, (refl, (refl, (refl, (refl, (refl, (refl, (refl, (refl, (refl, (refl, (refl, (refl, (refl, (refl, (refl, tt)))))))))))))))))))))))))))))))

@@ -40,4 +40,4 @@ recipe-writable = record {
 
 pub text-examples : Each Holds textExamples
 unfolding cut keyNumber firstLine isName literal items listOf horizonOf readHead lineStep described readHistory shownFluent shownAction descriptionText valuesText
-text-examples = (refl, (refl, (refl, (refl, (refl, (refl, (refl, (refl, (refl, (refl, (refl, (refl, (refl, ((refl, recipe-writable, declared), ((refl, declared), tt)))))))))))))))
+text-examples = (refl, (refl, (refl, (refl, (refl, (refl, (refl, (refl, (refl, (refl, (refl, ((refl, recipe-writable, declared), ((refl, declared), tt)))))))))))))

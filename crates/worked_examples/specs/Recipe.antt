@@ -6,14 +6,11 @@ use Prim.Native.Nat.{ℕ}
 use Rattle.action_language.specs.Examples.{recipeLaws}
 use Rattle.description_reader.specs.LineSteps.{Draft}
 
--- locked, flowed
 abbrev pub recipeFluents : List (List ℕ)
-recipeFluents = (bytes "locked") ∷ (bytes "flowed") ∷ []
+recipeFluents = bytes "locked" ∷ bytes "flowed" ∷ []
 
--- reflow
 abbrev pub recipeActions : List (List ℕ)
-recipeActions = (bytes "reflow") ∷ []
+recipeActions = bytes "reflow" ∷ []
 
--- what the description reader is left with
 abbrev pub recipeDraft : Draft
 recipeDraft = record { horizon = 1; fluents = 2; names = recipeFluents ++ recipeActions; laws = recipeLaws }

@@ -11,8 +11,11 @@ use Rattle.basics.specs.Search.{tuples}
 use Rattle.basics.specs.Replies.{Reply, refused, answered}
 use Rattle.answer_sets.specs.Verdicts.{clash, broken, unfounded, passes}
 use Rattle.answer_sets.specs.Examples as engine-examples
+use Rattle.action_language.specs.declared.Head.the-variants.{Lit}
+use Rattle.action_language.specs.declared.Kind.the-variants.{Dynamic}
 use Rattle.action_language.specs.declared.Law.{Law}
 use Rattle.action_language.specs.declared.Description.{Description}
+use Rattle.action_language.specs.Laws.{lawOf}
 use Rattle.action_language.specs.Examples.{recipe, recipeLaws, door, doorLaws, water, waterLaws, largest, largestLaws}
 use Rattle.translation.specs.Translated.{written}
 use Rattle.history_check.specs.Checks.{Finding, missing, judged}
@@ -23,21 +26,19 @@ use Rattle.written_form.specs.Writing.{inFull, asDeclared}
 use Rattle.written_form.specs.HistoryWriting.{everyAction}
 use Rattle.worked_examples.specs.Tables.{recipeTable, doorTable1, doorTable2, waterTable1, waterTable2}
 use Rattle.worked_examples.specs.Program11.{program11, answerSets11}
-use Rattle.worked_examples.specs.Texts.{recipeText, historyText, m1Text, m2Text, m3Text, m4Text, m5Text, otherOrderText, badActText}
-use Rattle.worked_examples.specs.Texts.{doorText, doorHistoryText, doorText2, lateFaultText, firstFaultText, smallNames, lawText, badLawText, copies, letters}
-use Rattle.worked_examples.specs.Outputs.{passedOutput, m1Output, m2Output, m3Output, m4Output, m5Output, behindOutput}
-use Rattle.worked_examples.specs.Outputs.{badActOutput, doorOutput, lateFaultOutput, firstFaultOutput, emptyOutput, law65Output, longOutput}
+use Rattle.worked_examples.specs.Texts.{recipeText, historyText, m1Text, m2Text, m3Text, m4Text, m5Text, smallText}
+use Rattle.worked_examples.specs.Outputs.{recipeCounts, passedLines, passedOutput, m1Output, m2Output, m3Output, m4Output, m5Output}
 use Rattle.worked_examples.specs.Examples.{Example, engineSays, passingAre, translates, tableIs, tableLeft, historySays}
 use Rattle.worked_examples.specs.Examples.{historyLeaves, causalSays, pathsAre, reads, readsHistory, writes, writesHistory}
 use Rattle.worked_examples.specs.Examples.{prints, showsFluent, showsAction, codedAs, pairedAs}
 use Rattle.worked_examples.specs.Recipe.{recipeFluents, recipeActions, recipeDraft}
-use Rattle.worked_examples.specs.Short.{shortRecipeExamples, shortOutputExamples, shortExamples}
-use Rattle.worked_examples.specs.Log.{logExamples, callerExamples, logOutputs}
-use Rattle.worked_examples.specs.Capitals.{styleExamples, styleOutputs, capitalExamples}
+use Rattle.worked_examples.specs.Short.{shortRecipeExamples, shortExamples}
+use Rattle.worked_examples.specs.Log.{twoText, oneListed, logExamples, callerExamples}
+use Rattle.worked_examples.specs.Capitals.{styleText, styleM2, styleExamples, capitalExamples}
 use Rattle.worked_examples.specs.Transitions.{doorTransitions, waterTransitions}
 use Rattle.worked_examples.specs.Formulas.{crateFormulas, crateLevels, formulaExamples}
-use Rattle.worked_examples.specs.Faults.{faultExamples, faultOutputs}
-use Rattle.worked_examples.specs.Cuts.{cutExamples, joinExamples, apartExamples, cutOutputs}
+use Rattle.worked_examples.specs.Faults.{faultExamples}
+use Rattle.worked_examples.specs.Cuts.{cutExamples, joinExamples, apartExamples}
 use Rattle.worked_examples.specs.Format.{readerExamples, lineExamples, historyExamples, longExamples}
 
 -- an engine example of the crate below
@@ -55,7 +56,8 @@ ofRecipe vs answer reading = both recipe recipeLaws vs answer reading
 abbrev pub recordExamples : List Example
 recordExamples =
     -- the full recipe: its table, what is left behind its words, its verdicts
-    (translates recipe recipeLaws 53 (answered (written 5 12 53)) ∷ translates recipe recipeLaws 52 (refused 9 53) ∷ [])
+    (translates recipe recipeLaws 53 (answered (written 5 12 53)) ∷ [])
+    ++ (translates recipe recipeLaws 52 (refused 9 53) ∷ [])
     ++ (tableIs recipe recipeLaws recipeTable ∷ [])
     ++ (tableLeft recipe recipeLaws (replicate 60 7) (recipeTable ++ replicate 7 7) ∷ [])
     ++ (tableLeft recipe recipeLaws (replicate 52 7) (replicate 52 7) ∷ [])
@@ -77,12 +79,17 @@ recordExamples =
     ++ (historyLeaves recipe recipeLaws (2 ∷ 2 ∷ 1 ∷ 2 ∷ []) (replicate 60 7) (replicate 60 7) ∷ [])
     -- a contradiction at time 0 by a static law: in water and not wet
     ++ both (water 1) waterLaws (1 ∷ 2 ∷ 2 ∷ 1 ∷ 1 ∷ []) (answered (judged (broken 0))) (answered (contradicted 0 1))
+    -- an empty after-list makes no static law: the first state need not have what the law causes
+    ++ both (record { fluents = 1; actions = 0; laws = 1; horizon = 1 }) (lawOf Dynamic (Lit 0) [] [] ∷ []) (2 ∷ 1 ∷ [])
+    (answered (judged passes)) (answered path)
     -- faults at time 2: the door opens by nothing; it stays closed though it is opened
     ++ both (door 2) doorLaws (1 ∷ 2 ∷ 1 ∷ 2 ∷ 2 ∷ []) (answered (judged (unfounded 9))) (answered (uncaused 2 0))
     ++ both (door 2) doorLaws (1 ∷ 2 ∷ 1 ∷ 1 ∷ 1 ∷ []) (answered (judged (broken 4))) (answered (contradicted 2 1))
     -- horizons at the limits
-    ++ (translates (withHorizon recipe 0) recipeLaws 53 (refused 3 0) ∷ translates (withHorizon recipe 1) recipeLaws 53 (answered (written 5 12 53)) ∷ [])
-    ++ (translates (withHorizon recipe 30) recipeLaws 1126 (answered (written 92 244 1126)) ∷ translates (withHorizon recipe 31) recipeLaws 1200 (refused 3 0) ∷ [])
+    ++ (translates (withHorizon recipe 0) recipeLaws 53 (refused 3 0) ∷ [])
+    ++ (translates (withHorizon recipe 1) recipeLaws 53 (answered (written 5 12 53)) ∷ [])
+    ++ (translates (withHorizon recipe 30) recipeLaws 1126 (answered (written 92 244 1126)) ∷ [])
+    ++ (translates (withHorizon recipe 31) recipeLaws 1200 (refused 3 0) ∷ [])
 
 -- 30,912 words for the largest table are enough, and one fewer are refused
 abbrev pub largestExamples : List Example
@@ -101,9 +108,12 @@ paperExamples =
     -- of all 64 sets over three atoms, the four answer sets that 000 prints
     (passingAre 3 program11 answerSets11 ∷ [])
     -- (9) and (10) for T = 1 and 2
-    ++ (tableIs (door 1) doorLaws doorTable1 ∷ tableIs (door 2) doorLaws doorTable2 ∷ [])
-    ++ (tableIs (water 1) waterLaws waterTable1 ∷ tableIs (water 2) waterLaws waterTable2 ∷ [])
-    ++ (translates (door 2) doorLaws 44 (answered (written 5 11 44)) ∷ translates (water 2) waterLaws 92 (answered (written 8 21 92)) ∷ [])
+    ++ (tableIs (door 1) doorLaws doorTable1 ∷ [])
+    ++ (tableIs (door 2) doorLaws doorTable2 ∷ [])
+    ++ (tableIs (water 1) waterLaws waterTable1 ∷ [])
+    ++ (tableIs (water 2) waterLaws waterTable2 ∷ [])
+    ++ (translates (door 2) doorLaws 44 (answered (written 5 11 44)) ∷ [])
+    ++ (translates (water 2) waterLaws 92 (answered (written 8 21 92)) ∷ [])
     -- (3) has 2 states and exactly 4 explained transitions, (4) has 3 and 6
     ++ (pathsAre 1 1 0 doorLaws (tuples (1 ∷ 2 ∷ []) 1) ((1 ∷ []) ∷ (2 ∷ []) ∷ []) ∷ [])
     ++ (pathsAre 1 1 1 doorLaws (tuples (1 ∷ 2 ∷ []) 3) doorTransitions ∷ [])
@@ -120,9 +130,7 @@ textExamples =
     ∷ readsHistory recipeText m3Text 5 (answered (1 ∷ 2 ∷ 2 ∷ 2 ∷ 2 ∷ []))
     ∷ readsHistory recipeText m4Text 5 (answered (2 ∷ 0 ∷ 1 ∷ 2 ∷ 1 ∷ []))
     ∷ readsHistory recipeText m5Text 5 (answered (3 ∷ 2 ∷ 1 ∷ 2 ∷ 1 ∷ []))
-    ∷ readsHistory recipeText otherOrderText 5 (answered (3 ∷ 2 ∷ 1 ∷ 2 ∷ 1 ∷ []))
     -- the names shown: the part where each was declared; an empty one for a number that nothing declares
-    ∷ showsFluent recipeText 0 (bytes "locked")
     ∷ showsFluent recipeText 1 (bytes "flowed")
     ∷ showsFluent recipeText 2 []
     ∷ showsAction recipeText 0 (bytes "reflow")
@@ -132,7 +140,7 @@ textExamples =
     ∷ writesHistory 1 recipeFluents recipeActions asDeclared everyAction (2 ∷ 2 ∷ 1 ∷ 2 ∷ 1 ∷ []) historyText
     ∷ []
 
--- and what is printed
+-- and what is printed; other inputs are the stored vectors of test_vectors
 abbrev pub outputExamples : List Example
 outputExamples =
     prints (recipeText ++ historyText) passedOutput
@@ -141,21 +149,16 @@ outputExamples =
     ∷ prints (recipeText ++ m3Text) m3Output
     ∷ prints (recipeText ++ m4Text) m4Output
     ∷ prints (recipeText ++ m5Text) m5Output
-    -- an empty line behind the history
-    ∷ prints (recipeText ++ historyText ++ (10 ∷ [])) behindOutput
-    -- lines count over the whole input
-    ∷ prints (recipeText ++ badActText) badActOutput
-    ∷ prints [] emptyOutput
-    ∷ prints (smallNames ++ copies 64 lawText ++ badLawText) law65Output
-    -- a static law, every key; a fault at time 2; one at time 0
-    ∷ prints (doorText ++ doorHistoryText) doorOutput
-    ∷ prints (doorText2 ++ lateFaultText) lateFaultOutput
-    ∷ prints firstFaultText firstFaultOutput
+    -- a refusal; lines count over the whole input: a fluent where an action is due, in the history's second line
+    ∷ prints (smallText ++ bytes "state=a\nact=a\nstate=a\nend=\n") (bytes "refused=6\nplace=6\n")
+    -- a static law with nothing in its if-list, which the first state contradicts: time 0 is printed
+    ∷ prints (bytes "horizon=1\nfluent=a\nstatic=a\nif=\nend=\nstate=-a\nact=\nstate=a\nend=\n")
+    (bytes "horizon=1\natoms=2\nrules=4\nwords=14\nanswer=broken\nat=0\ncausal=contradicted\ntime=0\nitem=0\n")
+    -- a command log is judged with its actions filled (02, §2)
+    ∷ prints (twoText ++ oneListed) (bytes "horizon=2\natoms=7\nrules=13\nwords=52\n" ++ passedLines)
+    -- M2 as a style sheet spells it: the name as it was declared (02, §3)
+    ∷ prints (styleText ++ styleM2) (recipeCounts ++ bytes "answer=unfounded\nat=8\ncausal=uncaused\ntime=1\nitem=Flowed\n")
     ∷ []
-
--- a text that is too long
-abbrev pub longOutputs : List Example
-longOutputs = prints (letters 65536) longOutput ∷ []
 
 -- numbers for C: a value above its code, of which the low 56 bits are kept, and two numbers of 16 bits
 abbrev pub codeExamples : List Example
@@ -186,22 +189,16 @@ worked =
     ∷ outputExamples
     ∷ shortRecipeExamples
     ∷ shortExamples
-    ∷ shortOutputExamples
     ∷ logExamples
     ∷ callerExamples
-    ∷ logOutputs
     ∷ styleExamples
-    ∷ styleOutputs
     ∷ capitalExamples
-    ∷ longOutputs
     ∷ codeExamples
     ∷ crateFormulas
     ∷ crateLevels
     ∷ formulaExamples
     ∷ faultExamples
-    ∷ faultOutputs
     ∷ cutExamples
     ∷ joinExamples
     ∷ apartExamples
-    ∷ cutOutputs
     ∷ [])
