@@ -15,9 +15,8 @@ use Rattle.description_reader.specs.Descriptions.{Taken, read, described, descr
 use Rattle.history_reader.specs.Histories.{atoms, readHistory}
 use Rattle.shown_names.specs.Shown.{shownFluent}
 use Rattle.inputs.specs.Inputs.{movedBy, afterDescription, recordedIn}
-use Rattle.output_lines.specs.Writing.{outputLine, decimal}
 use Rattle.output_lines.specs.Printed.{countLines, findingLines, causalLines, readingLines, causalAfter, checkedLines}
-use Rattle.report.specs.Output.{room, afterOutcome, lawsTaken, afterInput, output}
+use Rattle.report.specs.Output.{room, afterOutcome, afterInput, output}
 use Rattle.written_form.specs.Respelling.{Respelled, ReadAlike, both-refused, both-read}
 use Rattle.written_form.proofs.Respelled.{respelling}
 use Rattle.respelled_inputs.specs.RespelledInputs.{PrintsAlike}

@@ -6,11 +6,11 @@ use Prim.Native.Nat.{_+_, _*_, _≤_}
 use native.Mathlib.Nat.{mul-le-mul}
 use native.Mathlib.Omega.{arith}
 use borrow.Author.Tests.{eq-eqb, ne-eqb}
-use Rattle.basics.specs.Search.{first, placeOf}
+use Rattle.basics.specs.Search.{placeOf}
 use Rattle.basics.proofs.Loops.{refused-at, not-refused}
 use Rattle.action_language.specs.Acceptance.{badRecord, badHorizon}
 use Rattle.action_language.proofs.Laws.{accepted-counts, accepted-horizon}
-use Rattle.causal_reading.specs.Readings.{notOneValue, reading}
+use Rattle.causal_reading.specs.Readings.{reading}
 use borrow.Author.Needs.{needs}
 use Rattle.causal_reading.proofs.causal_reading.Statement.{statement}
 use Rattle.causal_reading.proofs.causal_reading.Tie as tie

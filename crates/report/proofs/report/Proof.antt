@@ -1,6 +1,6 @@
 -- `report` meets its contract. What the input holds settles which part of the output's definition applies.
 -- Assumes nothing.
-use mathlib.Core.Path.{_≡_, sym, ap, _∙_}
+use mathlib.Core.Path.{sym, ap, _∙_}
 use native.Mathlib.Omega.{arith}
 use lib.ListN.{length, take, replicate, length-take}
 use Rattle.history_reader.specs.Histories.{historyReplyOf}

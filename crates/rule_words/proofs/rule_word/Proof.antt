@@ -3,7 +3,6 @@
 use mathlib.Core.Logic.{inl, inr}
 use Prim.Native.Nat.{_+_, _≤_}
 use native.Mathlib.Omega.{arith}
-use Rattle.rule_words.specs.Internal.{byKind}
 use Rattle.rule_words.proofs.RuleWords.{rule-within, rule-beyond, by-kind-bound, head-at, negated-count-at, plain-count-at, negated-at, plain-at, none-at}
 use Rattle.rule_words.proofs.rule_word.Statement.{statement}
 use Rattle.rule_words.proofs.rule_word.Tie as tie

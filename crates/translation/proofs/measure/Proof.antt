@@ -9,7 +9,7 @@ use borrow.Author.Tests.{lt-ltb, le-ltb}
 use Rattle.action_language.proofs.Laws.{accepted-counts, accepted-horizon}
 use Rattle.basics.proofs.Loops.{refused-at, not-refused}
 use Rattle.action_language.specs.Acceptance.{badRecord, badHorizon}
-use Rattle.translation.specs.Translated.{outcome, tableAfter}
+use Rattle.translation.specs.Translated.{outcome}
 use Rattle.translation.proofs.Writing.{product-bound}
 use Rattle.translation.proofs.measure.Statement.{statement}
 use Rattle.translation.proofs.measure.Tie as tie

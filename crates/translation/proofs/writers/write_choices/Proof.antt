@@ -1,7 +1,7 @@
 -- `write_choices` meets its contract. The invariant: the words from place i on are left for the table.
 -- Assumes nothing.
 use mathlib.Core.Path.{_≡_, sym, ap, _∙_}
-use Prim.Native.Nat.{ℕ, _+_, _*_, _/_, _-_, _<_}
+use Prim.Native.Nat.{ℕ, _+_, _*_, _/_, _-_}
 use native.Mathlib.Omega.{arith}
 use borrow.Author.Tests.{lt-ltb}
 use lib.ListN.{length}
