@@ -43,7 +43,8 @@ module _ (n m : ℕ) (vs : List ℕ) (t : ℕ) where
 
   -- the verdict on the three parts is the one on the states and the actions
   pub step-parts : (ls : List Law)
-      → stepVerdict n ls (read (part (t * (n + m)) vs)) (read (part (t * (n + m) + n) vs)) (read (part (t * (n + m) + n + m) vs)) (t + 1) path
+      → stepVerdict n ls (read (part (t * (n + m)) vs)) (read (part (t * (n + m) + n) vs))
+      (read (part (t * (n + m) + n + m) vs)) (t + 1) path
       ≡ stepVerdict n ls (stateAt n m vs t) (actionAt n m vs t) (stateAt n m vs (suc t)) (suc t) path
   step-parts ls =
       same-verdict n ls (read-part (t * (n + m)) vs) (read-part (t * (n + m) + n) vs)

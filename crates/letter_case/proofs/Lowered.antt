@@ -91,11 +91,15 @@ module _ (low high most : ℕ) (names : List (List ℕ)) where
       rw (literal-lowered low high names x)
       (ap (λ next. cond (ltb (length done) most) next (Listed.refused 5)) (go (literal names low high x) (λ more. list-from more xs)))
     where
-      go : (o : Option ℕ) → ((more : List ℕ) → listFrom (map (map lowered) names) low high most more (map (map lowered) xs) ≡ listFrom names low high most more xs)
-          → added done o (λ more. listFrom (map (map lowered) names) low high most more (map (map lowered) xs)) ≡ added done o (λ more. listFrom names low high most more xs)
+      go : (o : Option ℕ)
+          → ((more : List ℕ)
+          → listFrom (map (map lowered) names) low high most more (map (map lowered) xs) ≡ listFrom names low high most more xs)
+          → added done o (λ more. listFrom (map (map lowered) names) low high most more (map (map lowered) xs))
+          ≡ added done o (λ more. listFrom names low high most more xs)
       go none later = refl
       go (some c) later = later (done ++ (c ∷ []))
 
-  pub list-lowered : (value : List ℕ) → listOf (map (map lowered) names) low high most (map lowered value) ≡ listOf names low high most value
+  pub list-lowered : (value : List ℕ)
+      → listOf (map (map lowered) names) low high most (map lowered value) ≡ listOf names low high most value
   unfolding listOf
   list-lowered value = rw (items-lowered value) (list-from [] (items value))

@@ -45,8 +45,12 @@ returns c =
     let told = w .before .before .before in
     let i = told .before .before in
     let a = i .before .before .before .args in
-    let input = a .input .now in
-    (from-first (a .out .now) (output input) (rw (says-refused input (sym (ap historyReplyOf (told .answer .given .1)) ∙ i .read-input .ensures .0)) (w .put-refusal .ensures .0)), (w .put-refusal .ensures .1, program input))
+    let input = a .input .now in (
+      from-first (a .out .now) (output input)
+          (rw (says-refused input (sym (ap historyReplyOf (told .answer .given .1)) ∙ i .read-input .ensures .0))
+          (w .put-refusal .ensures .0)),
+      (w .put-refusal .ensures .1, program input),
+    )
 
 same-length-2 : tie.Need-same-length-2
 same-length-2 c = search needs
