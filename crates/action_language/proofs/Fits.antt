@@ -47,7 +47,8 @@ after-below n m Dynamic l e =
 
 pub law-fits : (n m : ℕ) (l : Law) → lawFits n m l ≡ true → Fits n m l
 law-fits n m l e =
-    let (front, after) = and-iff (headFits n (l .head) && leb (l .«if_count») 6 && codesBelow (2 * n) (ifList l)) (afterFits n m (l .kind) l) .0 e in
+    let (front, after) =
+    and-iff (headFits n (l .head) && leb (l .«if_count») 6 && codesBelow (2 * n) (ifList l)) (afterFits n m (l .kind) l) .0 e in
     let (counts, ifs) = and-iff (headFits n (l .head) && leb (l .«if_count») 6) (codesBelow (2 * n) (ifList l)) .0 front in
     record {
       head = head-below n (l .head) (and-iff (headFits n (l .head)) (leb (l .«if_count») 6) .0 counts .0);

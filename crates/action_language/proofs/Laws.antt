@@ -45,7 +45,13 @@ counts-limits d lent h =
 pub counts-true : (d : Description) (lent : ℕ) → 1 ≤ d .fluents → d .fluents ≤ 24 → d .actions ≤ 8 → d .laws ≤ 64 → d .laws ≤ lent
     → countsFit d lent ≡ true
 counts-true d lent one few actions laws held =
-    simp (le-leb 1 (d .fluents) one, le-leb (d .fluents) 24 few, le-leb (d .actions) 8 actions, le-leb (d .laws) 64 laws, le-leb (d .laws) lent held)
+    simp (
+      le-leb 1 (d .fluents) one,
+      le-leb (d .fluents) 24 few,
+      le-leb (d .actions) 8 actions,
+      le-leb (d .laws) 64 laws,
+      le-leb (d .laws) lent held,
+    )
 
 pub counts-false : (d : Description) (lent : ℕ)
     → ((1 ≤ d .fluents) × (d .fluents ≤ 24) × (d .actions ≤ 8) × (d .laws ≤ 64) × (d .laws ≤ lent) → ⊥) → countsFit d lent ≡ false
@@ -121,6 +127,7 @@ module _ (n m : ℕ) (l : Law) (fits : lawFits n m l ≡ true) where
   pub fits-after : l .kind ≡ Dynamic → (l .«after_count» ≤ 6) × (codesBelow (2 * (n + m)) (afterList l) ≡ true)
   fits-after e = after-limits (l .kind) e (last (headFits n (l .head) && leb (l .«if_count») 6 && codesBelow (2 * n) (ifList l)) fits .1)
     where
-      after-limits : (k : Kind) → k ≡ Dynamic → afterFits n m k l ≡ true → (l .«after_count» ≤ 6) × (codesBelow (2 * (n + m)) (afterList l) ≡ true)
+      after-limits : (k : Kind) → k ≡ Dynamic → afterFits n m k l ≡ true
+          → (l .«after_count» ≤ 6) × (codesBelow (2 * (n + m)) (afterList l) ≡ true)
       after-limits Static e h = let z : _≡_ {A = ℕ} 0 1 = cc in absurd (omega arith)
       after-limits Dynamic e h = let t = last (leb (l .«after_count») 6) h in (leb-true _ _ (t .0), t .1)

@@ -10,7 +10,9 @@ use Rattle.action_language.specs.declared.Law.{Law}
 use Rattle.action_language.specs.Meaning.{Interpretation, Same, Explained}
 use Rattle.action_language.specs.Examples.{doorLaws, waterLaws}
 use Rattle.action_language.specs.Acceptance.{badRecord, badHorizon}
-use Rattle.action_language.specs.MeaningExamples.{one, two, ShownBy, CausedExamples, DoorExamples, WaterExamples, RecipeExamples, AcceptanceExamples, AtomExamples, DefinitionsHold}
+use Rattle.action_language.specs.MeaningExamples.{one, two, ShownBy, CausedExamples, DoorExamples, WaterExamples}
+use Rattle.action_language.specs.MeaningExamples.{RecipeExamples, AcceptanceExamples, AtomExamples}
+use Rattle.action_language.specs.MeaningExamples.{DefinitionsHold}
 
 caused-examples : CausedExamples
 caused-examples = record {

@@ -12,7 +12,8 @@ use lib.ListN.{length, getD, take, drop, length-append}
 use lib.Seq.{drop-drop, take-append-seam, drop-append-seam, take-at, take-add}
 use Rattle.basics.specs.Search.{Each}
 use Rattle.logic_programs.specs.Rules.{Head, lit, falsum, Rule}
-use Rattle.logic_programs.specs.Words.{headWord, ruleWords, words, headOf, ruleSize, ruleAt, rulesIn, rulesOf, headFits, ruleFits, badRuleIn, badRule}
+use Rattle.logic_programs.specs.Words.{headWord, ruleWords, words, headOf, ruleSize, ruleAt, rulesIn, rulesOf, headFits}
+use Rattle.logic_programs.specs.Words.{ruleFits, badRuleIn, badRule}
 use Rattle.basics.proofs.Tests.{true-of-not, and-iff, or-iff, each-map, each-append}
 use Rattle.rule_tables.proofs.Fitting.{afterRule, badRuleFrom, badRuleFrom-cons, badRuleFrom-nil, badRule-from, ruleFits-iff}
 use Rattle.rule_tables.proofs.Walking.{rulesOf-nil, rulesOf-cons}

@@ -15,7 +15,8 @@ use Rattle.logic_programs.specs.AnswerSets.{reduct, HeadIn, literalHeaded, IsLe
 use Rattle.rule_tables.specs.Bodies.{applies, headIn}
 use Rattle.answer_sets.specs.Verdicts.{Verdict, clash, broken, unfounded, passes, rounds, bothValues, isBroken, isUnfounded, verdict}
 use Rattle.answer_sets.specs.Demand2.{Clashing, BrokenRule, BrokenAt, Unfounded, noRule}
-use Rattle.basics.proofs.Tests.{not-both, false-of-not, and-iff, not-iff, iff-and₃, first-lowest, first-nowhere, range-lowest, range-nowhere}
+use Rattle.basics.proofs.Tests.{not-both, false-of-not, and-iff, not-iff, iff-and₃, first-lowest, first-nowhere}
+use Rattle.basics.proofs.Tests.{range-lowest, range-nowhere}
 use Rattle.answer_sets.proofs.Least.{HeadsBelow, applies-iff, least-closed}
 
 -- The faults' tests

@@ -167,7 +167,8 @@ count-subset (suc n) Y Z h = omega (arith, bit-le (Y n) (Z n) (h n), count-subse
 
 count-same : (n : ℕ) (Y Z : Lits) → Subset Y Z → count n Z ≤ count n Y → (c : ℕ) → c < n → Z c ≡ true → Y c ≡ true
 count-same zero Y Z h few c low e = absurd (omega arith)
-count-same (suc n) Y Z h few c low e = ⊎-elim (λ b. count-same n Y Z h (omega (arith, one)) c (ltb-true c n b) e) top (true-or-false (ltb c n))
+count-same (suc n) Y Z h few c low e =
+    ⊎-elim (λ b. count-same n Y Z h (omega (arith, one)) c (ltb-true c n b) e) top (true-or-false (ltb c n))
   where
     one : bit (Y n) ≤ bit (Z n)
     one = bit-le (Y n) (Z n) (h n)
@@ -226,7 +227,8 @@ module _ (N : ℕ) (Π : List Rule) (X : Lits) (low : HeadsBelow N Π) where
   pub rounds-settle : rounds (suc N) Π X ≡ rounds N Π X
   rounds-settle = ⊎-elim (λ e. e) (λ more. absurd (omega (arith, count-small N (rounds (suc N) Π X)))) (settled-or-more N)
 
-pub least-closed : (n : ℕ) (Π : List Rule) (X : Lits) → HeadsBelow (2 * n) Π → IsLeastClosed (literalHeaded (reduct Π X)) (rounds (2 * n) Π X)
+pub least-closed : (n : ℕ) (Π : List Rule) (X : Lits) → HeadsBelow (2 * n) Π
+    → IsLeastClosed (literalHeaded (reduct Π X)) (rounds (2 * n) Π X)
 least-closed n Π X low = record {
   closed = closed-round Π X (rounds (2 * n) Π X) .1 (λ c e. rw (rounds-settle (2 * n) Π X low) at e);
   least = λ Y h. rounds-within (2 * n) Π X Y h;

@@ -51,7 +51,8 @@ outside-lacks : (Y : Lits) (cs : List ℕ) → outside Y cs ≢ 65535 → Y (out
 outside-lacks Y [] n = absurd (n refl)
 outside-lacks Y (c ∷ cs) n = go (Y c) refl (outside-lacks Y cs) n
   where
-    go : (b : Bool) → Y c ≡ b → (outside Y cs ≢ 65535 → Y (outside Y cs) ≡ false) → cond b (outside Y cs) c ≢ 65535 → Y (cond b (outside Y cs) c) ≡ false
+    go : (b : Bool) → Y c ≡ b → (outside Y cs ≢ 65535 → Y (outside Y cs) ≡ false) → cond b (outside Y cs) c ≢ 65535
+        → Y (cond b (outside Y cs) c) ≡ false
     go true t ih m = ih m
     go false f ih m = f
 
@@ -66,7 +67,9 @@ module _ (rest : List ℕ) (w : ℕ) (Y : Lits) where
   waits-none r h is e head t = rw (← is, e, ← head, t)
 
   pub waits-part : (r h : Bool) → r ≡ (ltb w 2048 && not (Y w)) → r ≡ false → h ≡ Y (getD rest 0 0) → h ≡ false
-      → (p : ℕ) → p ≡ outside Y (take (3 + getD rest 1 0 + getD rest 2 0 - (3 + getD rest 1 0)) (drop (3 + getD rest 1 0) rest)) → p ≡ waitsFor rest w Y
+      → (p : ℕ)
+      → p ≡ outside Y (take (3 + getD rest 1 0 + getD rest 2 0 - (3 + getD rest 1 0)) (drop (3 + getD rest 1 0) rest))
+      → p ≡ waitsFor rest w Y
   unfolding waitsFor
   waits-part r h is e head f p q =
       let size : 3 + getD rest 1 0 + getD rest 2 0 - (3 + getD rest 1 0) ≡ getD rest 2 0 = omega arith in
@@ -79,7 +82,8 @@ module _ (ws : List ℕ) (s w : ℕ) (Y : Lits) (held : Waiting ws s w) where
   unfolding waitsFor
   settled e head = go (ltb w 2048 && not (Y w)) refl e
     where
-      go : (b : Bool) → (ltb w 2048 && not (Y w)) ≡ b → cond b w (cond (Y (headWordAt ws s)) 65535 (outside Y (plainAt ws s))) ≡ 65535 → all Y (plainAt ws s) ≡ true
+      go : (b : Bool) → (ltb w 2048 && not (Y w)) ≡ b
+          → cond b w (cond (Y (headWordAt ws s)) 65535 (outside Y (plainAt ws s))) ≡ 65535 → all Y (plainAt ws s) ≡ true
       go true t q = absurd (omega (arith, ltb-true w 2048 (and-iff (ltb w 2048) (not (Y w)) .0 t .0)))
       go false f q = none-outside Y (plainAt ws s) (held .parts) (rw head at q)
 

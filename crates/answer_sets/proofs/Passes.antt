@@ -16,7 +16,8 @@ use Rattle.rule_tables.specs.Bodies.{applies}
 use Rattle.answer_sets.specs.Verdicts.{passes, rounds, isBroken, verdict}
 use Rattle.answer_sets.specs.Demand2.{Clashing, BrokenRule, BrokenAt, Unfounded, noRule}
 use Rattle.basics.proofs.Tests.{not-both, false-of-not, true-of-not, each-map₂, each-at}
-use Rattle.answer_sets.proofs.Least.{HeadsBelow, Below, LiteralIn, applies-iff, applies-subset, reduct-closed, literal-closed, closed-literal, least-closed}
+use Rattle.answer_sets.proofs.Least.{HeadsBelow, Below, LiteralIn, applies-iff, applies-subset, reduct-closed}
+use Rattle.answer_sets.proofs.Least.{literal-closed, closed-literal, least-closed}
 use Rattle.answer_sets.proofs.FirstFault.{no-broken, faultless-iff}
 
 -- a set is closed exactly where no rule is broken
@@ -47,10 +48,12 @@ pub unbroken-closed : (Π : List Rule) (X : Lits) → first (isBroken X) 0 Π �
 unbroken-closed Π X e = closed-literal Π X X (closed-iff Π X .1 (no-broken 0 Π X .0 e))
 
 -- the least set of a closed X is closed under the constraints too
-least-reduct : (Π : List Rule) (X L : Lits) → Subset L X → Closed (reduct Π X) X → Closed (literalHeaded (reduct Π X)) L → Closed (reduct Π X) L
+least-reduct : (Π : List Rule) (X L : Lits) → Subset L X → Closed (reduct Π X) X → Closed (literalHeaded (reduct Π X)) L
+    → Closed (reduct Π X) L
 least-reduct Π X L sub closed literal =
     reduct-closed Π X L .1
-    (each-map₂ (λ r l x e. head (r .head) (l e) (x (applies-subset X sub r e))) Π (literal-closed Π X L .0 literal) (reduct-closed Π X X .0 closed))
+    (each-map₂ (λ r l x e. head (r .head) (l e) (x (applies-subset X sub r e))) Π (literal-closed Π X L .0 literal)
+    (reduct-closed Π X X .0 closed))
   where
     head : (h : Head) → LiteralIn h L → HeadIn h X → HeadIn h L
     head (lit c) l x = l

@@ -40,7 +40,8 @@ pub record Turned (table : List ℕ) (Y : Lits) (before : List ℕ) (n m count :
   pub done : EachWaiting table starts waits left
   pub ahead : (j : ℕ) → i ≤ j → j < count → Waiting table (getD starts j 0) (getD waits j 0)
   pub bodies : (c : ℕ) → heads table (take left starts) Y c ≡ false
-  pub same : (Z : Lits) → Subset Y Z → (c : ℕ) → (marked new c || heads table (take left starts ++ drop i (take count starts)) Z c) ≡ (Y c || heads table before Z c)
+  pub same : (Z : Lits) → Subset Y Z → (c : ℕ)
+      → (marked new c || heads table (take left starts ++ drop i (take count starts)) Z c) ≡ (Y c || heads table before Z c)
 
 pub turn-start : (table : List ℕ) (old starts waits : List ℕ) (count : ℕ) → length old ≡ 32 → EachWaiting table starts waits count
     → Turned table (marked old) (take count starts) (length starts) (length waits) count old starts waits 0 0
@@ -67,7 +68,8 @@ module _ (table : List ℕ) (Y : Lits) (before : List ℕ) (n m count : ℕ) (ne
       rw (add-one, drop-cons (take count starts) i 0 size, getD-take)
 
   -- the rule leaves, and its head is marked
-  leaves : i < count → waitsFor (drop (getD starts i 0) table) (getD waits i 0) Y ≡ 65535 → (head : ℕ) → head ≡ headWordAt table (getD starts i 0)
+  leaves : i < count → waitsFor (drop (getD starts i 0) table) (getD waits i 0) Y ≡ 65535 → (head : ℕ)
+      → head ≡ headWordAt table (getD starts i 0)
       → Turned table Y before n m count (withMark new head) starts waits left (i + 1)
   leaves h e head is = record {
     packed = omega (arith, inv .packed);
@@ -79,13 +81,24 @@ module _ (table : List ℕ) (Y : Lits) (before : List ℕ) (n m count : ℕ) (ne
     ahead = λ j l. inv .ahead j (omega arith);
     bodies = inv .bodies;
     same = λ Z sub c.
-        rw (in-stored new head (omega (arith, inv .marks-size, next h .head)) c, heads-append table Z c (take left starts) (drop (i + 1) (take count starts)))
-        (marks Z sub c (eqb head c) refl (rw (front h, heads-append table Z c (take left starts) (getD starts i 0 ∷ drop (i + 1) (take count starts)), ← is) at (inv .same Z sub c)));
+        rw (
+          in-stored new head (omega (arith, inv .marks-size, next h .head)) c,
+          heads-append table Z c (take left starts) (drop (i + 1) (take count starts)),
+        )
+        (marks Z sub c (eqb head c) refl
+        (rw (
+          front h,
+          heads-append table Z c (take left starts) (getD starts i 0 ∷ drop (i + 1) (take count starts)),
+          ← is,
+        ) at (inv .same Z sub c)));
   }
     where
       marks : (Z : Lits) → Subset Y Z → (c : ℕ) (b : Bool) → eqb head c ≡ b
-          → (marked new c || (heads table (take left starts) Z c || ((eqb head c && all Z (plainAt table (getD starts i 0))) || heads table (drop (i + 1) (take count starts)) Z c))) ≡ (Y c || heads table before Z c)
-          → ((b || marked new c) || (heads table (take left starts) Z c || heads table (drop (i + 1) (take count starts)) Z c)) ≡ (Y c || heads table before Z c)
+          → (marked new c || (heads table (take left starts) Z c
+          || ((eqb head c && all Z (plainAt table (getD starts i 0))) || heads table (drop (i + 1) (take count starts)) Z c)))
+          ≡ (Y c || heads table before Z c)
+          → ((b || marked new c) || (heads table (take left starts) Z c || heads table (drop (i + 1) (take count starts)) Z c))
+          ≡ (Y c || heads table before Z c)
       marks Z sub c true t q =
           gained (Y c) refl (rw t at q)
         where
@@ -95,13 +108,17 @@ module _ (table : List ℕ) (Y : Lits) (before : List ℕ) (n m count : ℕ) (ne
           full false false d = refl
 
           gained : (b : Bool) → Y c ≡ b
-              → (marked new c || (heads table (take left starts) Z c || ((true && all Z (plainAt table (getD starts i 0))) || heads table (drop (i + 1) (take count starts)) Z c)))
+              → (marked new c || (heads table (take left starts) Z c
+              || ((true && all Z (plainAt table (getD starts i 0))) || heads table (drop (i + 1) (take count starts)) Z c)))
               ≡ (Y c || heads table before Z c) → true ≡ (Y c || heads table before Z c)
           gained true y p = rw y
           gained false y p =
               let holds = settled table (getD starts i 0) (getD waits i 0) Y (next h) e (rw (← is, eqb-true head c t) y) in
-              let larger : all Z (plainAt table (getD starts i 0)) ≡ true = all-within Z (plainAt table (getD starts i 0)) .1 (within-subset sub (plainAt table (getD starts i 0)) (all-within Y (plainAt table (getD starts i 0)) .0 holds)) in
-              sym (full (marked new c) (heads table (take left starts) Z c) (heads table (drop (i + 1) (take count starts)) Z c)) ∙ (rw larger at p)
+              let larger : all Z (plainAt table (getD starts i 0)) ≡ true =
+              all-within Z (plainAt table (getD starts i 0)) .1
+              (within-subset sub (plainAt table (getD starts i 0)) (all-within Y (plainAt table (getD starts i 0)) .0 holds)) in
+              sym (full (marked new c) (heads table (take left starts) Z c) (heads table (drop (i + 1) (take count starts)) Z c))
+              ∙ (rw larger at p)
       marks Z sub c false f q = rw f at q
 
   -- the rule goes on waiting, and moves to the front
@@ -113,7 +130,8 @@ module _ (table : List ℕ) (Y : Lits) (before : List ℕ) (n m count : ℕ) (ne
       let size′ = inv .waits-size in
       let s = getD starts i 0 in
       let (lacks, held) = still table s (getD waits i 0) Y (next h) (λ q. waiting (is ∙ q)) in
-      let more : take (left + 1) (set starts left s) ≡ take left starts ++ (s ∷ []) = rw (add-one left, take-suc-set starts left s (omega arith)) in
+      let more : take (left + 1) (set starts left s) ≡ take left starts ++ (s ∷ []) =
+      rw (add-one left, take-suc-set starts left s (omega arith)) in
       let rest : drop (i + 1) (take count (set starts left s)) ≡ drop (i + 1) (take count starts) =
       rw (take-set-lt count starts left s (omega arith), drop-set-lt (i + 1) (take count starts) left s (omega arith)) in
       record {
@@ -123,29 +141,39 @@ module _ (table : List ℕ) (Y : Lits) (before : List ℕ) (n m count : ℕ) (ne
         starts-size = length-set starts left s ∙ size;
         waits-size = length-set waits left w ∙ size′;
         done = below-more (λ j. Waiting table (getD (set starts left s) j 0) (getD (set waits left w) j 0)) left
-            (λ j l. rw (getD-set-other starts left j s 0 (λ q. omega arith), getD-set-other waits left j w 0 (λ q. omega arith)) (inv .done j l))
+            (λ j l. rw (
+              getD-set-other starts left j s 0 (λ q. omega arith),
+              getD-set-other waits left j w 0 (λ q. omega arith),
+            ) (inv .done j l))
             (rw (getD-set-same starts left s 0 (omega arith), getD-set-same waits left w 0 (omega arith), is) held);
         ahead = λ j l k.
-            rw (getD-set-other starts left j s 0 (λ q. omega arith), getD-set-other waits left j w 0 (λ q. omega arith)) (inv .ahead j (omega arith) k);
-        bodies = λ c. rw (more, heads-append table Y c (take left starts) (s ∷ []), inv .bodies c, lacks, and-false (eqb (headWordAt table s) c));
-        same = λ Z sub c. rw (more, rest, append-snoc (take left starts) s (drop (i + 1) (take count starts)), ← front h) (inv .same Z sub c);
+            rw (getD-set-other starts left j s 0 (λ q. omega arith), getD-set-other waits left j w 0 (λ q. omega arith))
+            (inv .ahead j (omega arith) k);
+        bodies = λ c.
+            rw (more, heads-append table Y c (take left starts) (s ∷ []), inv .bodies c, lacks, and-false (eqb (headWordAt table s) c));
+        same =
+            λ Z sub c. rw (more, rest, append-snoc (take left starts) s (drop (i + 1) (take count starts)), ← front h) (inv .same Z sub c);
       }
 
   -- what a turn leaves
-  pub turn : i < count → (w : ℕ) → w ≡ waitsFor (wordsFrom table (getD starts i 0)) (getD waits i 0) Y → (new′ starts′ waits′ : List ℕ) (left′ : ℕ)
-      → ((w ≡ 65535) × (new′ ≡ withMark new (getD (wordsFrom table (getD starts i 0)) 0 0)) × (starts′ ≡ starts) × (waits′ ≡ waits) × (left′ ≡ left))
+  pub turn : i < count → (w : ℕ) → w ≡ waitsFor (wordsFrom table (getD starts i 0)) (getD waits i 0) Y
+      → (new′ starts′ waits′ : List ℕ) (left′ : ℕ)
+      → ((w ≡ 65535) × (new′ ≡ withMark new (getD (wordsFrom table (getD starts i 0)) 0 0)) × (starts′ ≡ starts)
+      × (waits′ ≡ waits) × (left′ ≡ left))
       ⊎ ((w ≢ 65535) × (new′ ≡ new) × (starts′ ≡ set starts left (getD starts i 0)) × (waits′ ≡ set waits left w) × (left′ ≡ left + 1))
       → Turned table Y before n m count new′ starts′ waits′ left′ (i + 1)
   turn h w is new′ starts′ waits′ left′ came =
       let e = rw (to-the-end (getD starts i 0) table) at is in
       ⊎-elim
-      (λ t. rw (t .1, t .2, t .3, t .4) (leaves h (sym e ∙ t .0) (getD (wordsFrom table (getD starts i 0)) 0 0) (rw (to-the-end (getD starts i 0) table))))
+      (λ t. rw (t .1, t .2, t .3, t .4)
+      (leaves h (sym e ∙ t .0) (getD (wordsFrom table (getD starts i 0)) 0 0) (rw (to-the-end (getD starts i 0) table))))
       (λ t. rw (t .1, t .2, t .3, t .4) (stays h w e (t .0)))
       came
 
   pub turned : count ≤ i → (left ≤ count) × EachWaiting table starts waits left × Made table Y before new (take left starts)
   turned h =
-      let none-ahead : take left starts ++ drop i (take count starts) ≡ take left starts = rw (drop-of-length-le (take count starts) {i = i} (omega (arith, length-take count starts)), append-nil) in (
+      let none-ahead : take left starts ++ drop i (take count starts) ≡ take left starts =
+      rw (drop-of-length-le (take count starts) {i = i} (omega (arith, length-take count starts)), append-nil) in (
         omega (arith, inv .packed, inv .within),
         inv .done,
         record {
@@ -167,7 +195,8 @@ pub record Reached (table : List ℕ) (X : Lits) (starts waits : List ℕ) (coun
   pub closed : Closed (literalHeaded (reduct (rulesOf table) X)) X
   pub waiting : EachWaiting table starts waits count
   pub is : marked marks ≡ rounds k (rulesOf table) X
-  pub covers : (Z : Lits) → Subset (marked marks) Z → Subset Z X → (c : ℕ) → (marked marks c || heads table (take count starts) Z c) ≡ round (rulesOf table) X Z c
+  pub covers : (Z : Lits) → Subset (marked marks) Z → Subset Z X → (c : ℕ)
+      → (marked marks c || heads table (take count starts) Z c) ≡ round (rulesOf table) X Z c
 
 pub reach-start : (table : List ℕ) (X : Lits) (starts waits : List ℕ) (count : ℕ) (marks : List ℕ) → Begun table X starts count
     → (n : ℕ) → waits ≡ replicate n 65535 → count ≤ n → marks ≡ replicate 32 0 → Reached table X starts waits count marks 0
@@ -182,13 +211,16 @@ reach-start table X starts waits count marks begun n w few m =
       covers = λ Z _ sub c. rw (in-clear 32 c) (begun .enough Z sub c);
     })
 
-module _ (table : List ℕ) (X : Lits) (starts waits : List ℕ) (count : ℕ) (marks : List ℕ) (k : ℕ) (inv : Reached table X starts waits count marks k)
+module _ (table : List ℕ) (X : Lits) (starts waits : List ℕ) (count : ℕ) (marks : List ℕ) (k : ℕ)
+    (inv : Reached table X starts waits count marks k)
     (new after : List ℕ) (made : Made table (marked marks) (take count starts) new after) where
   -- a round over the rules that wait is a round over all
   pub round-whole : marked new ≡ round (rulesOf table) X (marked marks)
-  round-whole = fun-ext (λ c. made .added c ∙ inv .covers (marked marks) (λ d e. e) (rw (inv .is) (rounds-within k (rulesOf table) X X (inv .closed))) c)
+  round-whole = fun-ext
+      (λ c. made .added c ∙ inv .covers (marked marks) (λ d e. e) (rw (inv .is) (rounds-within k (rulesOf table) X X (inv .closed))) c)
 
-  pub reach-next : (starts′ waits′ : List ℕ) (left : ℕ) → after ≡ take left starts′ → left ≤ count → length starts′ ≡ length starts → length waits′ ≡ length waits
+  pub reach-next : (starts′ waits′ : List ℕ) (left : ℕ) → after ≡ take left starts′ → left ≤ count
+      → length starts′ ≡ length starts → length waits′ ≡ length waits
       → EachWaiting table starts′ waits′ left → Reached table X starts′ waits′ left new (k + 1)
   reach-next starts′ waits′ left e less size size′ each = record {
     starts-room = omega (arith, inv .starts-room);
@@ -197,10 +229,13 @@ module _ (table : List ℕ) (X : Lits) (starts waits : List ℕ) (count : ℕ) (
     closed = inv .closed;
     waiting = each;
     is = round-after (rulesOf table) X (marked marks) k (inv .is) (marked new) round-whole;
-    covers = λ Z up sub c. let wide : Subset (marked marks) Z = λ d t. up d (rw (made .added d, t)) in rw (← e) (made .kept Z wide c) ∙ inv .covers Z wide sub c;
+    covers =
+        λ Z up sub c. let wide : Subset (marked marks) Z = λ d t. up d (rw (made .added d, t)) in
+        rw (← e) (made .kept Z wide c) ∙ inv .covers Z wide sub c;
   }
 
-pub derived : (n : ℕ) (Π : List Rule) (X : Lits) (words : List ℕ) → HeadsBelow (2 * n) Π → length words ≡ 32 → marked words ≡ rounds (2 * n) Π X
+pub derived : (n : ℕ) (Π : List Rule) (X : Lits) (words : List ℕ) → HeadsBelow (2 * n) Π → length words ≡ 32
+    → marked words ≡ rounds (2 * n) Π X
     → Derived n Π X words
 derived n Π X words low size is = record {
   least-marked = λ e. record {

@@ -21,7 +21,8 @@ use Rattle.logic_programs.specs.Words.{ruleSize, ruleAt, headOf, rulesOf}
 use Rattle.rule_tables.specs.Bodies.{applies, headIn, frontApplies}
 use Rattle.rule_tables.specs.Internal.{Sound}
 use Rattle.rule_tables.proofs.Fronts.{whole-applies}
-use Rattle.rule_tables.proofs.Walking.{rules-front, rules-end, rule-stop, rule-go, rule-end, sound-size, sound-head, sound-few, sound-fits, sound-rest, sound-before}
+use Rattle.rule_tables.proofs.Walking.{rules-front, rules-end, rule-stop, rule-go, rule-end, sound-size, sound-head}
+use Rattle.rule_tables.proofs.Walking.{sound-few, sound-fits, sound-rest, sound-before}
 use Rattle.answer_sets.specs.Verdicts.{round, headIs, isBroken}
 use Rattle.answer_sets.specs.Internal.{headWordAt, plainAt, heads, Waiting, Begun, Roomy}
 use Rattle.answer_sets.proofs.Least.{applies-subset}
@@ -34,10 +35,11 @@ or-assoc false b c = refl
 
 pub heads-append : (ws : List ℕ) (Z : Lits) (c : ℕ) (ss rs : List ℕ) → heads ws (ss ++ rs) Z c ≡ (heads ws ss Z c || heads ws rs Z c)
 heads-append ws Z c [] rs = refl
-heads-append ws Z c (s ∷ ss) rs = rw (heads-append ws Z c ss rs) (or-assoc (eqb (headWordAt ws s) c && all Z (plainAt ws s)) (heads ws ss Z c) (heads ws rs Z c))
+heads-append ws Z c (s ∷ ss) rs =
+    rw (heads-append ws Z c ss rs) (or-assoc (eqb (headWordAt ws s) c && all Z (plainAt ws s)) (heads ws ss Z c) (heads ws rs Z c))
 
--- the array of starts has n places; before word `at` are as many rules as `rule` says, none of them broken, and `count` of them apply in X; rest is what is left. A rule
--- takes 131,073 words at most
+-- the array of starts has n places; before word `at` are as many rules as `rule` says, none of them broken, and `count` of them apply in X;
+-- rest is what is left. A rule takes 131,073 words at most
 pub record Scanned (table : List ℕ) (X : Lits) (n : ℕ) (starts rest : List ℕ) (at rule count : ℕ) : Type 0 where
   pub behind : rest ≡ drop at table
   pub sound : Sound rest
@@ -50,9 +52,11 @@ pub record Scanned (table : List ℕ) (X : Lits) (n : ℕ) (starts rest : List �
   pub roomy : Roomy table n
   pub unbroken : first (isBroken X) rule (rulesOf rest) ≡ first (isBroken X) 0 (rulesOf table)
   pub waiting : (j : ℕ) → j < count → Waiting table (getD starts j 0) 65535
-  pub enough : (Z : Lits) → Subset Z X → (c : ℕ) → (heads table (take count starts) Z c || round (rulesOf rest) X Z c) ≡ round (rulesOf table) X Z c
+  pub enough : (Z : Lits) → Subset Z X → (c : ℕ)
+      → (heads table (take count starts) Z c || round (rulesOf rest) X Z c) ≡ round (rulesOf table) X Z c
 
-pub scan-start : (table : List ℕ) (X : Lits) (starts : List ℕ) → Sound table → Roomy table (length starts) → Scanned table X (length starts) starts table 0 0 0
+pub scan-start : (table : List ℕ) (X : Lits) (starts : List ℕ) → Sound table → Roomy table (length starts)
+    → Scanned table X (length starts) starts table 0 0 0
 scan-start table X starts s roomy = record {
   behind = refl;
   sound = s;
@@ -72,7 +76,8 @@ literal-head : (X : Lits) (w : ℕ) → headIn (headOf w) X ≡ true → eqb w 6
 literal-head X w e = false-of-not (eqb w 65535) (λ t. false≢true (rw t at e))
 
 -- the rule at the front: sound, and so whole
-module _ (table : List ℕ) (X : Lits) (n : ℕ) (starts rest : List ℕ) (at rule count : ℕ) (inv : Scanned table X n starts rest at rule count) (h : 0 < length rest) where
+module _ (table : List ℕ) (X : Lits) (n : ℕ) (starts rest : List ℕ) (at rule count : ℕ)
+    (inv : Scanned table X n starts rest at rule count) (h : 0 < length rest) where
   pub below : rule < 4096
   below = omega (arith, sound-few rest h (inv .sound), inv .numbered)
 
@@ -89,7 +94,8 @@ module _ (table : List ℕ) (X : Lits) (n : ℕ) (starts rest : List ℕ) (at ru
   on = ap (λ (l : List ℕ). drop (ruleSize rest) l) (inv .behind) ∙ drop-drop (ruleSize rest) at table
 
   rest-enough : (Z : Lits) → Subset Z X → (c : ℕ)
-      → (heads table (take count starts) Z c || ((headIs (headOf (getD rest 0 0)) c && applies X Z (ruleAt rest)) || round (rulesOf (drop (ruleSize rest) rest)) X Z c))
+      → (heads table (take count starts) Z c
+      || ((headIs (headOf (getD rest 0 0)) c && applies X Z (ruleAt rest)) || round (rulesOf (drop (ruleSize rest) rest)) X Z c))
       ≡ round (rulesOf table) X Z c
   rest-enough Z sub c = rw (rules-front rest h) at (inv .enough Z sub c)
 
@@ -109,7 +115,8 @@ module _ (table : List ℕ) (X : Lits) (n : ℕ) (starts rest : List ℕ) (at ru
         word i = rw (inv .behind, getD-drop at table i 0) (small (at + i))
 
     -- it does not apply in X, nor in a part of X
-    passes-by : applies X X (ruleAt rest) ≡ false → Scanned table X n starts (drop (ruleSize rest) rest) (at + ruleSize rest) (rule + 1) count
+    passes-by : applies X X (ruleAt rest) ≡ false
+        → Scanned table X n starts (drop (ruleSize rest) rest) (at + ruleSize rest) (rule + 1) count
     passes-by a = record {
       behind = on;
       sound = sound-rest rest h (inv .sound);
@@ -123,7 +130,8 @@ module _ (table : List ℕ) (X : Lits) (n : ℕ) (starts rest : List ℕ) (at ru
       unbroken = rule-go (isBroken X) rule rest h (inv .unbroken) (rw a);
       waiting = inv .waiting;
       enough = λ Z sub c.
-          let idle : applies X Z (ruleAt rest) ≡ false = false-of-not (applies X Z (ruleAt rest)) (λ t. not-both (applies-subset X sub (ruleAt rest) t) a) in
+          let idle : applies X Z (ruleAt rest) ≡ false =
+          false-of-not (applies X Z (ruleAt rest)) (λ t. not-both (applies-subset X sub (ruleAt rest) t) a) in
           rw (idle, and-false (headIs (headOf (getD rest 0 0)) c)) at (rest-enough Z sub c);
     }
 
@@ -145,8 +153,14 @@ module _ (table : List ℕ) (X : Lits) (n : ℕ) (starts rest : List ℕ) (at ru
           (λ j l. rw (getD-set-other starts count j at 0 (λ q. omega arith)) (inv .waiting j l))
           (rw (getD-set-same starts count at 0 (omega (arith, room, inv .size))) starting);
       enough = λ Z sub c.
-          rw (add-one count, take-suc-set starts count at (omega (arith, room, inv .size)), heads-append table Z c (take count starts) (at ∷ []), ← inv .behind)
-          (joined (heads table (take count starts) Z c) (eqb (getD rest 0 0) c && all Z (ruleAt rest .plain)) (round (rulesOf (drop (ruleSize rest) rest)) X Z c)
+          rw (
+            add-one count,
+            take-suc-set starts count at (omega (arith, room, inv .size)),
+            heads-append table Z c (take count starts) (at ∷ []),
+            ← inv .behind,
+          )
+          (joined (heads table (take count starts) Z c) (eqb (getD rest 0 0) c && all Z (ruleAt rest .plain))
+          (round (rulesOf (drop (ruleSize rest) rest)) X Z c)
           ∙ (rw (literal-head X (getD rest 0 0) i, kept) at (rest-enough Z sub c)));
     }
       where
@@ -162,12 +176,15 @@ module _ (table : List ℕ) (X : Lits) (n : ℕ) (starts rest : List ℕ) (at ru
         starting = record {
           whole = rw (← inv .behind) (omega (arith, here, up-to));
           head = rw (← inv .behind) (sound-head rest h (inv .sound) (eqb-false _ _ (literal-head X (getD rest 0 0) i)));
-          parts = rw (← inv .behind) (each-map (λ c b. omega (arith, inv .sound .few)) (ruleAt rest .plain) (accepted-rule (inv .sound .atoms) rest (sound-fits rest h (inv .sound)) .2));
+          parts =
+              rw (← inv .behind) (each-map (λ c b. omega (arith, inv .sound .few)) (ruleAt rest .plain)
+              (accepted-rule (inv .sound .atoms) rest (sound-fits rest h (inv .sound)) .2));
           body = λ b. absurd (omega arith);
         }
 
     pub scan-turn : {a : Bool} → a ≡ frontApplies X X rest → (starts′ : List ℕ) (count′ : ℕ)
-        → ((a ≡ true) × ((i : Bool) × (i ≡ headIn (headOf (getD rest 0 0)) X) × (not i ≡ false)) × (starts′ ≡ set starts count at) × (count′ ≡ count + 1))
+        → ((a ≡ true) × ((i : Bool) × (i ≡ headIn (headOf (getD rest 0 0)) X) × (not i ≡ false))
+        × (starts′ ≡ set starts count at) × (count′ ≡ count + 1))
         ⊎ ((a ≡ false) × (starts′ ≡ starts) × (count′ ≡ count))
         → Scanned table X n starts′ (drop (ruleSize rest) rest) (at + ruleSize rest) (rule + 1) count′
     scan-turn is starts′ count′ came =
@@ -177,7 +194,8 @@ module _ (table : List ℕ) (X : Lits) (n : ℕ) (starts rest : List ℕ) (at ru
         (λ w. rw (w .1, w .2) (passes-by (sym e ∙ w .0)))
         came
 
-module _ (table : List ℕ) (X : Lits) (n : ℕ) (starts rest : List ℕ) (at rule count : ℕ) (inv : Scanned table X n starts rest at rule count) (h : length rest ≤ 0) where
+module _ (table : List ℕ) (X : Lits) (n : ℕ) (starts rest : List ℕ) (at rule count : ℕ)
+    (inv : Scanned table X n starts rest at rule count) (h : length rest ≤ 0) where
   pub scan-unbroken : none ≡ first (isBroken X) 0 (rulesOf table)
   scan-unbroken = rule-end (isBroken X) rule rest h (inv .unbroken)
 

@@ -109,7 +109,8 @@ pub fill-start : (vs marks : List ℕ) → marks ≡ replicate 32 0 → (c : ℕ
 fill-start vs marks e c = rw (e, in-clear 32 c, le-ltb c 0 (omega arith))
 
 -- the literals of the next atom are marked, and the others stay as they are
-pub fill-step : (vs marks : List ℕ) (a : ℕ) → getD vs a 0 < 4 → a / 32 < length marks → ((c : ℕ) → marked marks c ≡ (ltb c (2 * a) && setOf vs c))
+pub fill-step : (vs marks : List ℕ) (a : ℕ) → getD vs a 0 < 4 → a / 32 < length marks
+    → ((c : ℕ) → marked marks c ≡ (ltb c (2 * a) && setOf vs c))
     → (c : ℕ) → marked (withValue marks a (getD vs a 0)) c ≡ (ltb c (2 * (a + 1)) && setOf vs c)
 unfolding setOf
 fill-step vs marks a low h inv c = in-valued marks a (getD vs a 0) low c h ∙ go (eqb (c / 2) a) refl
@@ -118,7 +119,8 @@ fill-step vs marks a low h inv c = in-valued marks a (getD vs a 0) low c h ∙ g
     below true e n = lt-ltb c (2 * (a + 1)) (omega (arith, ltb-true c (2 * a) e))
     below false e n = le-ltb c (2 * (a + 1)) (omega (arith, ltb-false c (2 * a) e))
 
-    go : (b : Bool) → eqb (c / 2) a ≡ b → ((eqb (c / 2) a && valued (getD vs a 0) c) || marked marks c) ≡ (ltb c (2 * (a + 1)) && setOf vs c)
+    go : (b : Bool) → eqb (c / 2) a ≡ b
+        → ((eqb (c / 2) a && valued (getD vs a 0) c) || marked marks c) ≡ (ltb c (2 * (a + 1)) && setOf vs c)
     go true t =
         let q : c / 2 ≡ a = eqb-true (c / 2) a t in
         rw (t, inv c, le-ltb c (2 * a) (omega arith), lt-ltb c (2 * (a + 1)) (omega arith), q) (or-false (valued (getD vs a 0) c))
@@ -149,4 +151,5 @@ both-values vs a =
     three (suc zero) = refl
     three (suc (suc zero)) = refl
     three (suc (suc (suc zero))) = refl
-    three (suc (suc (suc (suc v)))) = rw (ne-eqb (suc (suc (suc (suc v)))) 1 (λ e. omega arith), ne-eqb (suc (suc (suc (suc v)))) 3 (λ e. omega arith))
+    three (suc (suc (suc (suc v)))) =
+        rw (ne-eqb (suc (suc (suc (suc v)))) 1 (λ e. omega arith), ne-eqb (suc (suc (suc (suc v)))) 3 (λ e. omega arith))

@@ -33,7 +33,8 @@ fn round(
     requires { ⌜ EachWaiting (now table) (now starts) (now waits) count ⌝ }
     ensures { λ r. ⌜ r .left ≤ count ⌝ }
     ensures { λ r. ⌜ EachWaiting (now (table .entry)) (now (starts .exit)) (now (waits .exit)) (r .left) ⌝ }
-    ensures { λ r. ⌜ Made (now (table .entry)) (marked old) (take count (now (starts .entry))) (r .marks) (take (r .left) (now (starts .exit))) ⌝ }
+    ensures { λ r. ⌜ Made (now (table .entry)) (marked old) (take count (now (starts .entry))) (r .marks)
+        (take (r .left) (now (starts .exit))) ⌝ }
 {
     let mut new = old;
     let mut left: usize = 0;

@@ -59,7 +59,8 @@ pub(crate) fn judge(values: &[u8], table: &[u16]) -> Answer
     requires { ⌜ length (now values) ≤ 1024 ⌝ }
     requires { ⌜ badValue (now values) ≡ none ⌝ }
     requires { ⌜ badRule (length (now values)) (now table) ≡ none ⌝ }
-    ensures { λ r. ⌜ replyOf r ≡ answered (verdict (length (now (values .entry))) (rulesOf (now (table .entry))) (setOf (now (values .entry)))) ⌝ }
+    ensures { λ r. ⌜ replyOf r ≡ answered
+        (verdict (length (now (values .entry))) (rulesOf (now (table .entry))) (setOf (now (values .entry)))) ⌝ }
 {
     let atoms = values.len();
     if let Found::At(atom) = first_clash(values) {

@@ -96,7 +96,8 @@ pub(crate) fn scan(table: &[u16], x: &[u64], starts: &mut [u32]) -> Applying
     requires { ⌜ Sound (now table) ⌝ }
     requires { ⌜ Roomy (now table) (length (now starts)) ⌝ }
     ensures { λ r. ⌜ placeOf (r .broken) ≡ first (isBroken (marked (now (x .entry)))) 0 (rulesOf (now (table .entry))) ⌝ }
-    ensures { λ r. ⌜ (first (isBroken (marked (now (x .entry)))) 0 (rulesOf (now (table .entry))) ≡ none → Begun (now (table .entry)) (marked (now (x .entry))) (now (starts .exit)) (r .count)) ⌝ }
+    ensures { λ r. ⌜ (first (isBroken (marked (now (x .entry)))) 0 (rulesOf (now (table .entry))) ≡ none
+        → Begun (now (table .entry)) (marked (now (x .entry))) (now (starts .exit)) (r .count)) ⌝ }
 {
     let mut rest = table;
     let mut at: usize = 0;

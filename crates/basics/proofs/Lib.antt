@@ -6,3 +6,4 @@ pub mod Loops
 pub mod Stored
 pub mod Tables
 pub mod Replies
+pub mod Pairs

@@ -3,7 +3,8 @@
 use mathlib.Core.Path.{_≡_, refl}
 use mathlib.Core.Logic.{_↔_, ⊎-elim}
 use mathlib.Core.Bool.{Bool, true, false}
-use mathlib.Core.List.{List, [], _∷_, map, List·Memᴰ, List·Memᴰ·head, List·Memᴰ·tail, List·Memᴰ·not-nil, List·Memᴰ·cases-cons, _++_, Memᴰ·append-left, Memᴰ·append-right, Memᴰ·map}
+use mathlib.Core.List.{List, [], _∷_, map, List·Memᴰ, List·Memᴰ·head, List·Memᴰ·tail, List·Memᴰ·not-nil}
+use mathlib.Core.List.{List·Memᴰ·cases-cons, Memᴰ·append-left, Memᴰ·append-right, Memᴰ·map}
 use mathlib.Core.Option.{none}
 use Prim.Native.Nat.{ℕ, zero, suc, _+_, _<_}
 use native.Mathlib.Omega.{arith}
@@ -86,7 +87,8 @@ chosen-iff {A} p (x ∷ xs) y = go (p x) refl (chosen-iff p xs y)
         → List·Memᴰ y (chosen p (x ∷ xs)) ↔ (List·Memᴰ y (x ∷ xs) × (p y ≡ true))
     go true t rest =
         rw t (
-          λ m. ⊎-elim (λ (e : y ≡ x). (List·Memᴰ·head e, rw e t)) (λ l. let h = rest .0 l in (List·Memᴰ·tail (h .0), h .1)) (List·Memᴰ·cases-cons m),
+          λ m. ⊎-elim (λ (e : y ≡ x). (List·Memᴰ·head e, rw e t))
+              (λ l. let h = rest .0 l in (List·Memᴰ·tail (h .0), h .1)) (List·Memᴰ·cases-cons m),
           λ h. ⊎-elim (λ (e : y ≡ x). List·Memᴰ·head e) (λ l. List·Memᴰ·tail (rest .1 (l, h .1))) (List·Memᴰ·cases-cons (h .0)),
         )
     go false f rest =

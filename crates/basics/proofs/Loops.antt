@@ -2,10 +2,10 @@
 -- find, and the invariant says that the remaining work finds it.
 -- Assumes nothing.
 use mathlib.Core.Path.{_≡_, refl, sym, _∙_, ap}
-use mathlib.Core.Bool.{Bool, true, false, cond, not, _&&_, Bool·beq, false≢true}
+use mathlib.Core.Bool.{Bool, true, false, not, _&&_}
 use mathlib.Core.List.{List, [], _∷_}
 use mathlib.Core.Option.{Option, none, some}
-use Prim.Native.Nat.{ℕ, zero, suc, _+_, _-_, _≤_, _<_}
+use Prim.Native.Nat.{ℕ, suc, _+_, _-_, _≤_, _<_}
 use native.Mathlib.Numerals.{add-one}
 use native.Mathlib.Omega.{arith}
 use borrow.Author.Tests.{not-true, not-false}
@@ -91,18 +91,6 @@ all-prefix-done p xs count i h inv = rw (rest-done xs count i h) at inv
 -- a part that starts at n and runs to the end
 pub to-the-end : {A : Type 0} (n : ℕ) (xs : List A) → take (length xs - n) (drop n xs) ≡ drop n xs
 to-the-end n xs = take-all (length xs - n) (drop n xs) (omega (arith, length-drop n xs))
-
-pub no-difference : (a b : Bool) → not (Bool·beq a b) ≡ false → a ≡ b
-no-difference true true e = refl
-no-difference true false e = e
-no-difference false true e = sym e
-no-difference false false e = refl
-
-pub difference : (a b : Bool) → not (Bool·beq a b) ≡ true → a ≡ b → ⊥
-difference true true e q = false≢true e
-difference true false e q = false≢true (sym q)
-difference false true e q = false≢true q
-difference false false e q = false≢true e
 
 -- two tests, the second only where the first passes
 pub and-stop : {p : Bool} (r q : Bool) → r ≡ p → not r ≡ true → false ≡ (p && q)

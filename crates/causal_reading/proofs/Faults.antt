@@ -4,7 +4,7 @@ use mathlib.Core.Path.{_≡_, refl, sym, _∙_, ap}
 use mathlib.Core.Logic.{⊎-elim}
 use mathlib.Core.List.{List, [], _∷_}
 use mathlib.Core.Option.{Option, none, some}
-use Prim.Native.Nat.{ℕ, zero, suc, _+_, _-_, _≤_, _<_}
+use Prim.Native.Nat.{ℕ, suc, _+_, _-_, _≤_, _<_}
 use native.Mathlib.Numerals.{add-one}
 use native.Mathlib.Omega.{arith}
 use types.Run.{OneOf}
@@ -26,7 +26,8 @@ firstFault (uncaused time fluent) next = uncaused time fluent
 firstFault path next = next
 
 -- a verdict that is a fault
-pub kept : (r : Reading) → OneOf (0 ∷ 1 ∷ 2 ∷ []) (tagOf the-type r) → (x y : Causal) → replyOf r ≡ answered x → replyOf r ≡ answered (firstFault x y)
+pub kept : (r : Reading) → OneOf (0 ∷ 1 ∷ 2 ∷ []) (tagOf the-type r) → (x y : Causal) → replyOf r ≡ answered x
+    → replyOf r ≡ answered (firstFault x y)
 kept (Refused number place) h x y e = let z : _≡_ {A = ℕ} 0 1 = cc in absurd (omega arith)
 kept (Contradicted time law) h x y e = let is : contradicted time law ≡ x = cc in rw (← is)
 kept (Uncaused time fluent) h x y e = let is : uncaused time fluent ≡ x = cc in rw (← is)
@@ -58,7 +59,9 @@ module _ (n m : ℕ) (ls : List Law) (vs : List ℕ) (t T : ℕ) where
   steps-cons : t < T → stepsFrom n m ls vs t (T - t) ≡ firstFault here (stepsFrom n m ls vs (suc t) (T - suc t))
   steps-cons h =
       let left : T - t ≡ suc (T - suc t) = omega arith in
-      rw left (sym (then-step n ls (stateAt n m vs t) (actionAt n m vs t) (stateAt n m vs (suc t)) (suc t) (stepsFrom n m ls vs (suc t) (T - suc t))))
+      rw left
+      (sym (then-step n ls (stateAt n m vs t) (actionAt n m vs t) (stateAt n m vs (suc t)) (suc t)
+      (stepsFrom n m ls vs (suc t) (T - suc t))))
 
   module _ {R : Causal} where
     pub steps-stop : (r : Reading) → t < T → stepsFrom n m ls vs t (T - t) ≡ R → OneOf (0 ∷ 1 ∷ 2 ∷ []) (tagOf the-type r)

@@ -1,6 +1,6 @@
 -- Parts of the values that run to the end, read as the state and the actions at a time; how far the parts reach; the first state.
 -- Assumes nothing.
-use mathlib.Core.Path.{_≡_, refl, sym, _∙_, ap, fun-ext}
+use mathlib.Core.Path.{_≡_, sym, _∙_, ap, fun-ext}
 use mathlib.Core.List.{List}
 use Prim.Native.Nat.{ℕ, suc, _+_, _-_, _*_, _≤_, _<_}
 use native.Mathlib.Nat.{suc-mul, zero-mul, zero-add, mul-le-mul-right}
@@ -43,7 +43,8 @@ module _ (n m : ℕ) (vs : List ℕ) (t : ℕ) where
 
   -- the verdict on the three parts is the one on the states and the actions
   pub step-parts : (ls : List Law)
-      → stepVerdict n ls (read (part (t * (n + m)) vs)) (read (part (t * (n + m) + n) vs)) (read (part (t * (n + m) + n + m) vs)) (t + 1) path
+      → stepVerdict n ls (read (part (t * (n + m)) vs)) (read (part (t * (n + m) + n) vs))
+      (read (part (t * (n + m) + n + m) vs)) (t + 1) path
       ≡ stepVerdict n ls (stateAt n m vs t) (actionAt n m vs t) (stateAt n m vs (suc t)) (suc t) path
   step-parts ls =
       same-verdict n ls (read-part (t * (n + m)) vs) (read-part (t * (n + m) + n) vs)

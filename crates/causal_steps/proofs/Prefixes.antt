@@ -13,5 +13,6 @@ take-min (suc n) [] = take-nil (min (suc n) 0)
 take-min (suc n) (x ∷ xs) = rw (suc-min-suc n (length xs)) (ap (λ l. x ∷ l) (take-min n xs))
 
 -- a count that is larger than the list means the whole list
-pub take-least : {A : Type 0} (xs : List A) {size end : ℕ} (count : ℕ) → length xs ≡ size → end ≡ min count size → take end xs ≡ take count xs
+pub take-least : {A : Type 0} (xs : List A) {size end : ℕ} (count : ℕ) → length xs ≡ size → end ≡ min count size
+    → take end xs ≡ take count xs
 take-least xs count is e = rw (e, ← is) (take-min count xs)

@@ -3,8 +3,8 @@
 use mathlib.Core.Path.{_≡_, refl, sym, _∙_, ap, fun-ext}
 use mathlib.Core.Logic.{_↔_, ⊎-elim}
 use mathlib.Core.Bool.{Bool, true, false, not, cond, _&&_, _||_, or-false}
-use mathlib.Core.List.{List, [], _∷_, List·Memᴰ}
-use mathlib.Core.Option.{Option, none, some}
+use mathlib.Core.List.{List, [], _∷_}
+use mathlib.Core.Option.{none, some}
 use Prim.Native.Nat.{ℕ, suc, _+_, _≤_, _<_}
 use native.Mathlib.Omega.{arith}
 use types.Run.{OneOf}
@@ -67,7 +67,8 @@ causes-nothing (Causes d) told c = absurd (⊎-elim (λ z. omega arith) (λ z. o
 causes-nothing Contradicts told c = refl
 
 -- marks after a store
-pub stored : (marks : List Bool) (code : ℕ) → code < length marks → (c : ℕ) → markedCaused (set marks code true) c ≡ (eqb code c || markedCaused marks c)
+pub stored : (marks : List Bool) (code : ℕ) → code < length marks → (c : ℕ)
+    → markedCaused (set marks code true) c ≡ (eqb code c || markedCaused marks c)
 stored marks code h c = getD-set marks code true false h c ∙ go (eqb code c)
   where
     go : (b : Bool) → cond b true (markedCaused marks c) ≡ (b || markedCaused marks c)
@@ -91,7 +92,8 @@ marks-caused n s a s′ ls marks size is = (size, λ c. rw (is c) (cause-iff-cau
 
 pub caused-marks : (n : ℕ) (s a s′ : Interpretation) (ls : List Law) (marks : List Bool) → MarksOf (caused n s a s′ ls) marks
     → (c : ℕ) → markedCaused marks c ≡ someCause (appliesInStep n s a s′) c ls
-caused-marks n s a s′ ls marks h c = go (markedCaused marks c) (someCause (appliesInStep n s a s′) c ls) (h .1 c) (cause-iff-caused n s a s′ c ls)
+caused-marks n s a s′ ls marks h c =
+    go (markedCaused marks c) (someCause (appliesInStep n s a s′) c ls) (h .1 c) (cause-iff-caused n s a s′ c ls)
   where
     go : (x y : Bool) {M : Type 0} → x ≡ true ↔ M → y ≡ true ↔ M → x ≡ y
     go true true f g = refl
@@ -102,12 +104,14 @@ caused-marks n s a s′ ls marks h c = go (markedCaused marks c) (someCause (app
 -- a law whose head is marked or not, where all that is marked holds in the new state
 module _ (s′ : Interpretation) (marks : List Bool) (held : (c : ℕ) → markedCaused marks c ≡ true → satisfies s′ c ≡ true) where
   -- it contradicts only where its head is not marked
-  pub known-contradicting : (h : Head) (b known : Bool) → effectOf s′ h (not known && b) ≡ Contradicts → (b && not (satisfiesHead s′ h)) ≡ true
+  pub known-contradicting : (h : Head) (b known : Bool) → effectOf s′ h (not known && b) ≡ Contradicts
+      → (b && not (satisfiesHead s′ h)) ≡ true
   known-contradicting h b true e = let z : _≡_ {A = ℕ} 0 1 = cc in absurd (omega arith)
   known-contradicting h b false e = contradicting s′ h b e
 
   -- and where it is, nothing is left to be marked
-  pub known-agreeing : (h : Head) (b known : Bool) → known ≡ headMarked marks h → OneOf (0 ∷ 1 ∷ []) (tagOf the-type (effectOf s′ h (not known && b)))
+  pub known-agreeing : (h : Head) (b known : Bool) → known ≡ headMarked marks h
+      → OneOf (0 ∷ 1 ∷ []) (tagOf the-type (effectOf s′ h (not known && b)))
       → ((b && not (satisfiesHead s′ h)) ≡ false)
       × ((c : ℕ) → (isCause (effectOf s′ h (not known && b)) c || markedCaused marks c) ≡ ((b && headIs h c) || markedCaused marks c))
   known-agreeing h b false is told = let agrees = agreeing s′ h b told in (agrees .0, λ c. rw (agrees .1 c))
@@ -136,7 +140,8 @@ module _ (n : ℕ) (s a s′ : Interpretation) (ls : List Law) (count end : ℕ)
   abbrev pub Ahead : ℕ → List Bool → Type 0
   Ahead i marks =
       (first against i (drop i (take end ls)) ≡ first against 0 (take count ls))
-      × ((c : ℕ) → (markedCaused marks c || someCause applied c (before against (drop i (take end ls)))) ≡ someCause applied c (before against (take count ls)))
+      × ((c : ℕ) → (markedCaused marks c || someCause applied c (before against (drop i (take end ls))))
+      ≡ someCause applied c (before against (take count ls)))
       × ((c : ℕ) → markedCaused marks c ≡ true → satisfies s′ c ≡ true)
 
   pub try-start : take end ls ≡ take count ls → (marks : List Bool) → marks ≡ replicate 256 false → Ahead 0 marks
@@ -164,7 +169,8 @@ module _ (n : ℕ) (s a s′ : Interpretation) (ls : List Law) (count end : ℕ)
         let agrees = known-agreeing s′ marks (inv .2) (getD ls i d .head) (applied (getD ls i d)) known head-known (rw is at told) in (
           prefix-go against ls end i d h within (inv .0) (agrees .0),
           λ c. rw (marking c, is, agrees .1 c)
-              (exchange (applied (getD ls i d) && headIs (getD ls i d .head) c) (markedCaused marks c) _ ∙ (rw (rest-cons ls end i d h within, agrees .0) at (inv .1 c))),
+              (exchange (applied (getD ls i d) && headIs (getD ls i d .head) c) (markedCaused marks c) _
+              ∙ (rw (rest-cons ls end i d h within, agrees .0) at (inv .1 c))),
           λ c q. ⊎-elim (λ now. caused-holds s′ (getD ls i d .head) (not known && applied (getD ls i d)) c (rw is at now)) (inv .2 c)
               (or-iff (isCause e c) (markedCaused marks c) .0 (sym (marking c) ∙ q)),
         )
@@ -178,12 +184,14 @@ module _ (n : ℕ) (s a s′ : Interpretation) (ls : List Law) (count end : ℕ)
       → (none ≡ first against 0 (take count ls)) × MarksOf (caused n s a s′ (before against (take count ls))) marks
   try-done i marks h size inv = (
     prefix-done against ls end i h (inv .0),
-    marks-caused n s a s′ (before against (take count ls)) marks size (λ c. sym (or-false (markedCaused marks c)) ∙ (rw (rest-done ls end i h) at (inv .1 c))),
+    marks-caused n s a s′ (before against (take count ls)) marks size
+        (λ c. sym (or-false (markedCaused marks c)) ∙ (rw (rest-done ls end i h) at (inv .1 c))),
   )
 
 -- where no law contradicts, the lowest fluent that is not marked is the lowest without a cause
 pub unmarked-uncaused : (n : ℕ) (s a s′ : Interpretation) (ls : List Law) (marks : List Bool)
-    → let against = contradicts (appliesInStep n s a s′) s′ in first against 0 ls ≡ none → MarksOf (caused n s a s′ (before against ls)) marks
+    → let against = contradicts (appliesInStep n s a s′) s′ in
+    first against 0 ls ≡ none → MarksOf (caused n s a s′ (before against ls)) marks
     → first (λ f. not (markedCaused marks (literalIn s′ f))) 0 (range 0 n)
     ≡ first (λ f. not (someCause (appliesInStep n s a s′) (literalIn s′ f) ls)) 0 (range 0 n)
 unmarked-uncaused n s a s′ ls marks e h =

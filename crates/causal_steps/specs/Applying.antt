@@ -1,7 +1,7 @@
 -- Which laws apply, in a step or in the first state, and which of them contradict (01, "The causal reading"). The old state and
 -- the new one are two arguments throughout.
 -- Assumes nothing.
-use mathlib.Core.Bool.{Bool, true, false, not, cond, _&&_, _||_}
+use mathlib.Core.Bool.{Bool, false, not, cond, _&&_, _||_}
 use mathlib.Core.List.{List, [], _∷_}
 use Prim.Native.Nat.{ℕ, _+_, _*_}
 use lib.Dec.{eqb}

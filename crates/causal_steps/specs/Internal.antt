@@ -1,6 +1,6 @@
 -- Internal: what the crate's own functions promise each other. No public promise rests on it; a reader may pass it over.
 -- Assumes nothing.
-use mathlib.Core.Bool.{Bool, true, false, cond}
+use mathlib.Core.Bool.{Bool, false, cond}
 use mathlib.Core.List.{List}
 use Prim.Native.Nat.{ℕ}
 use lib.Dec.{eqb}

@@ -65,7 +65,8 @@ pub fn try_laws(
 
 // The lowest of the n fluents whose literal in the state is not marked.
 pub fn first_uncaused(marks: &[bool], n: usize, state: &[u8]) -> Found
-    ensures { λ r. ⌜ placeOf r ≡ first (λ f. not (markedCaused (now (marks .entry)) (literalIn (read (now (state .entry))) f))) 0 (range 0 n) ⌝ }
+    ensures { λ r. ⌜ placeOf r ≡ first
+        (λ f. not (markedCaused (now (marks .entry)) (literalIn (read (now (state .entry))) f))) 0 (range 0 n) ⌝ }
 {
     let mut f = 0;
     while f < n {
@@ -80,7 +81,8 @@ pub fn first_uncaused(marks: &[bool], n: usize, state: &[u8]) -> Found
 
 // The lowest static law that a state breaks, of the first count laws.
 pub fn first_broken(laws: [Law; 64], count: usize, state: &[u8]) -> Found
-    ensures { λ r. ⌜ placeOf r ≡ first (contradicts (appliesAtStart (read (now (state .entry)))) (read (now (state .entry)))) 0 (take count laws) ⌝ }
+    ensures { λ r. ⌜ placeOf r ≡ first
+        (contradicts (appliesAtStart (read (now (state .entry)))) (read (now (state .entry)))) 0 (take count laws) ⌝ }
 {
     let limit = values::least(count, 64);
     let mut i = 0;

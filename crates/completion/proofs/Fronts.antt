@@ -83,14 +83,17 @@ module _ (ws : List ℕ) (h : 0 < length ws) (s : Sound ws) where
   -- what is marked, or will be by the rules that are left
   module _ (X : Lits) (held : List Bool) (k : ℕ) where
     held-front : (markedHead held k || heldAt (rulesOf ws) X k)
-        ≡ (markedHead held k || ((sameHead (headOf (getD ws 0 0)) (headOfMark k) && bodyHolds X (ruleAt ws)) || heldAt (rulesOf (drop (ruleSize ws) ws)) X k))
+        ≡ (markedHead held k
+        || ((sameHead (headOf (getD ws 0 0)) (headOfMark k) && bodyHolds X (ruleAt ws))
+        || heldAt (rulesOf (drop (ruleSize ws) ws)) X k))
     held-front = rw (rules-front ws h)
 
     held-idle : {R : Bool} → (markedHead held k || heldAt (rulesOf ws) X k) ≡ R → bodyHolds X (ruleAt ws) ≡ false
         → (markedHead held k || heldAt (rulesOf (drop (ruleSize ws) ws)) X k) ≡ R
     held-idle inv e = rw (held-front, e, and-false (sameHead (headOf (getD ws 0 0)) (headOfMark k))) at inv
 
-    held-mark : {R : Bool} → (markedHead held k || heldAt (rulesOf ws) X k) ≡ R → bodyHolds X (ruleAt ws) ≡ true → markOf (getD ws 0 0) < length held
+    held-mark : {R : Bool} → (markedHead held k || heldAt (rulesOf ws) X k) ≡ R → bodyHolds X (ruleAt ws) ≡ true
+        → markOf (getD ws 0 0) < length held
         → (markedHead (set held (markOf (getD ws 0 0)) true) k || heldAt (rulesOf (drop (ruleSize ws) ws)) X k) ≡ R
     held-mark inv e below =
         rw (getD-set held (markOf (getD ws 0 0)) true false below k, mark-head k)
@@ -109,7 +112,8 @@ module _ (ws : List ℕ) (h : 0 < length ws) (s : Sound ws) where
       → (length new ≡ 2049) × ((k : ℕ) → (markedHead new k || heldAt (rulesOf (drop (ruleSize ws) ws)) X k) ≡ R k)
   held-turn X old new r m is at-mark (inl w) size inv = (
     rw (w .1) (length-set old m true ∙ size),
-    λ k. rw (w .1, at-mark) (held-mark X old k (inv k) (sym (whole-holds X ws (sound-size ws h s) is) ∙ w .0) (omega (arith, mark-below m at-mark))),
+    λ k. rw (w .1, at-mark)
+        (held-mark X old k (inv k) (sym (whole-holds X ws (sound-size ws h s) is) ∙ w .0) (omega (arith, mark-below m at-mark))),
   )
   held-turn X old new r m is at-mark (inr w) size inv = (
     rw (w .1) size,

@@ -87,7 +87,8 @@ module _ (vs ws : List ℕ) where
     unfolding answerByLevels
     says-13 accepted e = rw (← comes-next vs ws levelled accepted, e)
 
-    pub says-levelled : Accepted vs ws → badLevels (length vs) ws levels ≡ none → answered (formulaFinding vs ws) ≡ answerByLevels vs ws levels
+    pub says-levelled : Accepted vs ws → badLevels (length vs) ws levels ≡ none
+        → answered (formulaFinding vs ws) ≡ answerByLevels vs ws levels
     unfolding answerByLevels
     says-levelled accepted e = rw (← comes-next vs ws levelled accepted, e)
 

@@ -113,7 +113,8 @@ fn literal_fails(values: &[u8], held: &[bool], code: usize) -> bool
 // The lowest literal whose formula fails.
 pub(crate) fn first_failing(values: &[u8], held: &[bool]) -> Found
     requires { ⌜ length (now values) ≤ 1024 ⌝ }
-    ensures { λ r. ⌜ placeOf r ≡ first (λ c. differ (setOf (now (values .entry)) c) (markedHead (now (held .entry)) c)) 0 (range 0 (2 * length (now (values .entry)))) ⌝ }
+    ensures { λ r. ⌜ placeOf r ≡ first (λ c. differ (setOf (now (values .entry)) c) (markedHead (now (held .entry)) c))
+        0 (range 0 (2 * length (now (values .entry)))) ⌝ }
 {
     let codes = 2 * values.len();
     for code in 0..codes {

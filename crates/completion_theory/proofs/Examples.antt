@@ -2,6 +2,7 @@
 -- Assumes nothing.
 use mathlib.Core.Path.{refl}
 use Rattle.basics.specs.Search.{Each}
+use Rattle.basics.proofs.Pairs.{_&_}
 use Rattle.logic_programs.specs.Literals.{complement, setOf, holdsTrue, holdsFalse}
 use Rattle.logic_programs.specs.Words.{rulesOf, badRule}
 use Rattle.completion_theory.specs.Findings.{judgedByFormulas, formulaFinding}
@@ -9,14 +10,11 @@ use Rattle.completion_theory.specs.LevelLists.{badLevels}
 use Rattle.completion_theory.specs.Answers.{answer, answerByLevels}
 use Rattle.completion_theory.specs.Examples.{Holds, examples, HoldsByLevels, levelExamples}
 
-infixr 20 _&_
-_&_ : {A B : Type 0} → A → B → A × B
-a & b = (a, b)
-
 pub worked : Each Holds examples
 unfolding answer formulaFinding judgedByFormulas rulesOf badRule setOf holdsTrue holdsFalse complement
 worked =
-    refl & refl & refl & refl & refl & refl & refl & refl & refl & refl & refl & refl & refl & refl & refl & refl & refl & refl & refl & refl & refl & refl & refl & refl & tt
+    refl & refl & refl & refl & refl & refl & refl & refl & refl & refl & refl & refl & refl & refl & refl & refl & refl
+    & refl & refl & refl & refl & refl & refl & refl & tt
 
 pub worked-levels : Each HoldsByLevels levelExamples
 unfolding answerByLevels badLevels formulaFinding judgedByFormulas rulesOf badRule setOf holdsTrue holdsFalse complement

@@ -19,7 +19,8 @@ use Rattle.logic_programs.specs.Rules.{Head, lit, falsum, Rule}
 use Rattle.logic_programs.specs.Words.{rulesOf}
 use Rattle.logic_programs.proofs.Values.{lowest-none-or-both, one-value-iff}
 use Rattle.tight_programs.specs.LiteralCompletion.{BodyHolds, SomeBody, Formula}
-use Rattle.completion_theory.specs.Findings.{FormulaFinding, missing, clash, fails, holds, bodyHolds, sameHead, someBody, differ, literalFails, judgedByFormulas, formulaFinding}
+use Rattle.completion_theory.specs.Findings.{FormulaFinding, missing, clash, fails, holds, bodyHolds, sameHead}
+use Rattle.completion_theory.specs.Findings.{someBody, differ, literalFails, judgedByFormulas, formulaFinding}
 use Rattle.completion_theory.specs.Meaning.{NoValue, BothValues, NoneOrBoth, ByFormulas}
 
 -- The formulas' tests
@@ -90,7 +91,8 @@ module _ (Π : List Rule) (X : Lits) where
 abbrev of : Option ℕ → (ℕ → Bool) → Option ℕ → Bool → FormulaFinding
 of a lacks c d = orElse a (λ i. cond (lacks i) (missing i) (clash i)) (orElse c (λ k. fails (lit k)) (cond d (fails falsum) holds))
 
-of-missing : (a : Option ℕ) (lacks : ℕ → Bool) (c : Option ℕ) (d : Bool) (k : ℕ) → of a lacks c d ≡ missing k ↔ ((a ≡ some k) × (lacks k ≡ true))
+of-missing : (a : Option ℕ) (lacks : ℕ → Bool) (c : Option ℕ) (d : Bool) (k : ℕ) → of a lacks c d ≡ missing k
+    ↔ ((a ≡ some k) × (lacks k ≡ true))
 of-missing (some i) lacks c d k = go (lacks i) refl
   where
     go : (b : Bool) → lacks i ≡ b → cond b (missing i) (clash i) ≡ missing k ↔ ((some i ≡ some k) × (lacks k ≡ true))
@@ -100,7 +102,8 @@ of-missing none lacks (some i) d k = (λ e. (cc, cc), λ h. cc)
 of-missing none lacks none true k = (λ e. (cc, cc), λ h. cc)
 of-missing none lacks none false k = (λ e. (cc, cc), λ h. cc)
 
-of-clash : (a : Option ℕ) (lacks : ℕ → Bool) (c : Option ℕ) (d : Bool) (k : ℕ) → of a lacks c d ≡ clash k ↔ ((a ≡ some k) × (lacks k ≡ false))
+of-clash : (a : Option ℕ) (lacks : ℕ → Bool) (c : Option ℕ) (d : Bool) (k : ℕ) → of a lacks c d ≡ clash k
+    ↔ ((a ≡ some k) × (lacks k ≡ false))
 of-clash (some i) lacks c d k = go (lacks i) refl
   where
     go : (b : Bool) → lacks i ≡ b → cond b (missing i) (clash i) ≡ clash k ↔ ((some i ≡ some k) × (lacks k ≡ false))
@@ -119,13 +122,15 @@ not-holds : (b : Bool) (i : ℕ) → cond b (missing i) (clash i) ≡ holds → 
 not-holds true i e = let z : _≡_ {A = ℕ} 0 1 = cc in omega arith
 not-holds false i e = let z : _≡_ {A = ℕ} 0 1 = cc in omega arith
 
-of-fails : (a : Option ℕ) (lacks : ℕ → Bool) (c : Option ℕ) (d : Bool) (k : ℕ) → of a lacks c d ≡ fails (lit k) ↔ ((a ≡ none) × (c ≡ some k))
+of-fails : (a : Option ℕ) (lacks : ℕ → Bool) (c : Option ℕ) (d : Bool) (k : ℕ) → of a lacks c d ≡ fails (lit k)
+    ↔ ((a ≡ none) × (c ≡ some k))
 of-fails (some i) lacks c d k = (λ e. absurd (not-fails (lacks i) i (lit k) e), λ h. cc)
 of-fails none lacks (some i) d k = (λ e. (cc, cc), λ h. cc)
 of-fails none lacks none true k = (λ e. (cc, cc), λ h. cc)
 of-fails none lacks none false k = (λ e. (cc, cc), λ h. cc)
 
-of-false : (a : Option ℕ) (lacks : ℕ → Bool) (c : Option ℕ) (d : Bool) → of a lacks c d ≡ fails falsum ↔ ((a ≡ none) × (c ≡ none) × (d ≡ true))
+of-false : (a : Option ℕ) (lacks : ℕ → Bool) (c : Option ℕ) (d : Bool) → of a lacks c d ≡ fails falsum
+    ↔ ((a ≡ none) × (c ≡ none) × (d ≡ true))
 of-false (some i) lacks c d = (λ e. absurd (not-fails (lacks i) i falsum e), λ h. cc)
 of-false none lacks (some i) d = (λ e. (cc, cc, cc), λ h. cc)
 of-false none lacks none true = (λ e. (cc, cc, cc), λ h. cc)

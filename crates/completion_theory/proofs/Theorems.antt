@@ -44,14 +44,16 @@ module _ (vs ws : List ℕ) (accepted : Accepted vs ws) where
 
   -- of a tight table, for one value an atom, what holds are the answer sets
   module _ (one : Each OneValue vs) (level : ℕ → ℕ) (tight : Tight level (rulesOf ws)) where
-    holds-iff : (reply : Reply FormulaFinding) → ByFormulas vs (rulesOf ws) reply → reply ≡ answered holds ↔ AnswerSet (rulesOf ws) (setOf vs)
+    holds-iff : (reply : Reply FormulaFinding) → ByFormulas vs (rulesOf ws) reply → reply ≡ answered holds
+        ↔ AnswerSet (rulesOf ws) (setOf vs)
     holds-iff reply by =
         Iff·trans (by .holds-exactly) (Iff·trans (λ h. h .1, λ h. (one, h)) (completion-answer-set vs ws (accepted .2) one level tight))
 
     pub holds-answer-set : answer vs ws ≡ answered holds ↔ AnswerSet (rulesOf ws) (setOf vs)
     holds-answer-set = holds-iff (answer vs ws) says
 
-    engine-iff : (reply : Reply FormulaFinding) → ByFormulas vs (rulesOf ws) reply → reply ≡ answered holds ↔ engine.answer vs ws ≡ answered passes
+    engine-iff : (reply : Reply FormulaFinding) → ByFormulas vs (rulesOf ws) reply → reply ≡ answered holds
+        ↔ engine.answer vs ws ≡ answered passes
     unfolding Demand2
     engine-iff reply by = Iff·trans (holds-iff reply by) (Iff·symm (demand-2 vs ws accepted .passes-exactly))
 
@@ -70,7 +72,9 @@ module _ (vs ws levels : List ℕ) (accepted : Accepted vs ws) where
   reply = answerByLevels vs ws levels
 
   lowest : (i : ℕ) → rules ≡ some i ↔ Lowest (NotAbove levels Π) (length Π) i
-  lowest = first-lowest (λ r. not (standsAbove levels r)) noRule Π (length Π) refl (NotAbove levels Π) (λ i b. not-above-iff levels (getD Π i noRule))
+  lowest =
+      first-lowest (λ r. not (standsAbove levels r)) noRule Π (length Π) refl (NotAbove levels Π)
+      (λ i b. not-above-iff levels (getD Π i noRule))
 
   pub next : reply ≡ orRefuse (badLevels n ws levels) 13 (answered (formulaFinding vs ws))
   unfolding answerByLevels
@@ -118,7 +122,8 @@ module _ (vs ws levels : List ℕ) (accepted : Accepted vs ws) where
   rule-refused : (i : ℕ) → i < length Π → reply ≡ refused 13 i ↔ ((length levels ≡ 2 * n) × Lowest (NotAbove levels Π) (length Π) i)
   rule-refused i b = go (eqb (length levels) (2 * n)) refl
     where
-      go : (b : Bool) → eqb (length levels) (2 * n) ≡ b → reply ≡ refused 13 i ↔ ((length levels ≡ 2 * n) × Lowest (NotAbove levels Π) (length Π) i)
+      go : (b : Bool) → eqb (length levels) (2 * n) ≡ b → reply ≡ refused 13 i
+          ↔ ((length levels ≡ 2 * n) × Lowest (NotAbove levels Π) (length Π) i)
       go true t = let q = eqb-true (length levels) (2 * n) t in (
         λ e. (q, lowest i .0 (by-rule i rules .0 (sym (right q) ∙ e))),
         λ h. right q ∙ by-rule i rules .1 (lowest i .1 (h .1)),

@@ -33,10 +33,12 @@ above-iff levels (lit h) cs = (
 )
 above-iff levels falsum cs = (λ e. tt, λ low. refl)
 
-pub not-above-iff : (levels : List ℕ) (r : Rule) → not (standsAbove levels r) ≡ true ↔ (LowerParts (levelOf levels) (r .plain) (r .head) → ⊥)
+pub not-above-iff : (levels : List ℕ) (r : Rule) → not (standsAbove levels r) ≡ true
+    ↔ (LowerParts (levelOf levels) (r .plain) (r .head) → ⊥)
 not-above-iff levels r =
     let above = above-iff levels (r .head) (r .plain) in
-    Iff·trans (not-iff (standsAbove levels r)) (λ f low. not-both (above .1 low) f, λ h. false-of-not (standsAbove levels r) (λ t. h (above .0 t)))
+    Iff·trans (not-iff (standsAbove levels r))
+    (λ f low. not-both (above .1 low) f, λ h. false-of-not (standsAbove levels r) (λ t. h (above .0 t)))
 
 pub tight-iff : (levels : List ℕ) (Π : List Rule) → first (λ r. not (standsAbove levels r)) 0 Π ≡ none ↔ Tight (levelOf levels) Π
 tight-iff levels Π = Iff·trans (none-iff (λ r. not (standsAbove levels r)) 0 Π) (each-iff stands Π)
@@ -84,7 +86,8 @@ module _ (vs : List ℕ) (one : Each OneValue vs) where
   one-complete = record {
     over = setOf-below vs;
     complete = λ a b.
-        ⊎-elim (λ (e : getD vs a 0 ≡ 1). inl (even-in vs a ∙ ap holdsTrue e)) (λ (e : getD vs a 0 ≡ 2). inr (odd-in vs a ∙ ap holdsFalse e)) (value a b);
+        ⊎-elim (λ (e : getD vs a 0 ≡ 1). inl (even-in vs a ∙ ap holdsTrue e))
+        (λ (e : getD vs a 0 ≡ 2). inr (odd-in vs a ∙ ap holdsFalse e)) (value a b);
   }
 
 -- An accepted table is over the literals of the values' atoms

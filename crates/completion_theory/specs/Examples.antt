@@ -83,7 +83,12 @@ levelExamples =
     ∷ record { values = 1 ∷ 1 ∷ 1 ∷ []; table = eleven; levels = 0 ∷ 0 ∷ 1 ∷ 0 ∷ 1 ∷ 0 ∷ []; reply = refused 13 4 }
     ∷ record { values = 1 ∷ 1 ∷ 1 ∷ []; table = eleven; levels = 9 ∷ 9 ∷ 2 ∷ 9 ∷ 1 ∷ 9 ∷ []; reply = refused 13 4 }
     -- the lowest such rule; rules headed by false don't count
-    ∷ record { values = 1 ∷ []; table = 65535 ∷ 0 ∷ 1 ∷ 0 ∷ 1 ∷ 0 ∷ 0 ∷ 0 ∷ 0 ∷ 1 ∷ 1 ∷ 1 ∷ 0 ∷ 1 ∷ 0 ∷ []; levels = 0 ∷ 0 ∷ []; reply = refused 13 2 }
+    ∷ record {
+      values = 1 ∷ [];
+      table = 65535 ∷ 0 ∷ 1 ∷ 0 ∷ 1 ∷ 0 ∷ 0 ∷ 0 ∷ 0 ∷ 1 ∷ 1 ∷ 1 ∷ 0 ∷ 1 ∷ 0 ∷ [];
+      levels = 0 ∷ 0 ∷ [];
+      reply = refused 13 2;
+    }
     ∷ record { values = 2 ∷ []; table = 65535 ∷ 0 ∷ 1 ∷ 0 ∷ 1 ∷ 0 ∷ 0 ∷ []; levels = 0 ∷ 0 ∷ []; reply = answered holds }
     -- the count before the rules, and 12 before the count; 13 before missing
     ∷ record { values = 1 ∷ []; table = 0 ∷ 0 ∷ 1 ∷ 0 ∷ []; levels = 0 ∷ []; reply = refused 13 65535 }

@@ -12,7 +12,8 @@ use lib.ListN.{length, getD}
 use borrow.Author.Tests.{ltb-true, ltb-false}
 use Rattle.basics.specs.Search.{first, range, Lowest, Nowhere}
 use Rattle.basics.specs.Replies.{Reply, answered, orElse}
-use Rattle.basics.proofs.Tests.{true-or-false, not-both, false-of-not, and-iff, not-iff, first-lowest, first-nowhere, range-lowest, range-nowhere}
+use Rattle.basics.proofs.Tests.{true-or-false, not-both, false-of-not, and-iff, not-iff, first-lowest, first-nowhere}
+use Rattle.basics.proofs.Tests.{range-lowest, range-nowhere}
 use Rattle.action_language.specs.declared.Law.{Law}
 use Rattle.action_language.specs.declared.Description.{Description}
 use Rattle.action_language.specs.Laws.{isStatic, ifList, noLaw, lawsOf}
@@ -22,7 +23,8 @@ use Rattle.causal_steps.specs.Applying.{appliesAtStart, appliesInStep, literalI
 use Rattle.causal_reading.specs.Verdicts.{Causal, contradicted, uncaused, path, stepsFrom, causalVerdict}
 use Rattle.causal_reading.specs.Readings as causal
 use Rattle.correctness.specs.Demand3.{Complete}
-use Rattle.correctness.specs.CausalFaults.{Unsatisfied, Contradicting, NotCaused, ContradictedAt, UncausedAt, NoFaultBefore, FaultNamed, NamesFault}
+use Rattle.correctness.specs.CausalFaults.{Unsatisfied, Contradicting, NotCaused, ContradictedAt, UncausedAt}
+use Rattle.correctness.specs.CausalFaults.{NoFaultBefore, FaultNamed, NamesFault}
 use Rattle.causal_steps.proofs.CausedHeads.{causing-applies, cause-iff-caused}
 use Rattle.correctness.proofs.Explained.{satisfied-literal, literal-holds}
 use Rattle.correctness.proofs.Reading.{orElse-path, contradicted-no-path, uncaused-no-path, inStep}
@@ -47,14 +49,20 @@ said-path t o p =
     )
 
 said-contradicted : (t : ℕ) (o p : Option ℕ) (i : ℕ) → said t o p path ≡ contradicted t i ↔ o ≡ some i
-said-contradicted t (some k) p i = (λ e. let same : k ≡ i = cc in ap {B = Option ℕ} some same, λ e. let same : k ≡ i = cc in ap (contradicted t) same)
-said-contradicted t none (some k) i = (λ e. let z : _≡_ {A = ℕ} 0 1 = cc in absurd (omega arith), λ e. let z : _≡_ {A = ℕ} 0 1 = cc in absurd (omega arith))
-said-contradicted t none none i = (λ e. let z : _≡_ {A = ℕ} 0 1 = cc in absurd (omega arith), λ e. let z : _≡_ {A = ℕ} 0 1 = cc in absurd (omega arith))
+said-contradicted t (some k) p i =
+    (λ e. let same : k ≡ i = cc in ap {B = Option ℕ} some same, λ e. let same : k ≡ i = cc in ap (contradicted t) same)
+said-contradicted t none (some k) i =
+    (λ e. let z : _≡_ {A = ℕ} 0 1 = cc in absurd (omega arith), λ e. let z : _≡_ {A = ℕ} 0 1 = cc in absurd (omega arith))
+said-contradicted t none none i =
+    (λ e. let z : _≡_ {A = ℕ} 0 1 = cc in absurd (omega arith), λ e. let z : _≡_ {A = ℕ} 0 1 = cc in absurd (omega arith))
 
 said-uncaused : (t : ℕ) (o p : Option ℕ) (f : ℕ) → said t o p path ≡ uncaused t f ↔ ((o ≡ none) × (p ≡ some f))
-said-uncaused t (some k) p f = (λ e. let z : _≡_ {A = ℕ} 0 1 = cc in absurd (omega arith), λ h. let e = h .0 in let z : _≡_ {A = ℕ} 0 1 = cc in absurd (omega arith))
-said-uncaused t none (some k) f = (λ e. let same : k ≡ f = cc in (refl, ap {B = Option ℕ} some same), λ h. let e = h .1 in let same : k ≡ f = cc in ap (uncaused t) same)
-said-uncaused t none none f = (λ e. let z : _≡_ {A = ℕ} 0 1 = cc in absurd (omega arith), λ h. let e = h .1 in let z : _≡_ {A = ℕ} 0 1 = cc in absurd (omega arith))
+said-uncaused t (some k) p f =
+    (λ e. let z : _≡_ {A = ℕ} 0 1 = cc in absurd (omega arith), λ h. let e = h .0 in let z : _≡_ {A = ℕ} 0 1 = cc in absurd (omega arith))
+said-uncaused t none (some k) f =
+    (λ e. let same : k ≡ f = cc in (refl, ap {B = Option ℕ} some same), λ h. let e = h .1 in let same : k ≡ f = cc in ap (uncaused t) same)
+said-uncaused t none none f =
+    (λ e. let z : _≡_ {A = ℕ} 0 1 = cc in absurd (omega arith), λ h. let e = h .1 in let z : _≡_ {A = ℕ} 0 1 = cc in absurd (omega arith))
 
 -- a time decides, or what comes next does
 said-next : (t : ℕ) (o p : Option ℕ) (next : Causal)
@@ -109,7 +117,8 @@ module _ (laws fluents : ℕ → Option ℕ) where
   times-iff : (t k : ℕ) (x : Causal) → (path ≡ x → ⊥) → times t k ≡ x ↔ FirstFault t k x
   times-iff t zero x fault = (λ e. absurd (fault e), λ h. absurd (omega (arith, h .0, h .1)))
   times-iff t (suc k) x fault =
-      ⊎-elim (passed-on t k x fault (times-iff (suc t) k x fault)) (decided t k x fault) (said-next t (laws t) (fluents t) (times (suc t) k))
+      ⊎-elim (passed-on t k x fault (times-iff (suc t) k x fault)) (decided t k x fault)
+      (said-next t (laws t) (fluents t) (times (suc t) k))
 
 -- What is found at a time
 
@@ -158,7 +167,8 @@ module _ (n m T : ℕ) (ls : List Law) (vs : List ℕ) where
   fluentAt (suc t) = first (λ f. not (someCause (inStep n m vs t) (literalIn (s (suc t)) f) ls)) 0 (range 0 n)
 
   law-lowest : (t i : ℕ) → lawAt t ≡ some i ↔ Lowest (ContradictedAt n m ls vs t) (length ls) i
-  law-lowest zero i = first-lowest _ noLaw ls (length ls) refl (ContradictedAt n m ls vs 0) (λ j b. unsatisfied-iff (s 0) (getD ls j noLaw)) i
+  law-lowest zero i =
+      first-lowest _ noLaw ls (length ls) refl (ContradictedAt n m ls vs 0) (λ j b. unsatisfied-iff (s 0) (getD ls j noLaw)) i
   law-lowest (suc t) i = first-lowest _ noLaw ls (length ls) refl (ContradictedAt n m ls vs (suc t))
       (λ j b. contradicting-iff n (s t) (actionAt n m vs t) (s (suc t)) (getD ls j noLaw)) i
 
@@ -169,11 +179,13 @@ module _ (n m T : ℕ) (ls : List Law) (vs : List ℕ) where
 
   fluent-lowest : (t f : ℕ) → fluentAt t ≡ some f ↔ Lowest (UncausedAt n m ls vs t) n f
   fluent-lowest zero f = (λ e. let z : _≡_ {A = ℕ} 0 1 = cc in absurd (omega arith), λ h. absurd (h .1))
-  fluent-lowest (suc t) f = range-lowest _ n (UncausedAt n m ls vs (suc t)) (λ j b. not-caused-iff n (s t) (actionAt n m vs t) (s (suc t)) ls j) f
+  fluent-lowest (suc t) f =
+      range-lowest _ n (UncausedAt n m ls vs (suc t)) (λ j b. not-caused-iff n (s t) (actionAt n m vs t) (s (suc t)) ls j) f
 
   fluent-nowhere : (t : ℕ) → fluentAt t ≡ none ↔ Nowhere (UncausedAt n m ls vs t) n
   fluent-nowhere zero = (λ e f b h. h, λ h. refl)
-  fluent-nowhere (suc t) = range-nowhere _ n (UncausedAt n m ls vs (suc t)) (λ j b. not-caused-iff n (s t) (actionAt n m vs t) (s (suc t)) ls j)
+  fluent-nowhere (suc t) =
+      range-nowhere _ n (UncausedAt n m ls vs (suc t)) (λ j b. not-caused-iff n (s t) (actionAt n m vs t) (s (suc t)) ls j)
 
   steps-times : (t k : ℕ) → stepsFrom n m ls vs t k ≡ times lawAt fluentAt (suc t) k
   steps-times t zero = refl
@@ -185,7 +197,10 @@ module _ (n m T : ℕ) (ls : List Law) (vs : List ℕ) where
 
   no-fault : (t : ℕ) → ((u : ℕ) → 0 ≤ u → u < t → here lawAt fluentAt u ≡ path) ↔ NoFaultBefore n m ls vs t
   no-fault t = (
-    λ h u b. let (law, fluent) = said-path u (lawAt u) (fluentAt u) .0 (h u (omega arith) b) in (law-nowhere u .0 law, fluent-nowhere u .0 fluent),
+    λ h u b. let (law, fluent) = said-path u (lawAt u) (fluentAt u) .0 (h u (omega arith) b) in (
+      law-nowhere u .0 law,
+      fluent-nowhere u .0 fluent,
+    ),
     λ h u from b. let (law, fluent) = h u b in said-path u (lawAt u) (fluentAt u) .1 (law-nowhere u .1 law, fluent-nowhere u .1 fluent),
   )
 
@@ -201,20 +216,26 @@ module _ (n m T : ℕ) (ls : List Law) (vs : List ℕ) where
 
   pub fault-named : FaultNamed n m T ls vs (answered (causalVerdict n m T ls vs))
   fault-named = record {
-    contradicted-exactly = λ t i. Iff·trans (answered-iff _ (contradicted t i)) (Iff·trans (verdict-fault (contradicted t i) (contradicted-no-path t i)) (
-      λ (high, before, at). (high, before, law-lowest t i .0 (said-contradicted t (lawAt t) (fluentAt t) i .0 at)),
-      λ (high, before, low). (high, before, said-contradicted t (lawAt t) (fluentAt t) i .1 (law-lowest t i .1 low)),
-    ));
+    contradicted-exactly =
+        λ t i. Iff·trans (answered-iff _ (contradicted t i)) (Iff·trans (verdict-fault (contradicted t i) (contradicted-no-path t i)) (
+          λ (high, before, at). (high, before, law-lowest t i .0 (said-contradicted t (lawAt t) (fluentAt t) i .0 at)),
+          λ (high, before, low). (high, before, said-contradicted t (lawAt t) (fluentAt t) i .1 (law-lowest t i .1 low)),
+        ));
     uncaused-exactly = λ t f. Iff·trans (answered-iff _ (uncaused t f)) (Iff·trans (verdict-fault (uncaused t f) (uncaused-no-path t f)) (
       λ (high, before, at). let (law, fluent) = said-uncaused t (lawAt t) (fluentAt t) f .0 at in
           (high, before, law-nowhere t .0 law, fluent-lowest t f .0 fluent),
-      λ (high, before, none-there, low). (high, before, said-uncaused t (lawAt t) (fluentAt t) f .1 (law-nowhere t .1 none-there, fluent-lowest t f .1 low)),
+      λ (high, before, none-there, low). (
+        high,
+        before,
+        said-uncaused t (lawAt t) (fluentAt t) f .1 (law-nowhere t .1 none-there, fluent-lowest t f .1 low),
+      ),
     ));
   }
 
 pub causal-faults : (d : Description) (ls : List Law) (lent : ℕ) (vs : List ℕ) → Complete d ls lent vs
     → FaultNamed (d .fluents) (d .actions) (d .horizon) (lawsOf d ls) vs (causal.reading d ls lent vs)
-causal-faults d ls lent vs complete = rw (read-verdict d ls lent vs complete) (fault-named (d .fluents) (d .actions) (d .horizon) (lawsOf d ls) vs)
+causal-faults d ls lent vs complete =
+    rw (read-verdict d ls lent vs complete) (fault-named (d .fluents) (d .actions) (d .horizon) (lawsOf d ls) vs)
 
 -- of an answer that the reading gives
 pub names-fault : (d : Description) (ls : List Law) (lent : ℕ) (vs : List ℕ) (r : Reading) → causal.replyOf r ≡ causal.reading d ls lent vs

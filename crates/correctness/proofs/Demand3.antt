@@ -81,7 +81,8 @@ module _ (d : Description) (ls : List Law) (lent : ℕ) (vs : List ℕ) (complet
   one = complete .one-value
 
   -- with room for exactly the words needed
-  exact : outcome d ls lent (length (tableFor d ls)) ≡ answered (written (atomCount (d .fluents) (d .actions) (d .horizon)) (length (rulesFor d ls)) (length (tableFor d ls)))
+  exact : outcome d ls lent (length (tableFor d ls))
+      ≡ answered (written (atomCount (d .fluents) (d .actions) (d .horizon)) (length (rulesFor d ls)) (length (tableFor d ls)))
   exact = accepted-written d ls lent (length (tableFor d ls)) taken horizon (omega arith)
 
   bytes : first (ltb 3) 0 vs ≡ none
@@ -89,8 +90,11 @@ module _ (d : Description) (ls : List Law) (lent : ℕ) (vs : List ℕ) (complet
 
   accepted : Accepted vs (tableFor d ls)
   accepted =
-      let few = few-atoms d ls lent (length (tableFor d ls)) exact in
-      (ap (λ (b : Bool). cond b (some (length vs)) none) (le-ltb 1024 (length vs) (omega arith)), bytes, rw size (table-accepted d ls lent (length (tableFor d ls)) exact))
+      let few = few-atoms d ls lent (length (tableFor d ls)) exact in (
+        ap (λ (b : Bool). cond b (some (length vs)) none) (le-ltb 1024 (length vs) (omega arith)),
+        bytes,
+        rw size (table-accepted d ls lent (length (tableFor d ls)) exact),
+      )
 
   -- the words that were written decode to the published rules
   decoded : rulesOf (tableFor d ls) ≡ rulesFor d ls
@@ -116,7 +120,8 @@ module _ (d : Description) (ls : List Law) (lent : ℕ) (vs : List ℕ) (complet
       by-answer-set
 
   -- the words that the translation left at the front are those of the rules
-  left-in-front : (old : List ℕ) → length (tableFor d ls) ≤ length old → take (length (tableFor d ls)) (tableAfter d ls lent old) ≡ tableFor d ls
+  left-in-front : (old : List ℕ) → length (tableFor d ls) ≤ length old
+      → take (length (tableFor d ls)) (tableAfter d ls lent old) ≡ tableFor d ls
   left-in-front old enough =
       ap (take (length (tableFor d ls))) (sym (written-left d ls lent old (accepted-written d ls lent (length old) taken horizon enough)))
       ∙ take-append-seam (tableFor d ls) (drop (length (tableFor d ls)) old)
@@ -130,12 +135,14 @@ module _ (d : Description) (ls : List Law) (lent : ℕ) (vs : List ℕ) (complet
   by-formulas old enough = rw (left-in-front old enough) by-completion
 
   -- the history check adds nothing to the engine's verdict where every value is 1 or 2
-  checked-engine : (room : ℕ) → length (tableFor d ls) ≤ room → history.checked d ls lent vs room ≡ history.ofEngine (engine.answer vs (tableFor d ls))
+  checked-engine : (room : ℕ) → length (tableFor d ls) ≤ room
+      → history.checked d ls lent vs room ≡ history.ofEngine (engine.answer vs (tableFor d ls))
   unfolding history.checked
   checked-engine room enough =
       rw (accepted-written d ls lent room taken horizon enough, eq-eqb (length vs) _ size, bytes, all-one-value vs one)
 
-  by-history : (room : ℕ) → length (tableFor d ls) ≤ room → history.checked d ls lent vs room ≡ answered (history.judged passes) ↔ PathOf d ls vs
+  by-history : (room : ℕ) → length (tableFor d ls) ≤ room
+      → history.checked d ls lent vs room ≡ answered (history.judged passes) ↔ PathOf d ls vs
   by-history room enough = Iff·trans (rw (checked-engine room enough) (same (engine.answer vs (tableFor d ls)))) by-engine
     where
       same : (r : Reply Verdict) → history.ofEngine r ≡ answered (history.judged passes) ↔ r ≡ answered passes
@@ -147,7 +154,9 @@ module _ (d : Description) (ls : List Law) (lent : ℕ) (vs : List ℕ) (complet
   read-verdict = rw (taken, horizon, eq-eqb (length vs) _ size, one-value-each vs .1 one)
 
   by-causal : causal.reading d ls lent vs ≡ answered path ↔ PathOf d ls vs
-  by-causal = Iff·trans (λ e. let v = read-verdict in cc, λ e. let v = read-verdict in cc) (causal-iff (d .fluents) (d .actions) (d .horizon) (lawsOf d ls) vs)
+  by-causal =
+      Iff·trans (λ e. let v = read-verdict in cc, λ e. let v = read-verdict in cc)
+      (causal-iff (d .fluents) (d .actions) (d .horizon) (lawsOf d ls) vs)
 
   five-readings : FiveReadings d ls lent vs
   unfolding history.checked
@@ -171,7 +180,8 @@ module _ (d : Description) (ls : List Law) (lent : ℕ) where
   translates-exactly old new e vs complete enough =
       let five = demand-3 d ls lent vs complete in (rw e (five .engine-passes old enough), rw e (five .completion-holds old enough))
 
-  pub passes-exactly : (vs : List ℕ) (room : ℕ) (r : Checked) → history.replyOf r ≡ history.checked d ls lent vs room → PassesExactly d ls lent vs room r
+  pub passes-exactly : (vs : List ℕ) (room : ℕ) (r : Checked) → history.replyOf r ≡ history.checked d ls lent vs room
+      → PassesExactly d ls lent vs room r
   unfolding PassesExactly
   passes-exactly vs room r e complete enough =
       rw e (by-path, Iff·trans by-path (Iff·symm (by-completion d ls lent vs complete)))

@@ -37,7 +37,9 @@ both-values v = (λ h. both (or-iff (eqb v 1) (eqb v 3) .0 (h .0)) (or-iff (eqb 
 
 clashing-iff : (vs : List ℕ) (a : ℕ) → Clashing (setOf vs) a ↔ BothValues vs a
 clashing-iff vs a =
-    Iff·trans (λ h. (sym (even-in vs a) ∙ h .0, sym (odd-in vs a) ∙ h .1), λ h. (even-in vs a ∙ h .0, odd-in vs a ∙ h .1)) (both-values (getD vs a 0))
+    Iff·trans
+    (λ h. (sym (even-in vs a) ∙ h .0, sym (odd-in vs a) ∙ h .1), λ h. (even-in vs a ∙ h .0, odd-in vs a ∙ h .1))
+    (both-values (getD vs a 0))
 
 lowest-iff : (P Q : ℕ → Type 0) → ((i : ℕ) → P i ↔ Q i) → (n k : ℕ) → Lowest P n k ↔ Lowest Q n k
 lowest-iff P Q iff n k = (
@@ -46,7 +48,8 @@ lowest-iff P Q iff n k = (
 )
 
 -- the engine says clash of the lowest atom of value 3
-pub engine-clash : (vs ws : List ℕ) → Accepted vs ws → (a : ℕ) → engine.answer vs ws ≡ answered (clash a) ↔ Lowest (BothValues vs) (length vs) a
+pub engine-clash : (vs ws : List ℕ) → Accepted vs ws → (a : ℕ) → engine.answer vs ws ≡ answered (clash a)
+    ↔ Lowest (BothValues vs) (length vs) a
 unfolding Demand2
 engine-clash vs ws accepted a =
     Iff·trans (demand-2 vs ws accepted .clash-exactly a) (lowest-iff (Clashing (setOf vs)) (BothValues vs) (clashing-iff vs) (length vs) a)
@@ -66,16 +69,19 @@ module _ (vs ws : List ℕ) (accepted : Accepted vs ws) where
       engine-not (refused k p) e = let z : _≡_ {A = ℕ} 0 1 = cc in omega arith
       engine-not (answered v) e = let z : _≡_ {A = ℕ} 0 1 = cc in omega arith
 
-      go : (o : Option ℕ) → first noneOrBoth 0 vs ≡ o → said o ≡ answered (history.missing a) → Lowest (NoneOrBoth vs) (length vs) a × NoValue vs a
+      go : (o : Option ℕ) → first noneOrBoth 0 vs ≡ o → said o ≡ answered (history.missing a)
+          → Lowest (NoneOrBoth vs) (length vs) a × NoValue vs a
       go none q e = absurd (engine-not (engine.answer vs ws) e)
       go (some i) q e = by-value (eqb (getD vs i 0) 0) refl e
         where
-          by-value : (b : Bool) → eqb (getD vs i 0) 0 ≡ b → answered (cond b (history.missing i) (history.judged (clash i))) ≡ answered (history.missing a)
+          by-value : (b : Bool) → eqb (getD vs i 0) 0 ≡ b
+              → answered (cond b (history.missing i) (history.judged (clash i))) ≡ answered (history.missing a)
               → Lowest (NoneOrBoth vs) (length vs) a × NoValue vs a
           by-value true t e = let same : i ≡ a = cc in rw (← same) (lowest-none-or-both vs i .0 q, eqb-true (getD vs i 0) 0 t)
           by-value false f e = let z : _≡_ {A = ℕ} 0 1 = cc in absurd (omega arith)
 
-  clash-said : (a : ℕ) → history.finding vs ws ≡ answered (history.judged (clash a)) ↔ (Lowest (NoneOrBoth vs) (length vs) a × BothValues vs a)
+  clash-said : (a : ℕ) → history.finding vs ws ≡ answered (history.judged (clash a))
+      ↔ (Lowest (NoneOrBoth vs) (length vs) a × BothValues vs a)
   clash-said a = (
     λ e. go (first noneOrBoth 0 vs) refl e,
     λ h. rw (lowest-none-or-both vs a .1 (h .0), h .1) refl,
@@ -85,13 +91,15 @@ module _ (vs ws : List ℕ) (accepted : Accepted vs ws) where
       by-engine (refused k p) e = cc
       by-engine (answered v) e = cc
 
-      go : (o : Option ℕ) → first noneOrBoth 0 vs ≡ o → said o ≡ answered (history.judged (clash a)) → Lowest (NoneOrBoth vs) (length vs) a × BothValues vs a
+      go : (o : Option ℕ) → first noneOrBoth 0 vs ≡ o → said o ≡ answered (history.judged (clash a))
+          → Lowest (NoneOrBoth vs) (length vs) a × BothValues vs a
       go none q e =
           let low = engine-clash vs ws accepted a .0 (by-engine (engine.answer vs ws) e) in
           absurd (nowhere-none-or-both vs .0 q a (low .0) (inr (low .1)))
       go (some i) q e = by-value (eqb (getD vs i 0) 0) refl e
         where
-          by-value : (b : Bool) → eqb (getD vs i 0) 0 ≡ b → answered (cond b (history.missing i) (history.judged (clash i))) ≡ answered (history.judged (clash a))
+          by-value : (b : Bool) → eqb (getD vs i 0) 0 ≡ b
+              → answered (cond b (history.missing i) (history.judged (clash i))) ≡ answered (history.judged (clash a))
               → Lowest (NoneOrBoth vs) (length vs) a × BothValues vs a
           by-value true t e = let z : _≡_ {A = ℕ} 0 1 = cc in absurd (omega arith)
           by-value false f e =

@@ -16,7 +16,8 @@ use Rattle.action_language.specs.declared.Kind.{Kind}
 use Rattle.action_language.specs.declared.Kind.the-variants.{Static, Dynamic}
 use Rattle.action_language.specs.declared.Law.{Law}
 use Rattle.action_language.specs.Laws.{isStatic, ifList, afterList}
-use Rattle.action_language.specs.Meaning.{Interpretation, holds, satisfiesHead, together, Explained, SatisfiesStatic, State, stateAt, actionAt, Path}
+use Rattle.action_language.specs.Meaning.{Interpretation, holds, satisfiesHead, together, Explained, SatisfiesStatic}
+use Rattle.action_language.specs.Meaning.{State, stateAt, actionAt, Path}
 use Rattle.basics.specs.Replies.{orElse}
 use Rattle.causal_steps.specs.Applying.{appliesAtStart, appliesInStep, literalIn, someCause, contradicts}
 use Rattle.causal_reading.specs.Verdicts.{Causal, contradicted, uncaused, path, stepVerdict, stepsFrom, causalVerdict}
@@ -155,7 +156,8 @@ stepsFrom-iff : (n m : ℕ) (ls : List Law) (vs : List ℕ) (t k : ℕ)
     → stepsFrom n m ls vs t k ≡ path ↔ ((i : ℕ) → t ≤ i → i < t + k → StepByLaw n m ls vs i)
 stepsFrom-iff n m ls vs t zero = (λ e i low high. absurd (omega arith), λ h. refl)
 stepsFrom-iff n m ls vs t (suc k) =
-    Iff·trans (stepVerdict-iff n ls (stateAt n m vs t) (actionAt n m vs t) (stateAt n m vs (suc t)) (suc t) (stepsFrom n m ls vs (suc t) k)) (
+    Iff·trans
+    (stepVerdict-iff n ls (stateAt n m vs t) (actionAt n m vs t) (stateAt n m vs (suc t)) (suc t) (stepsFrom n m ls vs (suc t) k)) (
       λ h i low high. ⊎-elim (λ l. stepsFrom-iff n m ls vs (suc t) k .0 (h .1) i (ltb-true t i l) (omega arith))
           (λ f. let same : i ≡ t = omega (arith, ltb-false t i f) in rw same (h .0)) (true-or-false (ltb t i)),
       λ h. (h t (omega arith) (omega arith), stepsFrom-iff n m ls vs (suc t) k .1 (λ i low high. h i (omega arith) (omega arith))),

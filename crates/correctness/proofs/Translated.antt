@@ -178,7 +178,8 @@ module _ (n m T : ℕ) (ls : List Law) (vs : List ℕ)
   choice-applies : (B : ℕ) → B < length vs → AtChoice (λ r. bodyIn X r ≡ true ↔ HeadIn (r .head) X) B
   choice-applies B b =
       let even : (not (X (2 * B) || false) && true) ≡ X (2 * B + 1) = unless (X (2 * B)) ∙ sym (odd-in B b) in
-      let odd : (not (X (2 * B + 1) || false) && true) ≡ X (2 * B) = unless (X (2 * B + 1)) ∙ ap not (odd-in B b) ∙ Bool·not-not (X (2 * B)) in
+      let odd : (not (X (2 * B + 1) || false) && true) ≡ X (2 * B) =
+      unless (X (2 * B + 1)) ∙ ap not (odd-in B b) ∙ Bool·not-not (X (2 * B)) in
       ((λ e. sym even ∙ e, λ e. even ∙ e), (λ e. sym odd ∙ e, λ e. odd ∙ e))
 
   fluent-open : (f : ℕ) → f < n → f < length vs
@@ -285,8 +286,10 @@ module _ (n m T : ℕ) (ls : List Law) (vs : List ℕ)
 
       open-supported : (B : ℕ) → B < length vs → c / 2 ≡ B → AtChoice Supports B → Support Π X c
       open-supported B b half h = ⊎-elim
-          (λ (e : c ≡ 2 * (c / 2)). let even : c ≡ 2 * B = omega arith in h .1 (choice-applies B b .1 .1 (rw even at x)) c (ap lit (sym even)))
-          (λ (e : c ≡ 2 * (c / 2) + 1). let odd : c ≡ 2 * B + 1 = omega arith in h .0 (choice-applies B b .0 .1 (rw odd at x)) c (ap lit (sym odd)))
+          (λ (e : c ≡ 2 * (c / 2)).
+          let even : c ≡ 2 * B = omega arith in h .1 (choice-applies B b .1 .1 (rw even at x)) c (ap lit (sym even)))
+          (λ (e : c ≡ 2 * (c / 2) + 1).
+          let odd : c ≡ 2 * B + 1 = omega arith in h .0 (choice-applies B b .0 .1 (rw odd at x)) c (ap lit (sym odd)))
           (even-or-odd c)
 
       later-supported : (t d : ℕ) → t < T → d < 2 * n → c ≡ atTime N (suc t) d → Support Π X c

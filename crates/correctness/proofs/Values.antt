@@ -89,7 +89,9 @@ module _ (n m T : ℕ) (vs : List ℕ) (size : length vs ≡ atomCount n m T) (o
   -- the parts of a rule at a time: an if-list, an after-list
   pub if-holds : (t : ℕ) (cs : List ℕ) → t ≤ T → CodesBelow (2 * n) cs
       → not (meets (complementsAt (n + m) t cs) (setOf vs)) ≡ holds (stateAt n m vs t) cs
-  if-holds t cs b low = sym (all-not-meets (setOf vs) (complementsAt (n + m) t cs)) ∙ all-mapped (λ c. not (setOf vs c)) (satisfies (stateAt n m vs t)) (λ c. complement (atTime (n + m) t c)) cs
+  if-holds t cs b low =
+      sym (all-not-meets (setOf vs) (complementsAt (n + m) t cs))
+      ∙ all-mapped (λ c. not (setOf vs c)) (satisfies (stateAt n m vs t)) (λ c. complement (atTime (n + m) t c)) cs
       (each-map (λ c l. ap not (complement-in (atTime (n + m) t c) (fluent-below t c b l)) ∙ Bool·not-not _ ∙ fluent-in t c b l) cs low)
 
   pub after-holds : (t : ℕ) (cs : List ℕ) → t < T → CodesBelow (2 * (n + m)) cs

@@ -50,7 +50,8 @@ pub record FiveReadings (d : Description) (ls : List Law) (lent : ℕ) (vs : Lis
   pub completion-holds : (old : List ℕ) → length (tableFor d ls) ≤ length old
       → completion.answer vs (take (length (tableFor d ls)) (tableAfter d ls lent old)) ≡ answered holds ↔ PathOf d ls vs
   -- for every table that is long enough; else the refusal is 9
-  pub history-passes : (room : ℕ) → length (tableFor d ls) ≤ room → history.checked d ls lent vs room ≡ answered (history.judged passes) ↔ PathOf d ls vs
+  pub history-passes : (room : ℕ) → length (tableFor d ls) ≤ room
+      → history.checked d ls lent vs room ≡ answered (history.judged passes) ↔ PathOf d ls vs
   pub history-refused : (room : ℕ) → room < length (tableFor d ls) → history.checked d ls lent vs room ≡ refused 9 (length (tableFor d ls))
   pub causal-path : causal.reading d ls lent vs ≡ answered path ↔ PathOf d ls vs
 

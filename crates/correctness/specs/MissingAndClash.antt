@@ -17,11 +17,15 @@ use Rattle.history_check.specs.Checks as history
 
 pub record SameFirst (vs ws : List ℕ) : Type 0 where
   -- what the history check says
-  pub missing-exactly : (a : ℕ) → history.finding vs ws ≡ answered (history.missing a) ↔ (Lowest (NoneOrBoth vs) (length vs) a × NoValue vs a)
-  pub clash-exactly : (a : ℕ) → history.finding vs ws ≡ answered (history.judged (clash a)) ↔ (Lowest (NoneOrBoth vs) (length vs) a × BothValues vs a)
+  pub missing-exactly : (a : ℕ)
+      → history.finding vs ws ≡ answered (history.missing a) ↔ (Lowest (NoneOrBoth vs) (length vs) a × NoValue vs a)
+  pub clash-exactly : (a : ℕ) → history.finding vs ws ≡ answered (history.judged (clash a))
+      ↔ (Lowest (NoneOrBoth vs) (length vs) a × BothValues vs a)
   -- the completion formulas say the same
-  pub missing-same : (a : ℕ) → completion.answer vs ws ≡ answered (formulas.missing a) ↔ history.finding vs ws ≡ answered (history.missing a)
-  pub clash-same : (a : ℕ) → completion.answer vs ws ≡ answered (formulas.clash a) ↔ history.finding vs ws ≡ answered (history.judged (clash a))
+  pub missing-same : (a : ℕ) → completion.answer vs ws ≡ answered (formulas.missing a)
+      ↔ history.finding vs ws ≡ answered (history.missing a)
+  pub clash-same : (a : ℕ) → completion.answer vs ws ≡ answered (formulas.clash a)
+      ↔ history.finding vs ws ≡ answered (history.judged (clash a))
 
 abbrev pub MissingAndClash : Type 0
 MissingAndClash = (vs ws : List ℕ) → Accepted vs ws → SameFirst vs ws

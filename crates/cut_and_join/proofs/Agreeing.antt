@@ -15,7 +15,8 @@ use Rattle.action_language.specs.declared.Kind.{Kind}
 use Rattle.action_language.specs.declared.Kind.the-variants.{Static, Dynamic}
 use Rattle.action_language.specs.declared.Law.{Law}
 use Rattle.action_language.specs.Laws.{ifList, afterList}
-use Rattle.action_language.specs.Meaning.{Interpretation, satisfies, holds, satisfiesHead, together, causing, caused, SatisfiesAll, Same, Explained, SatisfiesStatic, State}
+use Rattle.action_language.specs.Meaning.{Interpretation, satisfies, holds, satisfiesHead, together, causing, caused}
+use Rattle.action_language.specs.Meaning.{SatisfiesAll, Same, Explained, SatisfiesStatic, State}
 use Rattle.action_language.proofs.Laws.{AllFit}
 use Rattle.action_language.proofs.Fits.{CodesBelow, HeadBelow, AfterBelow, Fits, law-fits}
 use Rattle.causal_steps.proofs.CausedHeads.{caused-iff}
@@ -57,7 +58,8 @@ agree-state n m s t same ls fit = (state-same n m s t same ls fit, state-same n 
 -- Steps
 
 module _ (n m : ℕ) (s t a b s′ t′ : Interpretation) (before : Same n s t) (acts : Same m a b) (after : Same n s′ t′) where
-  causing-same : (k : Kind) (l : Law) → CodesBelow (2 * n) (ifList l) → AfterBelow (2 * (n + m)) k l → causing n s a s′ k l ≡ causing n t b t′ k l
+  causing-same : (k : Kind) (l : Law) → CodesBelow (2 * n) (ifList l) → AfterBelow (2 * (n + m)) k l
+      → causing n s a s′ k l ≡ causing n t b t′ k l
   causing-same Static l ifs afters = holds-same n s′ t′ after (ifList l) ifs
   causing-same Dynamic l ifs afters =
       rw (

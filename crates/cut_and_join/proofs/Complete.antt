@@ -40,13 +40,16 @@ module _ (d : Description) (ls : List Law) (lent : ℕ) where
   records-stay T = refl
 
   -- a description that is accepted stays so with any horizon from 1 to 30
-  pub stays-accepted : (T : ℕ) → badRecord d ls lent ≡ none → 1 ≤ T → T ≤ 30 → (badRecord (withHorizon d T) ls lent ≡ none) × (badHorizon T ≡ none)
+  pub stays-accepted : (T : ℕ) → badRecord d ls lent ≡ none → 1 ≤ T → T ≤ 30
+      → (badRecord (withHorizon d T) ls lent ≡ none) × (badHorizon T ≡ none)
   stays-accepted T taken one few = (records-stay T ∙ taken, horizon-taken T one few)
 
-  complete-with : (T : ℕ) (vs : List ℕ) → badRecord d ls lent ≡ none → 1 ≤ T → T ≤ 30 → length vs ≡ atomCount (d .fluents) (d .actions) T → Each OneValue vs
+  complete-with : (T : ℕ) (vs : List ℕ) → badRecord d ls lent ≡ none → 1 ≤ T → T ≤ 30
+      → length vs ≡ atomCount (d .fluents) (d .actions) T → Each OneValue vs
       → Complete (withHorizon d T) ls lent vs
   complete-with T vs taken one few size each =
-      let (records, horizon) = stays-accepted T taken one few in record { records = records; horizon = horizon; size = size; one-value = each }
+      let (records, horizon) = stays-accepted T taken one few in
+      record { records = records; horizon = horizon; size = size; one-value = each }
 
   -- Halves and joins
 
@@ -60,17 +63,21 @@ module _ (d : Description) (ls : List Law) (lent : ℕ) where
     pub first-complete : Complete (withHorizon d k) ls lent (firstSteps (d .fluents) (d .actions) k vs)
     first-complete =
         complete-with k (firstSteps (d .fluents) (d .actions) k vs) (whole .records) one (omega (arith, few))
-        (first-size (d .fluents) (d .actions) vs k (d .horizon - k) in-two) (first-each (d .fluents) (d .actions) OneValue vs k (whole .one-value))
+        (first-size (d .fluents) (d .actions) vs k (d .horizon - k) in-two)
+        (first-each (d .fluents) (d .actions) OneValue vs k (whole .one-value))
 
     pub later-complete : Complete (withHorizon d (d .horizon - k)) ls lent (laterSteps (d .fluents) (d .actions) k vs)
     later-complete =
         complete-with (d .horizon - k) (laterSteps (d .fluents) (d .actions) k vs) (whole .records) (omega arith) (omega (arith, few))
-        (later-size (d .fluents) (d .actions) vs k (d .horizon - k) in-two) (later-each (d .fluents) (d .actions) OneValue vs k (whole .one-value))
+        (later-size (d .fluents) (d .actions) vs k (d .horizon - k) in-two)
+        (later-each (d .fluents) (d .actions) OneValue vs k (whole .one-value))
 
-  pub joined-complete : (vs ws : List ℕ) (j k : ℕ) → Complete (withHorizon d j) ls lent vs → Complete (withHorizon d k) ls lent ws → j + k ≤ 30
+  pub joined-complete : (vs ws : List ℕ) (j k : ℕ) → Complete (withHorizon d j) ls lent vs
+      → Complete (withHorizon d k) ls lent ws → j + k ≤ 30
       → Complete (withHorizon d (j + k)) ls lent (joined (d .fluents) vs ws)
   joined-complete vs ws j k first second few =
-      complete-with (j + k) (joined (d .fluents) vs ws) (sym (records-stay j) ∙ first .records) (omega (arith, accepted-horizon j (first .horizon))) few
+      complete-with (j + k) (joined (d .fluents) vs ws) (sym (records-stay j) ∙ first .records)
+      (omega (arith, accepted-horizon j (first .horizon))) few
       (joined-size (d .fluents) (d .actions) vs ws j k (first .size) (second .size))
       (joined-each (d .fluents) (d .actions) OneValue vs ws (first .one-value) (second .one-value))
 
@@ -85,7 +92,9 @@ module _ (d : Description) (ls : List Law) (lent : ℕ) (vs : List ℕ) where
       fault a true e = let z : _≡_ {A = ℕ} 0 1 = cc in omega arith
       fault a false e = let z : _≡_ {A = ℕ} 0 1 = cc in omega arith
 
-      go : (o : Option ℕ) → orElse o (λ a. answered (history.faultAt vs a)) (history.ofEngine (engine.answer vs ws)) ≡ answered (history.judged passes) → o ≡ none
+      go : (o : Option ℕ)
+          → orElse o (λ a. answered (history.faultAt vs a)) (history.ofEngine (engine.answer vs ws)) ≡ answered (history.judged passes)
+          → o ≡ none
       go none e = refl
       go (some a) e = absurd (fault a (eqb (getD vs a 0) 0) e)
 

@@ -22,7 +22,8 @@ use Rattle.cut_and_join.specs.Passing.{Criterion, byPath, byAnswerSet, b
 use Rattle.cut_and_join.specs.CutAndJoin.{ForReading, CuttingAndJoining}
 use Rattle.cut_and_join.proofs.Within.{path-part, path-whole}
 use Rattle.cut_and_join.proofs.Lists.{first-within, later-within, join-begins, join-goes-on, each-undoes-the-other}
-use Rattle.cut_and_join.proofs.Complete.{records-stay, first-complete, later-complete, joined-complete, history-complete, causes-complete}
+use Rattle.cut_and_join.proofs.Complete.{records-stay, first-complete, later-complete, joined-complete}
+use Rattle.cut_and_join.proofs.Complete.{history-complete, causes-complete}
 
 -- Paths
 
@@ -37,13 +38,15 @@ module _ (d : Description) (ls : List Law) (lent : ℕ) where
       → PathOf (withHorizon d k) ls (firstSteps n m k vs) × PathOf (withHorizon d (d .horizon - k)) ls (laterSteps n m k vs)
   cut-path vs k whole inside h = (
     path-part n m 0 k vs (firstSteps n m k vs) (first-within n m vs k) (lawsOf d ls) fit (d .horizon) (omega arith) h,
-    path-part n m k (d .horizon - k) vs (laterSteps n m k vs) (later-within n m vs k (d .horizon - k)) (lawsOf d ls) fit (d .horizon) (omega arith) h,
+    path-part n m k (d .horizon - k) vs (laterSteps n m k vs) (later-within n m vs k (d .horizon - k)) (lawsOf d ls) fit
+        (d .horizon) (omega arith) h,
   )
     where
       fit : AllFit n m (lawsOf d ls)
       fit = accepted-law d ls lent (whole .records)
 
-  join-path : (vs ws : List ℕ) (j k : ℕ) → Complete (withHorizon d j) ls lent vs → Complete (withHorizon d k) ls lent ws → lastState n vs ≡ firstState n ws
+  join-path : (vs ws : List ℕ) (j k : ℕ) → Complete (withHorizon d j) ls lent vs → Complete (withHorizon d k) ls lent ws
+      → lastState n vs ≡ firstState n ws
       → PathOf (withHorizon d j) ls vs → PathOf (withHorizon d k) ls ws → PathOf (withHorizon d (j + k)) ls (joined n vs ws)
   join-path vs ws j k first second same =
       path-whole n m j k (joined n vs ws) vs ws (join-begins n m vs ws j k (first .size) (second .size))
@@ -101,8 +104,11 @@ pub cutting-and-joining : CuttingAndJoining
 cutting-and-joining d ls lent = record {
   by-path = for-reading byPath (λ d ls lent vs table complete enough. (λ h. h, λ h. h)) ls lent d;
   by-answer-set = for-reading byAnswerSet (λ d ls lent vs table complete enough. demand-3 d ls lent vs complete .answer-set) ls lent d;
-  by-engine = for-reading byEngine (λ d ls lent vs table complete enough. demand-3 d ls lent vs complete .engine-passes table enough) ls lent d;
-  by-formulas = for-reading byFormulas (λ d ls lent vs table complete enough. demand-3 d ls lent vs complete .completion-holds table enough) ls lent d;
+  by-engine =
+      for-reading byEngine (λ d ls lent vs table complete enough. demand-3 d ls lent vs complete .engine-passes table enough) ls lent d;
+  by-formulas =
+      for-reading byFormulas
+      (λ d ls lent vs table complete enough. demand-3 d ls lent vs complete .completion-holds table enough) ls lent d;
   by-history = for-reading byHistory by-history ls lent d;
   by-causes = for-reading byCauses by-causes ls lent d;
   undo = each-undoes-the-other (d .fluents) (d .actions);

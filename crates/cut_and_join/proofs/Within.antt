@@ -69,7 +69,9 @@ pub path-whole : (n m j k : ℕ) (us vs ws : List ℕ) → Within n m 0 j us vs 
     → Path n m j ls vs → Path n m k ls ws → Path n m (j + k) ls us
 path-whole n m j k us vs ws front back ls fit first second = record {
   start = start-iff n m 0 j us vs front ls fit .1 (first .start);
-  steps = λ t b. ⊎-elim (λ (e : ltb t j ≡ true). before t (ltb-true t j e)) (λ (e : ltb t j ≡ false). behind t b (ltb-false t j e)) (true-or-false (ltb t j));
+  steps =
+      λ t b. ⊎-elim (λ (e : ltb t j ≡ true). before t (ltb-true t j e))
+      (λ (e : ltb t j ≡ false). behind t b (ltb-false t j e)) (true-or-false (ltb t j));
 }
   where
     before : (t : ℕ) → t < j → StepAt n m ls us t

@@ -53,7 +53,8 @@ pub record CutAndJoin (d : Description) (ls : List Law) (lent : ℕ) : Type 0 wh
   pub by-causes : ForReading byCauses d ls lent
   pub undo : EachUndoesTheOther (d .fluents) (d .actions)
   -- whoever is told so by the history check, or by the causal reading, need ask nothing else
-  pub history-told : (vs : List ℕ) (room : ℕ) → history.checked d ls lent vs room ≡ answered (history.judged passes) → Passed byHistory d ls lent vs
+  pub history-told : (vs : List ℕ) (room : ℕ) → history.checked d ls lent vs room ≡ answered (history.judged passes)
+      → Passed byHistory d ls lent vs
   pub causes-told : (vs : List ℕ) → causal.reading d ls lent vs ≡ answered path → Passed byCauses d ls lent vs
   -- a table that is long enough for the whole is so for each half
   pub room-enough : (k : ℕ) → k ≤ d .horizon → length (tableFor (withHorizon d k) ls) ≤ length (tableFor d ls)

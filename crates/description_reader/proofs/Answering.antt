@@ -30,14 +30,22 @@ module _ (text : List ℕ) (e : Ending) (laws : List Law) (ended : Ended laws te
   taken =
       omega (arith, length-take (e .state .draft .run .count) (e .state .draft .run .laws), ended .sound .held, sound-64 (ended .sound))
 
-  pub read-reply : answered (behind (e .at) (e .line)) ≡ replied text (answered (read (draftOf text (e .state .draft)) (drop (e .at) text) (e .line)))
+  pub read-reply : answered (behind (e .at) (e .line))
+      ≡ replied text (answered (read (draftOf text (e .state .draft)) (drop (e .at) text) (e .line)))
   read-reply =
       let at : length text - length (drop (e .at) text) ≡ e .at = omega (arith, length-drop (e .at) text, ended .within) in
       rw at
 
-  pub read-record : record { fluents = e .state .draft .fluents; actions = e .state .draft .names .count - e .state .draft .fluents; laws = e .state .draft .run .count; horizon = e .state .draft .horizon }
+  pub read-record :
+      record {
+        fluents = e .state .draft .fluents;
+        actions = e .state .draft .names .count - e .state .draft .fluents;
+        laws = e .state .draft .run .count;
+        horizon = e .state .draft .horizon;
+      }
       ≡ descriptionOf (draftOf text (e .state .draft))
   read-record = rw (spelled-length, taken)
 
-  pub read-laws : e .state .draft .run .laws ≡ lawsLeft (answered (read (draftOf text (e .state .draft)) (drop (e .at) text) (e .line))) laws
+  pub read-laws : e .state .draft .run .laws
+      ≡ lawsLeft (answered (read (draftOf text (e .state .draft)) (drop (e .at) text) (e .line))) laws
   read-laws = rw (taken, ← ended .follows) (sym (take-append-drop (e .state .draft .run .count) (e .state .draft .run .laws)))

@@ -29,8 +29,12 @@ module _ (cs : List ℕ) (n : ℕ) (six : length cs ≡ 6) where
   item-unknown k e = go (leb 6 n) refl
     where
       go : (b : Bool) → leb 6 n ≡ b → listedOf (record { codes = cs; count = n; refused = k }) ≡ oneMore (take n cs) none
-      go true f = let full : ltb (length (take n cs)) 6 ≡ false = le-ltb (length (take n cs)) 6 (omega (arith, leb-true 6 n f, length-take n cs)) in rw (e, f, full)
-      go false f = let room : ltb (length (take n cs)) 6 ≡ true = lt-ltb (length (take n cs)) 6 (omega (arith, leb-false 6 n f, length-take n cs)) in rw (e, f, room)
+      go true f =
+          let full : ltb (length (take n cs)) 6 ≡ false = le-ltb (length (take n cs)) 6 (omega (arith, leb-true 6 n f, length-take n cs)) in
+          rw (e, f, full)
+      go false f =
+          let room : ltb (length (take n cs)) 6 ≡ true = lt-ltb (length (take n cs)) 6 (omega (arith, leb-false 6 n f, length-take n cs)) in
+          rw (e, f, room)
 
   pub unknown-refused : (k : ℕ) → k ≡ cond (leb 6 n) 5 6 → 0 < k
   unknown-refused k e = go (leb 6 n) refl
@@ -46,7 +50,9 @@ module _ (cs : List ℕ) (n : ℕ) (six : length cs ≡ 6) where
   item-seventh k e h x = go (leb 6 n) refl
     where
       go : (b : Bool) → leb 6 n ≡ b → listedOf (record { codes = cs; count = n; refused = k }) ≡ oneMore (take n cs) x
-      go true f = let full : ltb (length (take n cs)) 6 ≡ false = le-ltb (length (take n cs)) 6 (omega (arith, leb-true 6 n f, length-take n cs)) in rw (e, f, full)
+      go true f =
+          let full : ltb (length (take n cs)) 6 ≡ false = le-ltb (length (take n cs)) 6 (omega (arith, leb-true 6 n f, length-take n cs)) in
+          rw (e, f, full)
       go false f = let none-left : k ≡ 0 = e ∙ rw f in absurd (omega arith)
 
   pub item-room : (k : ℕ) → k ≡ cond (leb 6 n) 5 0 → k ≤ 0 → n < 6
@@ -76,7 +82,8 @@ module _ (cs : List ℕ) (n : ℕ) (six : length cs ≡ 6) where
   padded-more c h e =
       let size = taken-size (omega arith) in
       let left : 6 - length (take n cs ++ (c ∷ [])) ≡ 6 - suc n = omega (arith, length-append (take n cs) (c ∷ [])) in
-      rw (snoc c h, left) (set-split cs n c (omega arith) ∙ rw (rest h e) (sym (append-assoc (take n cs) (c ∷ []) (replicate (6 - suc n) 0))))
+      rw (snoc c h, left)
+      (set-split cs n c (omega arith) ∙ rw (rest h e) (sym (append-assoc (take n cs) (c ∷ []) (replicate (6 - suc n) 0))))
 
 -- what was gathered, by the refusal's number
 pub listed-codes : (l : Codes) → l .refused ≤ 0 → codes (take (l .count) (l .codes)) ≡ listedOf l
@@ -111,8 +118,10 @@ module _ (names : List (List ℕ)) (low high : ℕ) (done : List ℕ) (x : List 
   list-goes more e = list-on (ltb (length done) 6) (literal names low high x) more e
 
 -- one turn of the loop over a list's items, where R is what the whole list comes to
-module _ (names : List (List ℕ)) (high : ℕ) (list : List ℕ) (i : ℕ) (inside : i ≤ length list) (done : List ℕ) (code : Option ℕ) (more : Codes) {R : Listed}
-    (left : listFrom names 0 high 6 done (itemsAt list i) ≡ R) (is : code ≡ literal names 0 high (itemAt list i)) (one : listedOf more ≡ oneMore done code) where
+module _ (names : List (List ℕ)) (high : ℕ) (list : List ℕ) (i : ℕ) (inside : i ≤ length list) (done : List ℕ)
+    (code : Option ℕ) (more : Codes) {R : Listed}
+    (left : listFrom names 0 high 6 done (itemsAt list i) ≡ R) (is : code ≡ literal names 0 high (itemAt list i))
+    (one : listedOf more ≡ oneMore done code) where
   unrolled : listFrom names 0 high 6 done (itemAt list i ∷ itemsAt list (nextAt list i)) ≡ R
   unrolled = ap (listFrom names 0 high 6 done) (sym (items-next list i inside)) ∙ left
 
@@ -120,7 +129,10 @@ module _ (names : List (List ℕ)) (high : ℕ) (list : List ℕ) (i : ℕ) (ins
       → listFrom names 0 high 6 (take (more .count) (more .codes)) (itemsAt list next) ≡ R
   turn-on next e h =
       let gathered = sym (listed-codes more h ∙ one ∙ ap (oneMore done) is) in
-      rw e (sym (list-goes names 0 high done (itemAt list i) (itemsAt list (nextAt list i)) (take (more .count) (more .codes)) gathered) ∙ unrolled)
+      rw e
+      (sym
+      (list-goes names 0 high done (itemAt list i) (itemsAt list (nextAt list i)) (take (more .count) (more .codes)) gathered)
+      ∙ unrolled)
 
   pub turn-off : 0 < more .refused → R ≡ refused (more .refused)
   turn-off h =

@@ -20,13 +20,15 @@ use Rattle.description_reader.specs.declared.Run.{Run}
 use Rattle.description_reader.specs.declared.states.Due as code
 use Rattle.description_reader.specs.declared.states.Due.the-variants as code-due
 use Rattle.description_reader.specs.declared.states.HeldDraft.{HeldDraft}
-use Rattle.description_reader.specs.LineSteps.{Due, horizonDue, firstFluentDue, fluentDue, actionDue, lawDue, ifDue, afterDue, byDue, allowed, withAfter}
+use Rattle.description_reader.specs.LineSteps.{Due, horizonDue, firstFluentDue, fluentDue, actionDue, lawDue}
+use Rattle.description_reader.specs.LineSteps.{ifDue, afterDue, byDue, allowed, withAfter}
 use Rattle.action_language.specs.Laws.{lawOf}
 use Rattle.text.specs.Lines.{ifKey, afterKey, byKey}
 use Rattle.text.specs.Names.{literal}
 use Rattle.text.specs.Lists.{Listed, codes}
 use Rattle.description_reader.specs.LineSteps as step
-use Rattle.description_reader.specs.LineSteps.{Draft, next, whole, withIf, lawIn, roomFor, wholeByLiteral, literalLine, nonexecutableLine}
+use Rattle.description_reader.specs.LineSteps.{Draft, next, whole, withIf, lawIn, roomFor, wholeByLiteral}
+use Rattle.description_reader.specs.LineSteps.{literalLine, nonexecutableLine}
 use Rattle.line_values.specs.declared.law_forms.Places.{Places}
 use Rattle.line_values.specs.ShortLaws.{nonexecutableLaw}
 use Rattle.line_values.specs.Internal.{placesOf}
@@ -69,7 +71,8 @@ or-right a b e = or-iff a b .1 (inr e)
 abbrev pub Begun : code.Due → Law → ℕ → Type 0
 Begun due l n = (n < 64) × (lawIn (dueOf due l) ≡ l)
 
-pub list-begun : (due : code.Due) (l : Law) (n : ℕ) → (allowed (dueOf due l) ifKey || allowed (dueOf due l) afterKey || allowed (dueOf due l) byKey) ≡ true
+pub list-begun : (due : code.Due) (l : Law) (n : ℕ)
+    → (allowed (dueOf due l) ifKey || allowed (dueOf due l) afterKey || allowed (dueOf due l) byKey) ≡ true
     → HasRoom (dueOf due l) n → Begun due l n
 list-begun code-due.Horizon l n e h = absurd (false≢true e)
 list-begun code-due.FirstFluent l n e h = absurd (false≢true e)
@@ -105,15 +108,36 @@ module _ (l : Codes) (fits : Padded l) where
   pub gathered-length : length (take (l .count) (l .codes)) ≡ l .count
   gathered-length =
       let t = take (l .count) (l .codes) in
-      omega (arith, ap length (fits .padding), length-append t (replicate (6 - length t) 0), length-replicate {A = ℕ} (6 - length t) 0, length-take (l .count) (l .codes), fits .few)
+      omega (
+        arith,
+        ap length (fits .padding),
+        length-append t (replicate (6 - length t) 0),
+        length-replicate {A = ℕ} (6 - length t) 0,
+        length-take (l .count) (l .codes),
+        fits .few,
+      )
 
   pub law-if : (w : Law) (k : Kind) → w .kind ≡ k
-      → _≡_ {A = Law} (record { kind = w .kind; head = w .head; «if_count» = l .count; «if_codes» = l .codes; «after_count» = 0; «after_codes» = replicate 6 0 })
+      → _≡_ {A = Law} (record {
+        kind = w .kind;
+        head = w .head;
+        «if_count» = l .count;
+        «if_codes» = l .codes;
+        «after_count» = 0;
+        «after_codes» = replicate 6 0;
+      })
       (lawOf k (w .head) (take (l .count) (l .codes)) [])
   law-if w k e = rw (← fits .padding, gathered-length, e)
 
   pub law-after : (w : Law)
-      → _≡_ {A = Law} (record { kind = w .kind; head = w .head; «if_count» = w .«if_count»; «if_codes» = w .«if_codes»; «after_count» = l .count; «after_codes» = l .codes })
+      → _≡_ {A = Law} (record {
+        kind = w .kind;
+        head = w .head;
+        «if_count» = w .«if_count»;
+        «if_codes» = w .«if_codes»;
+        «after_count» = l .count;
+        «after_codes» = l .codes;
+      })
       (withAfter w (take (l .count) (l .codes)))
   law-after w = rw (← fits .padding, gathered-length)
 
@@ -134,14 +158,17 @@ pushed-sound s r h few p =
       held = p .held;
     }
 
-pub if-static : (d : Draft) (l : Law) (cs : List ℕ) → l .kind ≡ Static → next lawDue (whole d (lawOf Static (l .head) cs [])) ≡ withIf d (l .kind) (l .head) cs
+pub if-static : (d : Draft) (l : Law) (cs : List ℕ) → l .kind ≡ Static
+    → next lawDue (whole d (lawOf Static (l .head) cs [])) ≡ withIf d (l .kind) (l .head) cs
 if-static d l cs e = rw e
 
-pub if-dynamic : (d : Draft) (l : Law) (cs : List ℕ) → l .kind ≡ Dynamic → next (afterDue (lawOf Dynamic (l .head) cs [])) d ≡ withIf d (l .kind) (l .head) cs
+pub if-dynamic : (d : Draft) (l : Law) (cs : List ℕ) → l .kind ≡ Dynamic
+    → next (afterDue (lawOf Dynamic (l .head) cs [])) d ≡ withIf d (l .kind) (l .head) cs
 if-dynamic d l cs e = rw e
 
 -- the run has room where the draft has
-pub room-here : {due : Due} (text : List ℕ) (lent : ℕ) (r : HeldDraft) → Sound due r → ltb (r .run .count) (min 64 lent) ≡ roomFor lent (draftOf text r)
+pub room-here : {due : Due} (text : List ℕ) (lent : ℕ) (r : HeldDraft) → Sound due r
+    → ltb (r .run .count) (min 64 lent) ≡ roomFor lent (draftOf text r)
 room-here text lent r s = rw (counted (r .run .laws) (r .run .count) (s .held) (sound-64 s))
 
 pub room-64 : (n lent : ℕ) → ltb n (min 64 lent) ≡ true → n < 64
@@ -172,10 +199,12 @@ module _ (d : Draft) (lent : ℕ) (room : Bool) (is : room ≡ roomFor lent d) w
       go true f = omega arith
       go false f = omega arith
 
-  pub literal-full : (law : ℕ → Law) (value : List ℕ) (k : ℕ) → k ≡ cond (not room) 5 0 → 0 < k → step.refused k ≡ literalLine lent d law value
+  pub literal-full : (law : ℕ → Law) (value : List ℕ) (k : ℕ) → k ≡ cond (not room) 5 0 → 0 < k
+      → step.refused k ≡ literalLine lent d law value
   literal-full law value k e h = rw (← is) (go room e)
     where
-      go : (b : Bool) → k ≡ cond (not b) 5 0 → step.refused k ≡ cond b (wholeByLiteral d law (literal (d .names) 0 (d .fluents) value)) (step.refused 5)
+      go : (b : Bool) → k ≡ cond (not b) 5 0
+          → step.refused k ≡ cond b (wholeByLiteral d law (literal (d .names) 0 (d .fluents) value)) (step.refused 5)
       go true f = absurd (omega arith)
       go false f = ap step.refused f
 
@@ -186,12 +215,14 @@ module _ (d : Draft) (lent : ℕ) (room : Bool) (is : room ≡ roomFor lent d) w
       go true f = refl
       go false f = absurd (omega arith)
 
-  pub literal-whole : (law : ℕ → Law) (value : List ℕ) (l : Law) (c : ℕ) → room ≡ true → literal (d .names) 0 (d .fluents) value ≡ some c → l ≡ law c
+  pub literal-whole : (law : ℕ → Law) (value : List ℕ) (l : Law) (c : ℕ) → room ≡ true
+      → literal (d .names) 0 (d .fluents) value ≡ some c → l ≡ law c
       → next lawDue (whole d l) ≡ literalLine lent d law value
   literal-whole law value l c r o e = rw (← is, r, o, e)
 
   pub list-full : (list : Listed) → room ≡ false → step.refused 5 ≡ nonexecutableLine lent d list
   list-full list r = rw (← is, r)
 
-  pub list-whole : (cs : List ℕ) (l : Law) → room ≡ true → l ≡ nonexecutableLaw cs → next lawDue (whole d l) ≡ nonexecutableLine lent d (codes cs)
+  pub list-whole : (cs : List ℕ) (l : Law) → room ≡ true → l ≡ nonexecutableLaw cs
+      → next lawDue (whole d l) ≡ nonexecutableLine lent d (codes cs)
   list-whole cs l r e = rw (← is, r, e)

@@ -15,7 +15,9 @@ use Rattle.basics.proofs.Tests.{and-iff, not-both}
 use Rattle.action_language.specs.declared.Law.{Law}
 use Rattle.text.specs.Bytes.{newline, equalsSign, Cut, cutAt, cut}
 use Rattle.text.specs.Lines.{noKey, Line, keyed, valued, ended, keyNumber, firstLine}
-use Rattle.description_reader.specs.LineSteps.{Due, horizonDue, firstFluentDue, fluentDue, actionDue, lawDue, ifDue, afterDue, byDue, Draft, startsLaw, allowed, roomFor, anyList}
+use Rattle.description_reader.specs.LineSteps.{Due, horizonDue, firstFluentDue, fluentDue, actionDue, lawDue}
+use Rattle.description_reader.specs.LineSteps.{ifDue, afterDue, byDue, Draft, startsLaw, allowed, roomFor}
+use Rattle.description_reader.specs.LineSteps.{anyList}
 use Rattle.description_reader.specs.LineSteps as step
 use Rattle.description_reader.specs.LineSteps.{Step, next, finish, lineStep}
 use Rattle.basics.specs.Replies.{Reply, refused}
@@ -26,7 +28,8 @@ use Rattle.description_reader.specs.declared.states.ReaderState.{ReaderS
 use Rattle.text.specs.Lists as lists
 use Rattle.text.specs.Lists.{Listed, codes, listFrom, listOf}
 use Rattle.text.specs.Internal.{lineOf, spelled, itemsAt}
-use Rattle.description_reader.specs.Internal.{dueAt, draftOf, stepOf, stepWith, isListKey, itemsFrom, highFor, takenOf, blankState, Sound}
+use Rattle.description_reader.specs.Internal.{dueAt, draftOf, stepOf, stepWith, isListKey, itemsFrom, highFor}
+use Rattle.description_reader.specs.Internal.{takenOf, blankState, Sound}
 use Rattle.text.proofs.Cutting.{first-inside}
 use Rattle.text.proofs.Spelling.{spelled-length}
 use Rattle.text.proofs.Items.{items-start, items-end, items-none}
@@ -43,10 +46,16 @@ valued-rest : (o : Option Cut) (rest : List ℕ) (l : Line) → valued o rest �
 valued-rest none rest l e = let z : _≡_ {A = ℕ} 0 1 = cc in absurd (omega arith)
 valued-rest (some c) rest l e = keyed-rest (keyNumber (c .front)) (c .back) rest l e
 
-ended-rest : (text : List ℕ) (o : Option ℕ) (l : Line) → first (eqb newline) 0 text ≡ o → ended (cutAt text o) ≡ some l → length (l .rest) < length text
+ended-rest : (text : List ℕ) (o : Option ℕ) (l : Line) → first (eqb newline) 0 text ≡ o → ended (cutAt text o) ≡ some l
+    → length (l .rest) < length text
 ended-rest text none l f e = let z : _≡_ {A = ℕ} 0 1 = cc in absurd (omega arith)
 ended-rest text (some i) l f e =
-    omega (arith, first-inside (eqb newline) text i f, length-drop (suc i) text, ap length (valued-rest (cut equalsSign (take i text)) (drop (suc i) text) l e))
+    omega (
+      arith,
+      first-inside (eqb newline) text i f,
+      length-drop (suc i) text,
+      ap length (valued-rest (cut equalsSign (take i text)) (drop (suc i) text) l e),
+    )
 
 pub shorter : (text : List ℕ) (l : Line) → firstLine text ≡ some l → length (l .rest) < length text
 unfolding firstLine cut
@@ -54,15 +63,19 @@ shorter text l e = ended-rest text (first (eqb newline) 0 text) l refl e
 
 -- enough steps are enough
 module _ (k m lent line : ℕ) where
-  after-step : (s : Step) (rest : List ℕ) → ((due : Due) (d : Draft) → linesFrom k lent (suc line) due d rest ≡ linesFrom m lent (suc line) due d rest)
-      → afterStep s line rest (λ due d r. linesFrom k lent (suc line) due d r) ≡ afterStep s line rest (λ due d r. linesFrom m lent (suc line) due d r)
+  after-step : (s : Step) (rest : List ℕ)
+      → ((due : Due) (d : Draft) → linesFrom k lent (suc line) due d rest ≡ linesFrom m lent (suc line) due d rest)
+      → afterStep s line rest (λ due d r. linesFrom k lent (suc line) due d r)
+      ≡ afterStep s line rest (λ due d r. linesFrom m lent (suc line) due d r)
   after-step (step.refused j) rest h = refl
   after-step (next due d) rest h = h due d
   after-step (finish d) rest h = refl
 
   after-first : (o : Option Line) (due : Due) (d : Draft)
-      → ((l : Line) → o ≡ some l → (due : Due) (d : Draft) → linesFrom k lent (suc line) due d (l .rest) ≡ linesFrom m lent (suc line) due d (l .rest))
-      → afterFirst o lent due d line (λ due d r. linesFrom k lent (suc line) due d r) ≡ afterFirst o lent due d line (λ due d r. linesFrom m lent (suc line) due d r)
+      → ((l : Line) → o ≡ some l → (due : Due) (d : Draft)
+      → linesFrom k lent (suc line) due d (l .rest) ≡ linesFrom m lent (suc line) due d (l .rest))
+      → afterFirst o lent due d line (λ due d r. linesFrom k lent (suc line) due d r)
+      ≡ afterFirst o lent due d line (λ due d r. linesFrom m lent (suc line) due d r)
   after-first none due d h = refl
   after-first (some l) due d h = after-step (lineStep lent due d (l .key) (l .value)) (l .rest) (h l refl)
 
@@ -81,7 +94,14 @@ module _ (k : ℕ) (h : noKey ≤ k) where
 
   starts-none : startsLaw k ≡ false
   starts-none =
-      rw (not-key 3 (omega arith), not-key 4 (omega arith), not-key 10 (omega arith), not-key 11 (omega arith), not-key 12 (omega arith), not-key 14 (omega arith))
+      rw (
+        not-key 3 (omega arith),
+        not-key 4 (omega arith),
+        not-key 10 (omega arith),
+        not-key 11 (omega arith),
+        not-key 12 (omega arith),
+        not-key 14 (omega arith),
+      )
 
   allowed-none : (due : Due) → allowed due k ≡ false
   allowed-none horizonDue = not-key 0 (omega arith)
@@ -113,7 +133,8 @@ module _ (names : List (List ℕ)) (high : ℕ) (due : Due) (key : ℕ) (room : 
   list-read : allowed due key ≡ true → isListKey key room ≡ true → lineList names high due key room list ≡ listOf names 0 high 6 list
   list-read may is = list-sized (ltb 0 (length list)) refl (and-iff (allowed due key) (isListKey key room) .1 (may, is))
 
-  none-sized : (b : Bool) → ltb 0 (length list) ≡ b → (allowed due key && isListKey key room) ≡ false → lineList names high due key room list ≡ codes []
+  none-sized : (b : Bool) → ltb 0 (length list) ≡ b → (allowed due key && isListKey key room) ≡ false
+      → lineList names high due key room list ≡ codes []
   unfolding itemsFrom
   none-sized true e is =
       let past : itemsAt list (length list + 1) ≡ [] = items-end list (length list + 1) (omega arith) in
@@ -181,7 +202,8 @@ module _ (text : List ℕ) (lent : ℕ) (due : Due) (r : HeldDraft) (key : ℕ) 
 module _ (text : List ℕ) (lent : ℕ) (due : Due) (r : HeldDraft) (key : ℕ) (list : List ℕ) where
   abbrev Whole : Type 0
   Whole =
-      stepWith lent due (draftOf text r) key list (lineList (spelled text (r .names)) (highFor key r) due key (roomFor lent (draftOf text r)) list)
+      stepWith lent due (draftOf text r) key list
+      (lineList (spelled text (r .names)) (highFor key r) due key (roomFor lent (draftOf text r)) list)
       ≡ lineStep lent due (draftOf text r) key list
 
   step-by : (b : Bool) → allowed due key ≡ b → Whole
@@ -223,24 +245,36 @@ module _ (lent : ℕ) (due : Due) (d : Draft) (key : ℕ) (list : List ℕ) (nam
 abbrev pub leftAt : List ℕ → ℕ → ReaderState → ℕ → ℕ → Reply Taken
 leftAt text lent s at line = linesFrom (suc (length (drop at text))) lent line (dueAt s) (draftOf text (s .draft)) (drop at text)
 
-pub left-start : (text : List ℕ) (lent : ℕ) (laws : List Law) → length text ≤ 65535 → leftAt text lent (blankState laws) 0 1 ≡ described lent text
+pub left-start : (text : List ℕ) (lent : ℕ) (laws : List Law) → length text ≤ 65535
+    → leftAt text lent (blankState laws) 0 1 ≡ described lent text
 unfolding described spelled
 left-start text lent laws h = rw (le-ltb 65535 (length text) h)
 
 -- what a state's step makes of the lines left
 abbrev pub Onward : List ℕ → ℕ → ℕ → ℕ → Step → ℕ → Reply Taken
-Onward text lent at line s behind = afterStep s line (drop behind text) (λ due d rest. linesFrom (length (drop at text)) lent (suc line) due d rest)
+Onward text lent at line s behind =
+    afterStep s line (drop behind text) (λ due d rest. linesFrom (length (drop at text)) lent (suc line) due d rest)
 
 module _ (text : List ℕ) (lent : ℕ) (s : ReaderState) (at line : ℕ) (l : LineAt) (is : lineOf text l ≡ firstLine (drop at text)) where
   keyed-turn : (b : Bool) → ltb (l .key) noKey ≡ b
-      → leftAt text lent s at line ≡ Onward text lent at line (lineStep lent (dueAt s) (draftOf text (s .draft)) (l .key) (take (l .to - l .from) (drop (l .from) text))) (l .next)
+      → leftAt text lent s at line
+      ≡ Onward text lent at line
+      (lineStep lent (dueAt s) (draftOf text (s .draft)) (l .key) (take (l .to - l .from) (drop (l .from) text)))
+      (l .next)
   unfolding lineOf
   keyed-turn true e = rw (← is, e)
   keyed-turn false e =
-      rw (none-step (l .key) (ltb-false (l .key) noKey e) lent (dueAt s) (draftOf text (s .draft)) (take (l .to - l .from) (drop (l .from) text)), ← is, e)
+      rw (
+        none-step (l .key) (ltb-false (l .key) noKey e) lent (dueAt s) (draftOf text (s .draft))
+            (take (l .to - l .from) (drop (l .from) text)),
+        ← is,
+        e,
+      )
 
   pub line-turn : leftAt text lent s at line
-      ≡ Onward text lent at line (lineStep lent (dueAt s) (draftOf text (s .draft)) (l .key) (take (l .to - l .from) (drop (l .from) text))) (l .next)
+      ≡ Onward text lent at line
+      (lineStep lent (dueAt s) (draftOf text (s .draft)) (l .key) (take (l .to - l .from) (drop (l .from) text)))
+      (l .next)
   line-turn = keyed-turn (ltb (l .key) noKey) refl
 
 -- an ending that is refused, and one where the reader stops
@@ -304,7 +338,8 @@ module _ (text : List ℕ) (s : ReaderState) (on : (ltb 0 (s .refused) || s .end
       → Onward text lent at line (stepOf text s) behind ≡ leftAt text lent s behind (line + 1)
   goes-left lent at line behind more within =
       rw (goes-step, add-one line)
-      (lines-enough (length (drop at text)) (suc (length (drop behind text))) lent (suc line) (dueAt s) (draftOf text (s .draft)) (drop behind text)
+      (lines-enough (length (drop at text)) (suc (length (drop behind text))) lent (suc line) (dueAt s)
+      (draftOf text (s .draft)) (drop behind text)
       (omega (arith, length-drop at text, length-drop behind text)) (omega arith))
 
 -- the list of a line
@@ -321,10 +356,12 @@ module _ (text : List ℕ) (lent : ℕ) (s : ReaderState) (at line : ℕ) (l : L
       line-turn text lent s at line l is
       ∙ ap (λ step. Onward text lent at line step (l .next))
       (sym (step-whole text lent (dueAt s) (s .draft) (l .key) value)
-      ∙ step-refused lent (dueAt s) (draftOf text (s .draft)) (l .key) value (spelled text (s .draft .names)) (highFor (l .key) (s .draft)) k fails)
+      ∙ step-refused lent (dueAt s) (draftOf text (s .draft)) (l .key) value (spelled text (s .draft .names))
+      (highFor (l .key) (s .draft)) k fails)
 
   module _ (r : ReaderState) (cs : List ℕ)
-      (steps : stepOf text r ≡ stepWith lent (dueAt s) (draftOf text (s .draft)) (l .key) (take (l .to - l .from) (drop (l .from) text)) (codes cs))
+      (steps : stepOf text r
+      ≡ stepWith lent (dueAt s) (draftOf text (s .draft)) (l .key) (take (l .to - l .from) (drop (l .from) text)) (codes cs))
       (whole : codes cs ≡ listHere text lent s l) where
     pub stepped : stepOf text r ≡ lineStep lent (dueAt s) (draftOf text (s .draft)) (l .key) (take (l .to - l .from) (drop (l .from) text))
     stepped =
@@ -359,9 +396,12 @@ from-bound due key room size = go (ltb 0 size && (allowed due key && isListKey k
     go false = omega arith
 
 pub blank-sound : (laws : List Law) → length laws ≡ 64 → Sound horizonDue (blankState laws .draft)
-blank-sound laws h = record { time = omega arith; few = omega arith; declared = omega arith; actions = omega arith; room = omega arith; held = h }
+blank-sound laws h =
+    record { time = omega arith; few = omega arith; declared = omega arith; actions = omega arith; room = omega arith; held = h }
 
-pub list-here : (text : List ℕ) (lent : ℕ) (s : ReaderState) (l : LineAt) (high i : ℕ) → Sound (dueAt s) (s .draft) → high ≡ highFor (l .key) (s .draft)
+pub list-here : (text : List ℕ) (lent : ℕ) (s : ReaderState) (l : LineAt) (high i : ℕ) → Sound (dueAt s) (s .draft)
+    → high ≡ highFor (l .key) (s .draft)
     → i ≡ itemsFrom (dueAt s) (l .key) (ltb (s .draft .run .count) (min 64 lent)) (length (take (l .to - l .from) (drop (l .from) text)))
-    → listFrom (spelled text (s .draft .names)) 0 high 6 [] (itemsAt (take (l .to - l .from) (drop (l .from) text)) i) ≡ listHere text lent s l
+    → listFrom (spelled text (s .draft .names)) 0 high 6 [] (itemsAt (take (l .to - l .from) (drop (l .from) text)) i)
+    ≡ listHere text lent s l
 list-here text lent s l high i sound e f = rw (e, f, room-here text lent (s .draft) sound)

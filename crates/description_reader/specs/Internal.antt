@@ -21,9 +21,12 @@ use Rattle.text.specs.Lines.{defaultKey, inertialKey, causesKey, byKey, nonexec
 use Rattle.text.specs.Lists as lists
 use Rattle.text.specs.Lists.{Listed, codes, added}
 use Rattle.text.specs.Internal.{spelled}
-use Rattle.description_reader.specs.LineSteps.{Due, horizonDue, firstFluentDue, fluentDue, actionDue, lawDue, ifDue, afterDue, byDue, Draft, allowed}
+use Rattle.description_reader.specs.LineSteps.{Due, horizonDue, firstFluentDue, fluentDue, actionDue, lawDue}
+use Rattle.description_reader.specs.LineSteps.{ifDue, afterDue, byDue, Draft, allowed}
 use Rattle.description_reader.specs.LineSteps as step
-use Rattle.description_reader.specs.LineSteps.{Step, next, finish, horizonLine, fluentLine, actionLine, lawLine, ifLine, afterLine, literalLine, wholeByList, nonexecutableLine, endLine, lawIn}
+use Rattle.description_reader.specs.LineSteps.{Step, next, finish, horizonLine, fluentLine, actionLine, lawLine}
+use Rattle.description_reader.specs.LineSteps.{ifLine, afterLine, literalLine, wholeByList, nonexecutableLine}
+use Rattle.description_reader.specs.LineSteps.{endLine, lawIn}
 use Rattle.line_values.specs.HorizonText.{horizonOf}
 use Rattle.line_values.specs.ShortLaws.{defaultLaw, inertialLaw, causesLaw}
 use Rattle.action_language.specs.declared.Kind.{Kind}
@@ -190,7 +193,8 @@ highFor key r = cond (eqb key ifKey) (r .fluents) (r .names .count)
 -- what the reader's ending stands for
 unfoldable pub takenOf : List ℕ → Ending → Reply Taken
 takenOf text e =
-    cond (eqb (e .state .refused) 0) (answered (read (draftOf text (e .state .draft)) (drop (e .at) text) (e .line))) (refused (e .state .refused) (e .line))
+    cond (eqb (e .state .refused) 0) (answered (read (draftOf text (e .state .draft)) (drop (e .at) text) (e .line)))
+    (refused (e .state .refused) (e .line))
 
 pub record Ended (old : List Law) (text : List ℕ) (e : Ending) : Type 0 where
   pub sound : Sound (dueAt (e .state)) (e .state .draft)

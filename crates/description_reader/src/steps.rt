@@ -31,9 +31,13 @@ ghost use Rattle.line_values.specs.HorizonText.{horizonOf};
 ghost use Rattle.line_values.specs.ShortLaws.{defaultLaw, inertialLaw, causesLaw};
 ghost use Rattle.line_values.specs.Internal.{placesOf};
 ghost use Rattle.description_reader.specs.LineSteps as step;
-ghost use Rattle.description_reader.specs.LineSteps.{actionDue, fluentDue, lawDue, ifDue, byDue, next, horizonLine, nameLine, lawLine};
-ghost use Rattle.description_reader.specs.LineSteps.{Draft, begun, readHead, whole, ifLine, afterLine, wholeByList, literalLine, nonexecutableLine, endLine};
-ghost use Rattle.description_reader.specs.Internal.{dueOf, dueAt, draftOf, stepOf, stepWith, otherLine, shortLine, hasPlace, Sound, Goes, Padded, Pushed, StandsAt, begunWith, HeadFits};
+ghost use Rattle.description_reader.specs.LineSteps.{actionDue, fluentDue, lawDue, ifDue, byDue, next};
+ghost use Rattle.description_reader.specs.LineSteps.{horizonLine, nameLine, lawLine};
+ghost use Rattle.description_reader.specs.LineSteps.{Draft, begun, readHead, whole, ifLine, afterLine};
+ghost use Rattle.description_reader.specs.LineSteps.{wholeByList, literalLine, nonexecutableLine, endLine};
+ghost use Rattle.description_reader.specs.Internal.{dueOf, dueAt, draftOf, stepOf, stepWith, otherLine};
+ghost use Rattle.description_reader.specs.Internal.{shortLine, hasPlace, Sound, Goes, Padded, Pushed, StandsAt};
+ghost use Rattle.description_reader.specs.Internal.{begunWith, HeadFits};
 
 // A line that is refused.
 pub(crate) fn refused(state: ReaderState, number: u8) -> ReaderState
@@ -151,7 +155,11 @@ fn law_head(
     lent: usize,
 ) -> HeadAt
     requires { ⌜ fluents ≤ 24 ⌝ }
-    ensures { λ r. ⌜ ((due : Law → step.Due) (d : Draft) (kind : Kind) → begunWith due d kind r ≡ cond (ltb count (min 64 lent)) (begun due d kind (readHead (spelled (now (text .entry)) names) fluents (now (value .entry)))) (step.refused 5)) ⌝ }
+    ensures { λ r. ⌜ ((due : Law → step.Due) (d : Draft) (kind : Kind)
+        → begunWith due d kind r
+        ≡ cond (ltb count (min 64 lent))
+        (begun due d kind (readHead (spelled (now (text .entry)) names) fluents (now (value .entry))))
+        (step.refused 5)) ⌝ }
     ensures { λ r. ⌜ HeadFits count r ⌝ }
 {
     if !states::has_room(count, lent) {
@@ -176,7 +184,9 @@ fn law_line(
     lent: usize,
 ) -> ReaderState
     requires { ⌜ Sound (dueAt state) (state .draft) ⌝ }
-    ensures { λ r. ⌜ stepOf (now (text .entry)) r ≡ lawLine lent (cond short byDue ifDue) (draftOf (now (text .entry)) (state .draft)) kind (now (value .entry)) ⌝ }
+    ensures { λ r. ⌜ stepOf (now (text .entry)) r
+        ≡ lawLine lent (cond short byDue ifDue) (draftOf (now (text .entry)) (state .draft)) kind
+        (now (value .entry)) ⌝ }
     ensures { λ r. ⌜ Goes state r ⌝ }
 {
     let draft = state.draft;
@@ -243,7 +253,9 @@ fn whole_law(state: ReaderState, law: Law) -> ReaderState
 // The if-list: a static law is whole behind it, a dynamic one wants its after-list.
 fn if_line(state: ReaderState, list: Codes) -> ReaderState
     requires { ⌜ (state .draft .run .count < 64) × Sound (dueAt state) (state .draft) × Padded list ⌝ }
-    ensures { λ r. ⌜ ((text : List ℕ) → stepOf text r ≡ ifLine (draftOf text (state .draft)) (state .law) (codes (take (list .count) (list .codes)))) ⌝ }
+    ensures { λ r. ⌜ ((text : List ℕ)
+        → stepOf text r
+        ≡ ifLine (draftOf text (state .draft)) (state .law) (codes (take (list .count) (list .codes)))) ⌝ }
     ensures { λ r. ⌜ Goes state r ⌝ }
 {
     let draft = state.draft;
@@ -268,7 +280,9 @@ fn if_line(state: ReaderState, list: Codes) -> ReaderState
 
 fn after_line(state: ReaderState, list: Codes) -> ReaderState
     requires { ⌜ (state .draft .run .count < 64) × Sound (dueAt state) (state .draft) × Padded list ⌝ }
-    ensures { λ r. ⌜ ((text : List ℕ) → stepOf text r ≡ afterLine (draftOf text (state .draft)) (state .law) (codes (take (list .count) (list .codes)))) ⌝ }
+    ensures { λ r. ⌜ ((text : List ℕ)
+        → stepOf text r
+        ≡ afterLine (draftOf text (state .draft)) (state .law) (codes (take (list .count) (list .codes)))) ⌝ }
     ensures { λ r. ⌜ Goes state r ⌝ }
 {
     let mut law = state.law;
@@ -293,7 +307,10 @@ fn places(list: Codes) -> Places
 // The list of what causes a head.
 fn by_line(state: ReaderState, list: Codes) -> ReaderState
     requires { ⌜ (state .draft .run .count < 64) × Sound (dueAt state) (state .draft) × Padded list ⌝ }
-    ensures { λ r. ⌜ ((text : List ℕ) → stepOf text r ≡ wholeByList (draftOf text (state .draft)) (causesLaw (state .law .head)) (codes (take (list .count) (list .codes)))) ⌝ }
+    ensures { λ r. ⌜ ((text : List ℕ)
+        → stepOf text r
+        ≡ wholeByList (draftOf text (state .draft)) (causesLaw (state .law .head))
+        (codes (take (list .count) (list .codes)))) ⌝ }
     ensures { λ r. ⌜ Goes state r ⌝ }
 {
     let law = state.law;
@@ -304,7 +321,9 @@ fn by_line(state: ReaderState, list: Codes) -> ReaderState
 // A law that is a list: 5 where there is no room for it.
 fn nonexecutable_line(state: ReaderState, list: Codes, lent: usize) -> ReaderState
     requires { ⌜ Sound (dueAt state) (state .draft) × Padded list ⌝ }
-    ensures { λ r. ⌜ ((text : List ℕ) → stepOf text r ≡ nonexecutableLine lent (draftOf text (state .draft)) (codes (take (list .count) (list .codes)))) ⌝ }
+    ensures { λ r. ⌜ ((text : List ℕ)
+        → stepOf text r
+        ≡ nonexecutableLine lent (draftOf text (state .draft)) (codes (take (list .count) (list .codes)))) ⌝ }
     ensures { λ r. ⌜ Goes state r ⌝ }
 {
     let draft = state.draft;
@@ -334,7 +353,9 @@ fn literal_line(
     lent: usize,
 ) -> ReaderState
     requires { ⌜ Sound (dueAt state) (state .draft) ⌝ }
-    ensures { λ r. ⌜ stepOf (now (text .entry)) r ≡ literalLine lent (draftOf (now (text .entry)) (state .draft)) (cond inertial inertialLaw defaultLaw) (now (value .entry)) ⌝ }
+    ensures { λ r. ⌜ stepOf (now (text .entry)) r
+        ≡ literalLine lent (draftOf (now (text .entry)) (state .draft)) (cond inertial inertialLaw defaultLaw)
+        (now (value .entry)) ⌝ }
     ensures { λ r. ⌜ Goes state r ⌝ }
 {
     let draft = state.draft;
@@ -425,7 +446,9 @@ pub(crate) fn line_step(
     lent: usize,
 ) -> ReaderState
     requires { ⌜ StandsAt (now text) from (now value) × Sound (dueAt state) (state .draft) × Padded list ⌝ }
-    ensures { λ r. ⌜ stepOf (now (text .entry)) r ≡ stepWith lent (dueAt state) (draftOf (now (text .entry)) (state .draft)) key (now (value .entry)) (codes (take (list .count) (list .codes))) ⌝ }
+    ensures { λ r. ⌜ stepOf (now (text .entry)) r
+        ≡ stepWith lent (dueAt state) (draftOf (now (text .entry)) (state .draft)) key (now (value .entry))
+        (codes (take (list .count) (list .codes))) ⌝ }
     ensures { λ r. ⌜ Goes state r ⌝ }
 {
     let due = state.due;

@@ -31,7 +31,8 @@ module _ (vs : List ℕ) (v : ℕ) where
 
 -- the former order goes on with rest where no atom is missing, the present one with next where no atom has either fault
 module _ {A : Type 0} (missing both : ℕ → A) (apart : (a b : ℕ) → missing a ≡ both b → ⊥) (vs : List ℕ) (rest next : A)
-    (rest-both : (b : ℕ) → Lowest (BothValues vs) (length vs) b → rest ≡ both b) (rest-next : Nowhere (BothValues vs) (length vs) → rest ≡ next) where
+    (rest-both : (b : ℕ) → Lowest (BothValues vs) (length vs) b → rest ≡ both b)
+    (rest-next : Nowhere (BothValues vs) (length vs) → rest ≡ next) where
   abbrev former : A
   former = orElse (first (eqb 0) 0 vs) missing rest
 
@@ -58,11 +59,14 @@ module _ {A : Type 0} (missing both : ℕ → A) (apart : (a b : ℕ) → missin
           let zero = lowest-value vs 0 a .0 q in
           inl (a, zero, (k, below low zero three, three))
         where
-          below : Lowest (λ i. (getD vs i 0 ≡ 0) ⊎ (getD vs i 0 ≡ 3)) (length vs) k → Lowest (NoValue vs) (length vs) a → getD vs k 0 ≡ 3 → k < a
+          below : Lowest (λ i. (getD vs i 0 ≡ 0) ⊎ (getD vs i 0 ≡ 3)) (length vs) k → Lowest (NoValue vs) (length vs) a
+              → getD vs k 0 ≡ 3 → k < a
           below low zero three = ⊎-elim (λ t. ltb-true k a t) (λ f. absurd (other f)) (true-or-false (ltb k a))
             where
               other : ltb k a ≡ false → ⊥
-              other f = ⊎-elim (λ t. low .2 a (ltb-true a k t) (inl (zero .1))) (λ g. same (omega (arith, ltb-false k a f, ltb-false a k g))) (true-or-false (ltb a k))
+              other f =
+                  ⊎-elim (λ t. low .2 a (ltb-true a k t) (inl (zero .1)))
+                  (λ g. same (omega (arith, ltb-false k a f, ltb-false a k g))) (true-or-false (ltb a k))
                 where
                   same : k ≡ a → ⊥
                   same e = let v : _≡_ {A = ℕ} 3 0 = sym three ∙ ap (λ (i : ℕ). getD vs i 0) e ∙ zero .1 in omega arith
@@ -89,13 +93,19 @@ module _ {A : Type 0} (missing both : ℕ → A) (apart : (a b : ℕ) → missin
     became b both-first below = (former-missing a none-first, present-both b (lowest-none-or-both vs b .1 lowest) (both-first .1))
       where
         lowest : Lowest (λ i. (getD vs i 0 ≡ 0) ⊎ (getD vs i 0 ≡ 3)) (length vs) b
-        lowest = (both-first .0, inr (both-first .1), λ j low h. ⊎-elim (λ zero. none-first .2 j (omega arith) zero) (λ three. both-first .2 j low three) h)
+        lowest = (
+          both-first .0,
+          inr (both-first .1),
+          λ j low h. ⊎-elim (λ zero. none-first .2 j (omega arith) zero) (λ three. both-first .2 j low three) h,
+        )
 
     differs : (b : ℕ) → b < a → BothValues vs b → former ≡ present → ⊥
     differs b below three e = go (first noneOrBoth 0 vs) refl
       where
         at-most : (k : ℕ) → Lowest (λ i. (getD vs i 0 ≡ 0) ⊎ (getD vs i 0 ≡ 3)) (length vs) k → k < a
-        at-most k low = ⊎-elim (λ t. absurd (low .2 b (ltb-true b k t) (inr three))) (λ f. omega (arith, ltb-false b k f, below)) (true-or-false (ltb b k))
+        at-most k low =
+            ⊎-elim (λ t. absurd (low .2 b (ltb-true b k t) (inr three))) (λ f. omega (arith, ltb-false b k f, below))
+            (true-or-false (ltb b k))
 
         go : (o : Option ℕ) → first noneOrBoth 0 vs ≡ o → ⊥
         go none q = nowhere-none-or-both vs .0 q b (omega (arith, none-first .0, below)) (inr three)
@@ -124,7 +134,8 @@ module _ {A : Type 0} (missing both : ℕ → A) (apart : (a b : ℕ) → missin
 
 -- behind a test that refuses both or neither
 module _ {A : Type 0} (missing both : ℕ → A) (vs : List ℕ) where
-  pub refused-changed : {f p : Reply A} {number place : ℕ} → f ≡ refused number place → p ≡ refused number place → Changed missing both vs f p
+  pub refused-changed : {f p : Reply A} {number place : ℕ} → f ≡ refused number place → p ≡ refused number place
+      → Changed missing both vs f p
   refused-changed {f} {p} is are = record {
     refused-same = λ k q. (λ e. cc, λ e. cc);
     differ-exactly = (λ differ. absurd (differ (is ∙ sym are)), λ h. absurd (no-answer (h .0)));

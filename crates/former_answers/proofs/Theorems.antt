@@ -43,7 +43,8 @@ module _ (d : Description) (ls : List Law) (lent : ℕ) (vs : List ℕ) (room : 
   finding-changed : {a r w : ℕ} → translated.outcome d ls lent room ≡ answered (written a r w) → length vs ≡ a → badValue vs ≡ none
       → HistoryBecame (formerFinding vs ws) (history.finding vs ws)
   finding-changed e size small =
-      answers-changed history.missing (λ b. history.judged (clash b)) apart vs (history.judged v) (history.judged v) clashes (λ nowhere. refl)
+      answers-changed history.missing (λ b. history.judged (clash b)) apart vs (history.judged v) (history.judged v)
+      clashes (λ nowhere. refl)
       former-found (finding-answered d ls lent room e vs size small)
     where
       v : Verdict
@@ -57,14 +58,17 @@ module _ (d : Description) (ls : List Law) (lent : ℕ) (vs : List ℕ) (room : 
 
       clashes : (b : ℕ) → Lowest (BothValues vs) (length vs) b → history.judged v ≡ history.judged (clash b)
       clashes b low =
-          let same : answered v ≡ answered (clash b) = sym said ∙ engine-clash vs ws (engine-accepts d ls lent room e vs size small) b .1 low in
+          let same : answered v ≡ answered (clash b) =
+          sym said ∙ engine-clash vs ws (engine-accepts d ls lent room e vs size small) b .1 low in
           let found : v ≡ clash b = cc in
           ap history.judged found
 
       former-found : formerFinding vs ws ≡ answered (orElse (first (eqb 0) 0 vs) history.missing (history.judged v))
       former-found = rw said (go (first (eqb 0) 0 vs))
         where
-          go : (o : Option ℕ) → orElse o (λ atom. answered (history.missing atom)) (answered (history.judged v)) ≡ answered (orElse o history.missing (history.judged v))
+          go : (o : Option ℕ)
+              → orElse o (λ atom. answered (history.missing atom)) (answered (history.judged v))
+              ≡ answered (orElse o history.missing (history.judged v))
           go (some k) = refl
           go none = refl
 

@@ -41,7 +41,8 @@ module _ (vs ws : List ℕ) where
   says-engine e = by-search e
 
 -- of values that are not refused an answer is found: the engine refuses no translated table
-pub finding-answered : (d : Description) (ls : List Law) (lent room : ℕ) {a r w : ℕ} → translated.outcome d ls lent room ≡ answered (translated.written a r w)
+pub finding-answered : (d : Description) (ls : List Law) (lent room : ℕ) {a r w : ℕ}
+    → translated.outcome d ls lent room ≡ answered (translated.written a r w)
     → (vs : List ℕ) → length vs ≡ a → badValue vs ≡ none → finding vs (translated.tableFor d ls)
     ≡ answered (orElse (first noneOrBoth 0 vs) (faultAt vs) (judged (verdict (length vs) (rulesOf (translated.tableFor d ls)) (setOf vs))))
 finding-answered d ls lent room e vs size small = rw (engine-judges d ls lent room e vs size small) (either (first noneOrBoth 0 vs) _)
@@ -57,7 +58,8 @@ module _ (d : Description) (ls : List Law) (lent : ℕ) (vs table : List ℕ) wh
   says-refused e = rw e (refl, refl)
 
   module _ {a r w : ℕ} (e : translated.outcome d ls lent (length table) ≡ answered (translated.written a r w)) where
-    pub says-10 : (length vs ≡ a → ⊥) → (refused 10 (length vs) ≡ checked d ls lent vs (length table)) × (table ≡ tableAfter d ls lent vs table)
+    pub says-10 : (length vs ≡ a → ⊥)
+        → (refused 10 (length vs) ≡ checked d ls lent vs (length table)) × (table ≡ tableAfter d ls lent vs table)
     unfolding checked tableAfter
     says-10 n = rw (e, ne-eqb (length vs) a n) (refl, refl)
 

@@ -41,7 +41,8 @@ module _ (P : List ℕ → Type 0) where
 
   -- a line of literals, with what follows it where the line is due and its list is taken
   pub list-keeps : (d : Draft) (key low high : ℕ) (o : Option Line) (line base : ℕ) (vs : List ℕ) (go : List ℕ → List ℕ → Reply (List ℕ))
-      → ((l : Line) → o ≡ some l → l .key ≡ key → (cs : List ℕ) → listOf (d .names) low high most (l .value) ≡ codes cs → OfAnswer P (go (withLiterals base vs cs) (l .rest)))
+      → ((l : Line) → o ≡ some l → l .key ≡ key → (cs : List ℕ) → listOf (d .names) low high most (l .value) ≡ codes cs
+      → OfAnswer P (go (withLiterals base vs cs) (l .rest)))
       → OfAnswer P (listLine d key low high o line base vs go)
   list-keeps d key low high none line base vs go h = tt
   list-keeps d key low high (some l) line base vs go h = by (eqb (l .key) key) refl (listOf (d .names) low high most (l .value)) refl
@@ -60,7 +61,8 @@ module _ (d : Draft) (T : ℕ) (P : ℕ → List ℕ → Type 0)
   states-keep zero t line vs text e p =
       let last : t ≡ T = omega arith in
       list-keeps (P T) d _ _ _ (firstLine text) line _ vs _
-      (λ l _ _ cs _. end-keeps (P T) (firstLine (l .rest)) (suc line) _ (subst (λ s. P s (withLiterals (t * length (d .names)) vs cs)) last (keeps-marked t _ vs cs p)))
+      (λ l _ _ cs _. end-keeps (P T) (firstLine (l .rest)) (suc line) _
+      (subst (λ s. P s (withLiterals (t * length (d .names)) vs cs)) last (keeps-marked t _ vs cs p)))
   states-keep (suc k) t line vs text e p =
       list-keeps (P T) d _ _ _ (firstLine text) line _ vs _
       (λ l _ _ cs _. list-keeps (P T) d _ _ _ (firstLine (l .rest)) (suc line) _ _ _
@@ -112,8 +114,10 @@ abbrev pub OfTaken : (Draft → Type 0) → Reply Taken → Type 0
 OfTaken P (refused number place) = Unit
 OfTaken P (answered (read d rest lines)) = P d
 
-pub actions-filled : (description text : List ℕ) (d : Draft) (rest : List ℕ) (lines : ℕ) → described 64 description ≡ answered (read d rest lines)
-    → d .fluents ≤ length (d .names) → (room : ℕ) → room ≡ atoms d → (vs : List ℕ) → statesFrom (d .horizon) d 0 1 (replicate room 0) text ≡ answered vs
+pub actions-filled : (description text : List ℕ) (d : Draft) (rest : List ℕ) (lines : ℕ)
+    → described 64 description ≡ answered (read d rest lines)
+    → d .fluents ≤ length (d .names) → (room : ℕ) → room ≡ atoms d → (vs : List ℕ)
+    → statesFrom (d .horizon) d 0 1 (replicate room 0) text ≡ answered vs
     → ActionsFilled description Complete vs
 actions-filled description text d rest lines is declared room e vs f d′ rest′ lines′ is′ =
     let m = length (d .names) - d .fluents in

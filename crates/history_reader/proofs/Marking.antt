@@ -23,10 +23,13 @@ use Rattle.history_reader.specs.Histories.{historyEnd, listed, listLine,
 use Rattle.history_reader.specs.Internal.{recordFrom, isState, keyAt, placeFrom}
 
 -- one literal after others
-pub marked-more : (base : ℕ) (vs : List ℕ) (done : List ℕ) (c : ℕ) → withLiterals base vs (done ++ (c ∷ [])) ≡ withLiterals base (withLiterals base vs done) (c ∷ [])
+pub marked-more : (base : ℕ) (vs : List ℕ) (done : List ℕ) (c : ℕ)
+    → withLiterals base vs (done ++ (c ∷ [])) ≡ withLiterals base (withLiterals base vs done) (c ∷ [])
 marked-more base vs [] c = refl
 marked-more base vs (x ∷ done) c =
-    marked-more base (set vs (base + x / 2) (cond (eqb (x % 2) 0) (withTrue (getD vs (base + x / 2) 0)) (withFalse (getD vs (base + x / 2) 0)))) done c
+    marked-more base
+    (set vs (base + x / 2) (cond (eqb (x % 2) 0) (withTrue (getD vs (base + x / 2) 0)) (withFalse (getD vs (base + x / 2) 0))))
+    done c
 
 -- a line of literals with what follows it
 list-line : (d : Draft) (key low high : ℕ) (o : Option Line) (line base : ℕ) (vs : List ℕ) (f g : List ℕ → List ℕ → Reply (List ℕ))
@@ -35,7 +38,8 @@ list-line d key low high none line base vs f g h = refl
 list-line d key low high (some l) line base vs f g h = go (eqb (l .key) key) (listOf (d .names) low high most (l .value))
   where
     go : (b : Bool) (list : Listed)
-        → cond b (listed list line base vs (λ ws. f ws (l .rest))) (refused 2 line) ≡ cond b (listed list line base vs (λ ws. g ws (l .rest))) (refused 2 line)
+        → cond b (listed list line base vs (λ ws. f ws (l .rest))) (refused 2 line)
+        ≡ cond b (listed list line base vs (λ ws. g ws (l .rest))) (refused 2 line)
     go true (lists.refused k) = refl
     go true (codes cs) = h (withLiterals base vs cs) (l .rest)
     go false list = refl
@@ -85,7 +89,8 @@ module _ (line : ℕ) (vs : List ℕ) where
   end-valued [] rest h = absurd (omega arith)
   end-valued (b ∷ bs) rest h = refl
 
-  pub end-more : (value rest : List ℕ) → length value ≤ 0 → 0 < length rest → refused 7 (suc line) ≡ historyEnd (keyed (keyIn 9) value rest) line vs
+  pub end-more : (value rest : List ℕ) → length value ≤ 0 → 0 < length rest
+      → refused 7 (suc line) ≡ historyEnd (keyed (keyIn 9) value rest) line vs
   end-more [] [] h g = absurd (omega arith)
   end-more [] (b ∷ bs) h g = refl
   end-more (b ∷ bs) rest h g = absurd (omega arith)
@@ -96,7 +101,8 @@ module _ (line : ℕ) (vs : List ℕ) where
   end-whole (b ∷ bs) rest h g = absurd (omega arith)
 
 -- one turn of the loop over a line's items, where R is what the whole list comes to
-module _ (names : List (List ℕ)) (low high : ℕ) (list : List ℕ) (i : ℕ) (inside : i ≤ length list) (done : List ℕ) (few : length done < 65536) {R : Listed}
+module _ (names : List (List ℕ)) (low high : ℕ) (list : List ℕ) (i : ℕ) (inside : i ≤ length list) (done : List ℕ)
+    (few : length done < 65536) {R : Listed}
     (left : listFrom names low high most done (itemsAt list i) ≡ R) where
   unrolled : listFrom names low high most done (itemAt list i ∷ itemsAt list (nextAt list i)) ≡ R
   unrolled = ap (listFrom names low high most done) (sym (items-next list i inside)) ∙ left
@@ -135,7 +141,8 @@ module _ (d : Draft) (key low high line base : ℕ) (vs : List ℕ) (go : List �
       by false = refl
 
   pub line-due : (k : ℕ) → k ≡ key → key < noKey
-      → listed (listOf (d .names) low high most value) line base vs (λ ws. go ws rest) ≡ listLine d key low high (keyed (keyIn k) value rest) line base vs go
+      → listed (listOf (d .names) low high most value) line base vs (λ ws. go ws rest)
+      ≡ listLine d key low high (keyed (keyIn k) value rest) line base vs go
   line-due k e few = rw (e, lt-ltb key noKey few, eq-eqb key key refl)
 
 pub key-below : (line : ℕ) → keyAt line < noKey

@@ -30,11 +30,13 @@ use Rattle.history_values.proofs.Filling.{take-marked, take-filled}
 use Rattle.history_reader.specs.Histories.{historyEnd, listed, listLine, most, statesFrom, byNames}
 use Rattle.text.specs.Internal.{lineOf, spelled, itemAt, nextAt, itemsAt}
 use Rattle.description_reader.specs.Internal.{draftOf}
-use Rattle.history_reader.specs.Internal.{recordFrom, keyAt, lowAt, highAt, baseAt, filledAt, wantedAt, placeFrom, leftOf, endingOf, valuesRead, atomsOf}
+use Rattle.history_reader.specs.Internal.{recordFrom, keyAt, lowAt, highAt, baseAt, filledAt, wantedAt, placeFrom}
+use Rattle.history_reader.specs.Internal.{leftOf, endingOf, valuesRead, atomsOf}
 use Rattle.description_reader.specs.Internal.{Limits}
 use Rattle.text.proofs.Spelling.{spelled-length}
 use Rattle.text.proofs.Items.{next-later}
-use Rattle.history_reader.proofs.Marking.{marked-more, item-marked, item-refused, list-done, list-all, line-other, line-due, key-below, states-lines}
+use Rattle.history_reader.proofs.Marking.{marked-more, item-marked, item-refused, list-done, list-all}
+use Rattle.history_reader.proofs.Marking.{line-other, line-due, key-below, states-lines}
 
 -- the items passed, the values that they marked, and the items left
 pub record Marked (names : List (List ℕ)) (w : Wanted) (list : List ℕ) (start i : ℕ) (old new : List ℕ) : Type 0 where
@@ -47,7 +49,8 @@ pub marked-none : (names : List (List ℕ)) (w : Wanted) (list : List ℕ) (i : 
 marked-none names w list i old = record { done = []; few = omega arith; values = refl; left = refl }
 
 pub marked-one : (names : List (List ℕ)) (w : Wanted) (list : List ℕ) (start i : ℕ) (old new : List ℕ) → Marked names w list start i old new
-    → i ≤ length list → length list ≤ 65535 → (c next : ℕ) → literal names (w .low) (w .high) (itemAt list i) ≡ some c → next ≡ nextAt list i
+    → i ≤ length list → length list ≤ 65535 → (c next : ℕ) → literal names (w .low) (w .high) (itemAt list i) ≡ some c
+    → next ≡ nextAt list i
     → (more : List ℕ) → more ≡ withLiterals (w .base) new (c ∷ []) → Marked names w list start next old more
 marked-one names w list start i old new m inside short c next e f more one =
     record {
@@ -58,14 +61,16 @@ marked-one names w list start i old new m inside short c next e f more one =
     }
 
 -- one line of literals
-module _ (names-text text : List ℕ) (r : HeldDraft) (m line at : ℕ) (vs : List ℕ) (l : LineAt) (is : lineOf text l ≡ firstLine (drop at text)) where
+module _ (names-text text : List ℕ) (r : HeldDraft) (m line at : ℕ) (vs : List ℕ) (l : LineAt)
+    (is : lineOf text l ≡ firstLine (drop at text)) where
   abbrev Here : Reply (List ℕ)
   Here = recordFrom (suc m) (draftOf names-text r) line vs (drop at text)
 
   -- the line, with the count of names
   counted : (o : Option Line) → lineOf text l ≡ o
       → recordFrom (suc m) (draftOf names-text r) line vs (drop at text)
-      ≡ listLine (draftOf names-text r) (keyAt line) (lowAt (r .fluents) line) (highAt (r .fluents) (r .names .count) line) (lineOf text l) line (baseAt (r .names .count) line) vs
+      ≡ listLine (draftOf names-text r) (keyAt line) (lowAt (r .fluents) line)
+      (highAt (r .fluents) (r .names .count) line) (lineOf text l) line (baseAt (r .names .count) line) vs
       (λ ws rest. recordFrom m (draftOf names-text r) (suc line) (filledAt (r .fluents) (r .names .count) line ws) rest)
   counted o e = rw (spelled-length names-text (r .names), is)
 
@@ -73,30 +78,41 @@ module _ (names-text text : List ℕ) (r : HeldDraft) (m line at : ℕ) (vs : Li
   unfolding lineOf
   turn-other h =
       counted (lineOf text l) refl
-      ∙ sym (line-other (draftOf names-text r) (keyAt line) _ _ line _ vs _ (take (l .to - l .from) (drop (l .from) text)) (drop (l .next) text) (l .key) h)
+      ∙ sym (line-other (draftOf names-text r) (keyAt line) _ _ line _ vs _
+      (take (l .to - l .from) (drop (l .from) text)) (drop (l .next) text) (l .key) h)
 
   module _ (same : l .key ≡ keyAt line) where
-    due : Here ≡ listed (listOf (spelled names-text (r .names)) (lowAt (r .fluents) line) (highAt (r .fluents) (r .names .count) line) most (take (l .to - l .from) (drop (l .from) text)))
-        line (baseAt (r .names .count) line) vs (λ ws. recordFrom m (draftOf names-text r) (suc line) (filledAt (r .fluents) (r .names .count) line ws) (drop (l .next) text))
+    due : Here ≡ listed (listOf (spelled names-text (r .names)) (lowAt (r .fluents) line)
+        (highAt (r .fluents) (r .names .count) line) most (take (l .to - l .from) (drop (l .from) text)))
+        line (baseAt (r .names .count) line) vs
+        (λ ws. recordFrom m (draftOf names-text r) (suc line) (filledAt (r .fluents) (r .names .count) line ws) (drop (l .next) text))
     unfolding lineOf
     due =
         counted (lineOf text l) refl
-        ∙ sym (line-due (draftOf names-text r) (keyAt line) (lowAt (r .fluents) line) (highAt (r .fluents) (r .names .count) line) line (baseAt (r .names .count) line) vs
+        ∙ sym (line-due (draftOf names-text r) (keyAt line) (lowAt (r .fluents) line)
+        (highAt (r .fluents) (r .names .count) line) line (baseAt (r .names .count) line) vs
         (λ ws rest. recordFrom m (draftOf names-text r) (suc line) (filledAt (r .fluents) (r .names .count) line ws) rest)
         (take (l .to - l .from) (drop (l .from) text)) (drop (l .next) text) (l .key) same (key-below line))
 
-    pub turn-refused : listOf (spelled names-text (r .names)) (lowAt (r .fluents) line) (highAt (r .fluents) (r .names .count) line) most (take (l .to - l .from) (drop (l .from) text)) ≡ lists.refused 6
+    pub turn-refused : listOf (spelled names-text (r .names)) (lowAt (r .fluents) line)
+        (highAt (r .fluents) (r .names .count) line) most (take (l .to - l .from) (drop (l .from) text))
+        ≡ lists.refused 6
         → Here ≡ refused 6 line
     turn-refused e = due ∙ rw e
 
     pub turn-read : (done : List ℕ)
-        → listOf (spelled names-text (r .names)) (lowAt (r .fluents) line) (highAt (r .fluents) (r .names .count) line) most (take (l .to - l .from) (drop (l .from) text)) ≡ codes done
+        → listOf (spelled names-text (r .names)) (lowAt (r .fluents) line) (highAt (r .fluents) (r .names .count) line)
+        most (take (l .to - l .from) (drop (l .from) text))
+        ≡ codes done
         → Here
-        ≡ recordFrom m (draftOf names-text r) (suc line) (filledAt (r .fluents) (r .names .count) line (withLiterals (baseAt (r .names .count) line) vs done)) (drop (l .next) text)
+        ≡ recordFrom m (draftOf names-text r) (suc line)
+        (filledAt (r .fluents) (r .names .count) line (withLiterals (baseAt (r .names .count) line) vs done))
+        (drop (l .next) text)
     turn-read done e = due ∙ rw e
 
 -- the same, as the loops find it: w is what the line must be
-module _ (names-text text : List ℕ) (r : HeldDraft) (m line at : ℕ) (old : List ℕ) (l : LineAt) (is : lineOf text l ≡ firstLine (drop at text))
+module _ (names-text text : List ℕ) (r : HeldDraft) (m line at : ℕ) (old : List ℕ) (l : LineAt)
+    (is : lineOf text l ≡ firstLine (drop at text))
     (w : Wanted) (is-due : w ≡ wantedAt (r .fluents) (r .names .count) line) where
   abbrev Left : ℕ → Reply (List ℕ)
   Left n = recordFrom (suc m) (draftOf names-text r) line (take n old) (drop at text)
@@ -107,20 +123,27 @@ module _ (names-text text : List ℕ) (r : HeldDraft) (m line at : ℕ) (old : L
   module _ (same : l .key ≡ w .key) (start i : ℕ) (new : List ℕ)
       (starts : start ≡ placeFrom (length (take (l .to - l .from) (drop (l .from) text))))
       (passed : Marked (spelled names-text (r .names)) w (take (l .to - l .from) (drop (l .from) text)) start i old new) where
-    whole : {R : Listed} → R ≡ listFrom (spelled names-text (r .names)) (w .low) (w .high) most [] (itemsAt (take (l .to - l .from) (drop (l .from) text)) start)
-        → listOf (spelled names-text (r .names)) (lowAt (r .fluents) line) (highAt (r .fluents) (r .names .count) line) most (take (l .to - l .from) (drop (l .from) text)) ≡ R
+    whole : {R : Listed}
+        → R
+        ≡ listFrom (spelled names-text (r .names)) (w .low) (w .high) most [] (itemsAt (take (l .to - l .from) (drop (l .from) text)) start)
+        → listOf (spelled names-text (r .names)) (lowAt (r .fluents) line) (highAt (r .fluents) (r .names .count) line)
+        most (take (l .to - l .from) (drop (l .from) text))
+        ≡ R
     whole e =
         let value = take (l .to - l .from) (drop (l .from) text) in
         let names = spelled names-text (r .names) in
-        ap (λ v. listOf names (v .low) (v .high) most value) (sym is-due) ∙ sym (list-all names (w .low) (w .high) value start starts) ∙ sym e
+        ap (λ v. listOf names (v .low) (v .high) most value) (sym is-due)
+        ∙ sym (list-all names (w .low) (w .high) value start starts) ∙ sym e
 
     -- the values behind the line, of which the first n are asked for
     filled-first : (full : List ℕ) → full ≡ filled (w .base + r .fluents) (w .high - r .fluents) new → (n : ℕ)
-        → take n full ≡ filledAt (r .fluents) (r .names .count) line (withLiterals (baseAt (r .names .count) line) (take n old) (passed .done))
+        → take n full
+        ≡ filledAt (r .fluents) (r .names .count) line (withLiterals (baseAt (r .names .count) line) (take n old) (passed .done))
     filled-first full e n =
         ap (take n) e
         ∙ take-filled n (w .base + r .fluents) (w .high - r .fluents) new
-        ∙ ap (filled (w .base + r .fluents) (w .high - r .fluents)) (ap (take n) (passed .values) ∙ take-marked n (w .base) old (passed .done))
+        ∙ ap (filled (w .base + r .fluents) (w .high - r .fluents))
+        (ap (take n) (passed .values) ∙ take-marked n (w .base) old (passed .done))
         ∙ ap (λ v. filled (v .base + r .fluents) (v .high - r .fluents) (withLiterals (v .base) (take n old) (passed .done))) is-due
 
     pub line-read : length (take (l .to - l .from) (drop (l .from) text)) < i
@@ -133,7 +156,8 @@ module _ (names-text text : List ℕ) (r : HeldDraft) (m line at : ℕ) (old : L
         (whole (list-done names (w .low) (w .high) value i (passed .done) past (passed .left)))
         ∙ ap (λ vs. recordFrom m (draftOf names-text r) (suc line) vs (drop (l .next) text)) (sym (filled-first full e n))
 
-    pub line-refused : i ≤ length (take (l .to - l .from) (drop (l .from) text)) → length (take (l .to - l .from) (drop (l .from) text)) ≤ 65535
+    pub line-refused : i ≤ length (take (l .to - l .from) (drop (l .from) text))
+        → length (take (l .to - l .from) (drop (l .from) text)) ≤ 65535
         → literal (spelled names-text (r .names)) (w .low) (w .high) (itemAt (take (l .to - l .from) (drop (l .from) text)) i) ≡ none
         → (n : ℕ) → Left n ≡ refused 6 line
     line-refused inside short e n =
@@ -162,7 +186,8 @@ record-starts T d n text vs e h =
     let left : 2 * T + 1 + 1 - 1 ≡ suc (T + T) = omega arith in
     rw (e, take-replicate n 1024 h, left) (sym (states-lines T d 0 1 (replicate n 0) text refl))
 
-pub left-done : (text : List ℕ) (n : ℕ) (r : Lines) (d : Draft) → r .refused ≡ 0 → leftOf text n r ≡ recordFrom 0 d (r .line) (take n (r .values)) (drop (r .at) text)
+pub left-done : (text : List ℕ) (n : ℕ) (r : Lines) (d : Draft) → r .refused ≡ 0
+    → leftOf text n r ≡ recordFrom 0 d (r .line) (take n (r .values)) (drop (r .at) text)
 unfolding leftOf
 left-done text n r d e = rw e
 
@@ -177,7 +202,8 @@ pub copy-one : (old new : List ℕ) (i : ℕ) → i < length old → i < length 
 copy-one old new i h g =
     let size : length (take i new) ≡ i = length-take-le i new (omega arith) in
     rw (add-one i, take-suc new i 0 g, drop-cons old i 0 h)
-    (set-at (take i new) (getD old i 0) (drop (suc i) old) (getD new i 0) i size ∙ sym (append-assoc (take i new) (getD new i 0 ∷ []) (drop (suc i) old)))
+    (set-at (take i new) (getD old i 0) (drop (suc i) old) (getD new i 0) i size
+    ∙ sym (append-assoc (take i new) (getD new i 0 ∷ []) (drop (suc i) old)))
 
 pub copy-done : (old new : List ℕ) (i : ℕ) → i ≤ length old → length old ≤ i → take i new ++ drop i old ≡ take (length old) new
 copy-done old new i h g =
@@ -190,7 +216,8 @@ module _ (text : List ℕ) (n : ℕ) (r : Lines) where
   unfolding valuesRead leftOf
   record-refused h = rw (ne-eqb (r .refused) 0 (λ e. absurd (omega arith)))
 
-  pub record-ended : r .refused ≤ 0 → (e : EndAt) → endingOf e (take n (r .values)) ≡ historyEnd (firstLine (drop (r .at) text)) (r .line) (take n (r .values))
+  pub record-ended : r .refused ≤ 0 → (e : EndAt)
+      → endingOf e (take n (r .values)) ≡ historyEnd (firstLine (drop (r .at) text)) (r .line) (take n (r .values))
       → valuesRead n (record { values = r .values; refused = e .refused; line = e .line }) ≡ leftOf text n r
   unfolding valuesRead leftOf endingOf
   record-ended h e is = rw (eq-eqb (r .refused) 0 (omega arith)) is
@@ -209,9 +236,11 @@ module _ (names-text : List ℕ) (r : HeldDraft) (rest : List ℕ) (line : ℕ) 
   pub history-room : (room ≡ atomsOf r → ⊥) → byNames (answered (read (draftOf names-text r) rest line)) text room ≡ refused 10 room
   history-room h = rw (spelled-length names-text (r .names), ne-eqb room (atomsOf r) h)
 
-  pub history-long : room ≡ atomsOf r → 65535 < length text → byNames (answered (read (draftOf names-text r) rest line)) text room ≡ refused 1 0
+  pub history-long : room ≡ atomsOf r → 65535 < length text
+      → byNames (answered (read (draftOf names-text r) rest line)) text room ≡ refused 1 0
   history-long e h = rw (spelled-length names-text (r .names), eq-eqb room (atomsOf r) e, lt-ltb 65535 (length text) h)
 
   pub history-lines : room ≡ atomsOf r → length text ≤ 65535
-      → byNames (answered (read (draftOf names-text r) rest line)) text room ≡ statesFrom (r .horizon) (draftOf names-text r) 0 1 (replicate room 0) text
+      → byNames (answered (read (draftOf names-text r) rest line)) text room
+      ≡ statesFrom (r .horizon) (draftOf names-text r) 0 1 (replicate room 0) text
   history-lines e h = rw (spelled-length names-text (r .names), eq-eqb room (atomsOf r) e, le-ltb 65535 (length text) h, e)

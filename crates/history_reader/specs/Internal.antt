@@ -44,7 +44,8 @@ filledAt fluents count line vs = filled (baseAt count line + fluents) (highAt fl
 abbrev pub recordFrom : ℕ → Draft → ℕ → List ℕ → List ℕ → Reply (List ℕ)
 recordFrom zero d line vs text = historyEnd (firstLine text) line vs
 recordFrom (suc n) d line vs text =
-    listLine d (keyAt line) (lowAt (d .fluents) line) (highAt (d .fluents) (length (d .names)) line) (firstLine text) line (baseAt (length (d .names)) line) vs
+    listLine d (keyAt line) (lowAt (d .fluents) line) (highAt (d .fluents) (length (d .names)) line) (firstLine text)
+    line (baseAt (length (d .names)) line) vs
     (λ vs′ rest. recordFrom n d (suc line) (filledAt (d .fluents) (length (d .names)) line vs′) rest)
 
 abbrev pub wantedAt : ℕ → ℕ → ℕ → Wanted

@@ -99,7 +99,10 @@ struct Lines {
 // Reads the state and act lines up to the end line or to the first bad line, by the names of the description.
 fn read_lines(description: &[u8], text: &[u8], draft: HeldDraft) -> Lines
     requires { ⌜ (length (now text) ≤ 65535) × Limits draft ⌝ }
-    ensures { λ r. ⌜ ((n : ℕ) → n ≤ 1024 → leftOf (now (text .entry)) n r ≡ statesFrom (draft .horizon) (draftOf (now (description .entry)) draft) 0 1 (replicate n 0) (now (text .entry))) ⌝ }
+    ensures { λ r. ⌜ ((n : ℕ) → n ≤ 1024
+        → leftOf (now (text .entry)) n r
+        ≡ statesFrom (draft .horizon) (draftOf (now (description .entry)) draft) 0 1 (replicate n 0)
+        (now (text .entry))) ⌝ }
     ensures { λ r. ⌜ LinesFit (now (text .entry)) r ⌝ }
 {
     let names = draft.names;
@@ -153,7 +156,10 @@ pub(crate) struct Record {
 // Reads a history of at most 65,535 bytes by the names of the description.
 pub(crate) fn read(description: &[u8], text: &[u8], draft: HeldDraft) -> Record
     requires { ⌜ (length (now text) ≤ 65535) × Limits draft ⌝ }
-    ensures { λ r. ⌜ ((n : ℕ) → n ≤ 1024 → valuesRead n r ≡ statesFrom (draft .horizon) (draftOf (now (description .entry)) draft) 0 1 (replicate n 0) (now (text .entry))) ⌝ }
+    ensures { λ r. ⌜ ((n : ℕ) → n ≤ 1024
+        → valuesRead n r
+        ≡ statesFrom (draft .horizon) (draftOf (now (description .entry)) draft) 0 1 (replicate n 0)
+        (now (text .entry))) ⌝ }
 {
     let found = read_lines(description, text, draft);
     let values = found.values;

@@ -14,8 +14,11 @@ pub enum HistoryAnswer {
 
 // Reads a history's text by the names of its description's text, and leaves its values; on a refusal the buffer stays as it was.
 pub fn read_history(description: &[u8], text: &[u8], values: &mut [u8]) -> HistoryAnswer
-    ensures answers { λ r. ⌜ historyReplyOf r ≡ historyReplied (readHistory (now (description .entry)) (now (text .entry)) (length (now (values .entry)))) ⌝ }
-    ensures leaves { λ r. ⌜ now (values .exit) ≡ valuesLeft (readHistory (now (description .entry)) (now (text .entry)) (length (now (values .entry)))) (now (values .entry)) ⌝ }
+    ensures answers { λ r. ⌜ historyReplyOf r
+        ≡ historyReplied (readHistory (now (description .entry)) (now (text .entry)) (length (now (values .entry)))) ⌝ }
+    ensures leaves { λ r. ⌜ now (values .exit)
+        ≡ valuesLeft (readHistory (now (description .entry)) (now (text .entry)) (length (now (values .entry))))
+        (now (values .entry)) ⌝ }
     ensures filled { λ r. ⌜ ActionsFilled (now (description .entry)) r (now (values .exit)) ⌝ }
 {
     let end = descriptions::read_alone(description);

@@ -16,7 +16,8 @@ abbrev withSign : ℕ → ℕ → ℕ
 withSign c v = cond (eqb (c % 2) 0) (withTrue v) (withFalse v)
 
 -- the first n values
-take-changed : (f : ℕ → ℕ) (n : ℕ) (vs : List ℕ) (at : ℕ) → take n (set vs at (f (getD vs at 0))) ≡ set (take n vs) at (f (getD (take n vs) at 0))
+take-changed : (f : ℕ → ℕ) (n : ℕ) (vs : List ℕ) (at : ℕ)
+    → take n (set vs at (f (getD vs at 0))) ≡ set (take n vs) at (f (getD (take n vs) at 0))
 take-changed f zero vs at = refl
 take-changed f (suc n) [] at = refl
 take-changed f (suc n) (v ∷ vs) zero = refl
@@ -59,7 +60,9 @@ filled-middle at p (x ∷ xs) zs there =
     ∙ append-snoc p (orFalse x) (map orFalse xs ++ zs)
   where
     here : set (p ++ x ∷ (xs ++ zs)) at (orFalse (getD (p ++ x ∷ (xs ++ zs)) at 0)) ≡ p ++ orFalse x ∷ (xs ++ zs)
-    here = ap (λ (w : ℕ). set (p ++ x ∷ (xs ++ zs)) at (orFalse w)) (getD-at p x (xs ++ zs) 0 at there) ∙ set-at p x (xs ++ zs) (orFalse x) at there
+    here =
+        ap (λ (w : ℕ). set (p ++ x ∷ (xs ++ zs)) at (orFalse w)) (getD-at p x (xs ++ zs) 0 at there)
+        ∙ set-at p x (xs ++ zs) (orFalse x) at there
 
 -- as many values as before
 pub length-marked : (base : ℕ) (vs cs : List ℕ) → length (withLiterals base vs cs) ≡ length vs
@@ -71,7 +74,8 @@ length-filled at zero vs = refl
 length-filled at (suc k) vs = length-filled (suc at) k _ ∙ length-set vs at _
 
 -- a value that is left at 0 was 0 before, where one change keeps that
-changed-zero : (f : ℕ → ℕ) → ((v : ℕ) → f v ≡ 0 → v ≡ 0) → (vs : List ℕ) (at i : ℕ) → getD (set vs at (f (getD vs at 0))) i 0 ≡ 0 → getD vs i 0 ≡ 0
+changed-zero : (f : ℕ → ℕ) → ((v : ℕ) → f v ≡ 0 → v ≡ 0) → (vs : List ℕ) (at i : ℕ)
+    → getD (set vs at (f (getD vs at 0))) i 0 ≡ 0 → getD vs i 0 ≡ 0
 changed-zero f keeps [] at i e = e
 changed-zero f keeps (v ∷ vs) zero zero e = keeps v e
 changed-zero f keeps (v ∷ vs) zero (suc i) e = e
@@ -106,7 +110,8 @@ filled-zero at (suc k) vs i e = changed-zero orFalse (λ v f. absurd (or-false v
 pub filled-valued : (at k : ℕ) (vs : List ℕ) (i : ℕ) → at ≤ i → i < at + k → i < length vs → getD (filled at k vs) i 0 ≡ 0 → ⊥
 filled-valued at zero vs i low high inside e = absurd (omega arith)
 filled-valued at (suc k) vs i low high inside e =
-    go (eqb i at) refl (λ later. filled-valued (suc at) k next i later (omega arith) (omega (arith, length-set vs at (orFalse (getD vs at 0)))) e)
+    go (eqb i at) refl
+    (λ later. filled-valued (suc at) k next i later (omega arith) (omega (arith, length-set vs at (orFalse (getD vs at 0)))) e)
   where
     next : List ℕ
     next = set vs at (orFalse (getD vs at 0))

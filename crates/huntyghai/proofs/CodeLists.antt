@@ -43,12 +43,16 @@ listed codes k x h e = rw (code-of k x h) e
 -- numbers among some that are all below a bound
 pub below : (bound k : ℕ) (xs : List ℕ) → Each (λ x. x < bound) xs → among k xs ≡ true → k < bound
 below bound k [] w q = absurd (not-both q refl)
-below bound k (x ∷ xs) w q = ⊎-elim (λ (s : eqb k x ≡ true). rw (eqb-true k x s) (w .0)) (λ (later : among k xs ≡ true). below bound k xs (w .1) later) (or-iff (eqb k x) (among k xs) .0 q)
+below bound k (x ∷ xs) w q =
+    ⊎-elim (λ (s : eqb k x ≡ true). rw (eqb-true k x s) (w .0))
+    (λ (later : among k xs ≡ true). below bound k xs (w .1) later) (or-iff (eqb k x) (among k xs) .0 q)
 
 -- a refusal by some of the numbers, or an answer whose code is listed
-reply-among : {A : Type 0} (numbers codes : List ℕ) (code : A → ℕ) (r : Reply A) → Each (λ x. x < 256) numbers → all (λ c. among c codes) numbers ≡ true
+reply-among : {A : Type 0} (numbers codes : List ℕ) (code : A → ℕ) (r : Reply A) → Each (λ x. x < 256) numbers
+    → all (λ c. among c codes) numbers ≡ true
     → RefusedBy numbers r → ((a : A) → r ≡ answered a → CodeAmong codes (code a)) → CodeAmong codes (replyCode code r)
-reply-among numbers codes code (refused number place) small within by of = listed codes number place (below 256 number numbers small by) (among-more numbers codes number within by)
+reply-among numbers codes code (refused number place) small within by of =
+    listed codes number place (below 256 number numbers small by) (among-more numbers codes number within by)
 reply-among numbers codes code (answered a) small within by of = of a refl
 
 abbrev pub engineCodes : List ℕ
@@ -56,7 +60,8 @@ engineCodes = 10 ∷ 11 ∷ 12 ∷ 64 ∷ 65 ∷ 66 ∷ 67 ∷ []
 
 pub set-codes : (vs ws : List ℕ) → CodeAmong engineCodes (replyCode verdictCode (answer vs ws))
 set-codes vs ws =
-    reply-among (10 ∷ 11 ∷ 12 ∷ []) engineCodes verdictCode (answer vs ws) (omega arith, (omega arith, (omega arith, tt))) refl (which-refusals .engine vs ws) (λ v _. of v)
+    reply-among (10 ∷ 11 ∷ 12 ∷ []) engineCodes verdictCode (answer vs ws)
+    (omega arith, (omega arith, (omega arith, tt))) refl (which-refusals .engine vs ws) (λ v _. of v)
   where
     of : (v : Verdict) → CodeAmong engineCodes (verdictCode v)
     of passes = listed engineCodes 64 0 (omega arith) refl
@@ -71,7 +76,8 @@ abbrev pub levelCodes : List ℕ
 levelCodes = 10 ∷ 11 ∷ 12 ∷ 13 ∷ 65 ∷ 68 ∷ 72 ∷ 73 ∷ []
 
 -- the codes of what is found by the formulas are in every list that has these four
-formula-codes : (codes : List ℕ) → all (λ c. among c codes) (65 ∷ 68 ∷ 72 ∷ 73 ∷ []) ≡ true → (f : formulas.FormulaFinding) → CodeAmong codes (formulaCode f)
+formula-codes : (codes : List ℕ) → all (λ c. among c codes) (65 ∷ 68 ∷ 72 ∷ 73 ∷ []) ≡ true
+    → (f : formulas.FormulaFinding) → CodeAmong codes (formulaCode f)
 formula-codes codes within f = of f
   where
     each : Each (λ c. among c codes ≡ true) (65 ∷ 68 ∷ 72 ∷ 73 ∷ [])
@@ -85,7 +91,8 @@ formula-codes codes within f = of f
 
 pub completion-codes : (vs ws : List ℕ) → CodeAmong completionCodes (replyCode formulaCode (completed.answer vs ws))
 completion-codes vs ws =
-    reply-among (10 ∷ 11 ∷ 12 ∷ []) completionCodes formulaCode (completed.answer vs ws) (omega arith, (omega arith, (omega arith, tt))) refl
+    reply-among (10 ∷ 11 ∷ 12 ∷ []) completionCodes formulaCode (completed.answer vs ws)
+    (omega arith, (omega arith, (omega arith, tt))) refl
     (which-refusals .completion vs ws) (λ f _. formula-codes completionCodes refl f)
 
 pub level-codes : (vs ws levels : List ℕ) → CodeAmong levelCodes (replyCode formulaCode (completed.answerByLevels vs ws levels))
@@ -103,7 +110,8 @@ translateCodes = 1 ∷ 2 ∷ 3 ∷ 4 ∷ 5 ∷ 6 ∷ 9 ∷ 96 ∷ []
 pub translate-codes : (text : List ℕ) (room : ℕ) → CodeAmong translateCodes (translatedText text room)
 unfolding translatedText
 translate-codes text room =
-    reply-among (1 ∷ 2 ∷ 3 ∷ 4 ∷ 5 ∷ 6 ∷ []) translateCodes (translatedTaken room) (described 64 text) six-small refl (which-refusals .description 64 text) of
+    reply-among (1 ∷ 2 ∷ 3 ∷ 4 ∷ 5 ∷ 6 ∷ []) translateCodes (translatedTaken room) (described 64 text) six-small refl
+    (which-refusals .description 64 text) of
   where
     of : (t : Taken) → described 64 text ≡ answered t → CodeAmong translateCodes (translatedTaken room t)
     of (read d rest lines) is =
@@ -119,11 +127,13 @@ checkCodes = 1 ∷ 2 ∷ 3 ∷ 4 ∷ 5 ∷ 6 ∷ 9 ∷ 10 ∷ 11 ∷ 64 ∷ 65 �
 pub check-codes : (text vs : List ℕ) (room : ℕ) → CodeAmong checkCodes (checkedText text vs room)
 unfolding checkedText
 check-codes text vs room =
-    reply-among (1 ∷ 2 ∷ 3 ∷ 4 ∷ 5 ∷ 6 ∷ []) checkCodes (checkedTaken vs room) (described 64 text) six-small refl (which-refusals .description 64 text) of
+    reply-among (1 ∷ 2 ∷ 3 ∷ 4 ∷ 5 ∷ 6 ∷ []) checkCodes (checkedTaken vs room) (described 64 text) six-small refl
+    (which-refusals .description 64 text) of
   where
     of : (t : Taken) → described 64 text ≡ answered t → CodeAmong checkCodes (checkedTaken vs room t)
     of (read d rest lines) is =
-        reply-among (9 ∷ 10 ∷ 11 ∷ []) checkCodes findingCode (checked (descriptionOf d) (d .laws) 64 vs room) (omega arith, (omega arith, (omega arith, tt))) refl
+        reply-among (9 ∷ 10 ∷ 11 ∷ []) checkCodes findingCode (checked (descriptionOf d) (d .laws) 64 vs room)
+        (omega arith, (omega arith, (omega arith, tt))) refl
         (which-refusals .check text d rest lines vs room is) (λ f _. of-finding f)
       where
         of-finding : (f : Finding) → CodeAmong checkCodes (findingCode f)
@@ -136,13 +146,17 @@ check-codes text vs room =
 abbrev pub historyCodes : List ℕ
 historyCodes = 1 ∷ 2 ∷ 3 ∷ 4 ∷ 5 ∷ 6 ∷ 7 ∷ 10 ∷ 112 ∷ []
 
-pub history-codes : (description text : List ℕ) (room : ℕ) → CodeAmong historyCodes (replyCode readCode (historyReplied (readHistory description text room)))
+pub history-codes : (description text : List ℕ) (room : ℕ)
+    → CodeAmong historyCodes (replyCode readCode (historyReplied (readHistory description text room)))
 history-codes description text room = go (readHistory description text room) (which-refusals .history description text room)
   where
-    go : (r : Reply (List ℕ)) → RefusedBy (1 ∷ 2 ∷ 3 ∷ 4 ∷ 5 ∷ 6 ∷ 7 ∷ 10 ∷ []) r → CodeAmong historyCodes (replyCode readCode (historyReplied r))
+    go : (r : Reply (List ℕ)) → RefusedBy (1 ∷ 2 ∷ 3 ∷ 4 ∷ 5 ∷ 6 ∷ 7 ∷ 10 ∷ []) r
+        → CodeAmong historyCodes (replyCode readCode (historyReplied r))
     go (refused number place) h =
         listed historyCodes number place
-        (below 256 number (1 ∷ 2 ∷ 3 ∷ 4 ∷ 5 ∷ 6 ∷ 7 ∷ 10 ∷ []) (omega arith, (omega arith, (omega arith, (omega arith, (omega arith, (omega arith, (omega arith, (omega arith, tt)))))))) h)
+        (below 256 number (1 ∷ 2 ∷ 3 ∷ 4 ∷ 5 ∷ 6 ∷ 7 ∷ 10 ∷ [])
+        (omega arith, (omega arith, (omega arith, (omega arith, (omega arith, (omega arith, (omega arith, (omega arith, tt))))))))
+        h)
         (among-more (1 ∷ 2 ∷ 3 ∷ 4 ∷ 5 ∷ 6 ∷ 7 ∷ 10 ∷ []) historyCodes number refl h)
     go (answered vs) h = listed historyCodes 112 0 (omega arith) refl
 
@@ -153,7 +167,8 @@ pub causal-codes : (input : List ℕ) → CodeAmong causalCodes (readingOfInput 
 unfolding readingOfInput
 causal-codes input =
     reply-among (1 ∷ 2 ∷ 3 ∷ 4 ∷ 5 ∷ 6 ∷ 7 ∷ []) causalCodes (readingOf (described 64 input)) (recordedIn input)
-    (omega arith, (omega arith, (omega arith, (omega arith, (omega arith, (omega arith, (omega arith, tt))))))) refl (which-refusals .input input)
+    (omega arith, (omega arith, (omega arith, (omega arith, (omega arith, (omega arith, (omega arith, tt))))))) refl
+    (which-refusals .input input)
     (λ vs e. of vs e (described 64 input) refl)
   where
     of-causal : (v : Causal) → CodeAmong causalCodes (causalCode v)
@@ -161,12 +176,14 @@ causal-codes input =
     of-causal (contradicted t l) = listed causalCodes 81 _ (omega arith) refl
     of-causal (uncaused t f) = listed causalCodes 82 _ (omega arith) refl
 
-    of : (vs : List ℕ) → recordedIn input ≡ answered vs → (o : Reply Taken) → described 64 input ≡ o → CodeAmong causalCodes (readingOf o vs)
+    of : (vs : List ℕ) → recordedIn input ≡ answered vs → (o : Reply Taken) → described 64 input ≡ o
+        → CodeAmong causalCodes (readingOf o vs)
     of vs e (refused number place) is =
         let both = sym e ∙ recorded-refused input is in
         let z : _≡_ {A = ℕ} 0 1 = cc in absurd (omega arith)
     of vs e (answered (read d rest lines)) is =
-        reply-among (11 ∷ []) causalCodes causalCode (reading (descriptionOf d) (d .laws) 64 vs) (omega arith, tt) refl (which-refusals .causal input d rest lines vs is e) (λ v _. of-causal v)
+        reply-among (11 ∷ []) causalCodes causalCode (reading (descriptionOf d) (d .laws) 64 vs) (omega arith, tt) refl
+        (which-refusals .causal input d rest lines vs is e) (λ v _. of-causal v)
 
 -- a number by what it is
 pub as-listed : (codes : List ℕ) {number x : ℕ} → number ≡ x → CodeAmong codes x → CodeAmong codes number

@@ -62,7 +62,12 @@ Within (answered holds) = Unit
 
 back : (r : Reply FormulaFinding) → Within r → reply (tag r) (value r) ≡ r
 back (refused k p) w =
-    rw (ne-eqb k 68 (omega (arith, w .0)), ne-eqb k 65 (omega (arith, w .0)), ne-eqb k 73 (omega (arith, w .0)), ne-eqb k 72 (omega (arith, w .0)))
+    rw (
+      ne-eqb k 68 (omega (arith, w .0)),
+      ne-eqb k 65 (omega (arith, w .0)),
+      ne-eqb k 73 (omega (arith, w .0)),
+      ne-eqb k 72 (omega (arith, w .0)),
+    )
 back (answered (missing a)) w = refl
 back (answered (clash a)) w = refl
 back (answered (fails (lit c))) w = rw (ne-eqb c 65535 (omega arith))
@@ -141,9 +146,11 @@ pub levels-numbered : (vs ws levels : List ℕ) (number : ℕ) → number ≡ re
 unfolding LevelsNumbered SaysLevels
 levels-numbered vs ws levels number is promised accepted = record {
   count-exactly = Iff·trans (tell (refused 13 65535) (omega arith, omega arith)) (by .count-exactly);
-  rule-exactly = λ i b. Iff·trans (tell (refused 13 i) (omega arith, omega (arith, accepted-count (length vs) ws (accepted .2)))) (by .rule-exactly i b);
+  rule-exactly = λ i b.
+      Iff·trans (tell (refused 13 i) (omega arith, omega (arith, accepted-count (length vs) ws (accepted .2)))) (by .rule-exactly i b);
   formulas = λ e tight. by-formulas r number is within vs ws (few vs ws accepted) (by .formulas e tight);
-  holds-engine = λ e tight one. Iff·trans (tell (answered holds) tt) (Iff·trans (by .holds-engine e tight one) (Iff·symm (passes-told vs ws accepted)));
+  holds-engine = λ e tight one.
+      Iff·trans (tell (answered holds) tt) (Iff·trans (by .holds-engine e tight one) (Iff·symm (passes-told vs ws accepted)));
 }
   where
     r : Reply FormulaFinding

@@ -73,7 +73,8 @@ module _ (v : Verdict) where
       go (broken r) s x p e = absurd (omega (arith, other-code 66 67 r x (omega arith) (omega arith) e))
       go (unfounded c) s x p e = ap unfounded (same-value 67 c x s p e)
 
-module _ (vs ws : List ℕ) (number : ℕ) (is : number ≡ replyCode verdictCode (answer vs ws)) (promised : Demand2 vs ws (answer vs ws)) (accepted : Accepted vs ws) where
+module _ (vs ws : List ℕ) (number : ℕ) (is : number ≡ replyCode verdictCode (answer vs ws))
+    (promised : Demand2 vs ws (answer vs ws)) (accepted : Accepted vs ws) where
   abbrev v : Verdict
   v = verdict (length vs) (rulesOf ws) (setOf vs)
 
@@ -111,14 +112,17 @@ module _ (vs ws : List ℕ) (number : ℕ) (is : number ≡ replyCode verdictCod
     passes-exactly = Iff·trans (told passes (tells-passes v)) (judged .passes-exactly);
     clash-exactly = λ a below. Iff·trans (told (clash a) (tells-clash v small a (omega (arith, few)))) (judged .clash-exactly a);
     broken-exactly = λ r below. Iff·trans (told (broken r) (tells-broken v small r (omega (arith, few-rules)))) (judged .broken-exactly r);
-    unfounded-exactly = λ c below. Iff·trans (told (unfounded c) (tells-unfounded v small c (omega (arith, few)))) (judged .unfounded-exactly c);
+    unfounded-exactly =
+        λ c below. Iff·trans (told (unfounded c) (tells-unfounded v small c (omega (arith, few)))) (judged .unfounded-exactly c);
   }
 
-pub set-numbered : (vs ws : List ℕ) (number : ℕ) → number ≡ replyCode verdictCode (answer vs ws) → Demand2 vs ws (answer vs ws) → SetNumbered vs ws number
+pub set-numbered : (vs ws : List ℕ) (number : ℕ) → number ≡ replyCode verdictCode (answer vs ws)
+    → Demand2 vs ws (answer vs ws) → SetNumbered vs ws number
 unfolding SetNumbered
 set-numbered vs ws number is promised accepted = numbered vs ws number is promised accepted
 
 -- the engine's number is that of passes exactly if it passes
 pub passes-told : (vs ws : List ℕ) → Accepted vs ws → replyCode verdictCode (answer vs ws) ≡ coded 64 0 ↔ answer vs ws ≡ answered passes
 passes-told vs ws accepted =
-    told vs ws (replyCode verdictCode (answer vs ws)) refl (demand-2 vs ws) accepted passes (tells-passes (verdict (length vs) (rulesOf ws) (setOf vs)))
+    told vs ws (replyCode verdictCode (answer vs ws)) refl (demand-2 vs ws) accepted passes
+    (tells-passes (verdict (length vs) (rulesOf ws) (setOf vs)))

@@ -31,29 +31,42 @@ use Rattle.huntyghai.proofs.SetCodes.{other-code, tells-passes}
 use Rattle.huntyghai.proofs.CodeLists.{below}
 
 -- a refusal's number is no answer's
-no-refusal : (numbers : List ℕ) (k p j x : ℕ) → Each (λ (n : ℕ). n < 64) numbers → among k numbers ≡ true → 64 ≤ j → j < 256 → coded k p ≡ coded j x → ⊥
+no-refusal : (numbers : List ℕ) (k p j x : ℕ) → Each (λ (n : ℕ). n < 64) numbers → among k numbers ≡ true → 64 ≤ j
+    → j < 256 → coded k p ≡ coded j x → ⊥
 no-refusal numbers k p j x small by high low e =
     let under : k < 64 = below 64 k numbers small by in
     omega (arith, other-code k j p x (omega arith) low e)
 
 passes-number : (r : Reply Verdict) → RefusedBy (10 ∷ 11 ∷ 12 ∷ []) r → replyCode verdictCode r ≡ coded 64 0 ↔ r ≡ answered passes
-passes-number (refused k p) by =
-    (λ e. absurd (no-refusal (10 ∷ 11 ∷ 12 ∷ []) k p 64 0 (omega arith, (omega arith, (omega arith, tt))) by (omega arith) (omega arith) e), λ e. cc)
+passes-number (refused k p) by = (
+  λ e.
+      absurd (no-refusal (10 ∷ 11 ∷ 12 ∷ []) k p 64 0 (omega arith, (omega arith, (omega arith, tt))) by (omega arith) (omega arith) e),
+  λ e. cc,
+)
 passes-number (answered v) by = (λ e. ap answered (tells-passes v e), λ e. ap (replyCode verdictCode) e)
 
-holds-number : (r : Reply formulas.FormulaFinding) → RefusedBy (10 ∷ 11 ∷ 12 ∷ []) r → replyCode formulaCode r ≡ coded 72 0 ↔ r ≡ answered formulas.holds
-holds-number (refused k p) by =
-    (λ e. absurd (no-refusal (10 ∷ 11 ∷ 12 ∷ []) k p 72 0 (omega arith, (omega arith, (omega arith, tt))) by (omega arith) (omega arith) e), λ e. cc)
+holds-number : (r : Reply formulas.FormulaFinding) → RefusedBy (10 ∷ 11 ∷ 12 ∷ []) r
+    → replyCode formulaCode r ≡ coded 72 0 ↔ r ≡ answered formulas.holds
+holds-number (refused k p) by = (
+  λ e.
+      absurd (no-refusal (10 ∷ 11 ∷ 12 ∷ []) k p 72 0 (omega arith, (omega arith, (omega arith, tt))) by (omega arith) (omega arith) e),
+  λ e. cc,
+)
 holds-number (answered formulas.holds) by = (λ e. refl, λ e. refl)
 holds-number (answered (formulas.missing a)) by = (λ e. absurd (omega (arith, other-code 68 72 a 0 (omega arith) (omega arith) e)), λ e. cc)
 holds-number (answered (formulas.clash a)) by = (λ e. absurd (omega (arith, other-code 65 72 a 0 (omega arith) (omega arith) e)), λ e. cc)
 holds-number (answered (formulas.fails h)) by = (λ e. absurd (omega (arith, other-code 73 72 _ 0 (omega arith) (omega arith) e)), λ e. cc)
 
-checked-number : (r : Reply history.Finding) → RefusedBy (9 ∷ 10 ∷ 11 ∷ []) r → replyCode findingCode r ≡ coded 64 0 ↔ r ≡ answered (history.judged passes)
-checked-number (refused k p) by =
-    (λ e. absurd (no-refusal (9 ∷ 10 ∷ 11 ∷ []) k p 64 0 (omega arith, (omega arith, (omega arith, tt))) by (omega arith) (omega arith) e), λ e. cc)
-checked-number (answered (history.missing a)) by = (λ e. absurd (omega (arith, other-code 68 64 a 0 (omega arith) (omega arith) e)), λ e. cc)
-checked-number (answered (history.judged v)) by = (λ e. ap (λ (w : Verdict). answered (history.judged w)) (tells-passes v e), λ e. ap (replyCode findingCode) e)
+checked-number : (r : Reply history.Finding) → RefusedBy (9 ∷ 10 ∷ 11 ∷ []) r → replyCode findingCode r ≡ coded 64 0
+    ↔ r ≡ answered (history.judged passes)
+checked-number (refused k p) by = (
+  λ e. absurd (no-refusal (9 ∷ 10 ∷ 11 ∷ []) k p 64 0 (omega arith, (omega arith, (omega arith, tt))) by (omega arith) (omega arith) e),
+  λ e. cc,
+)
+checked-number (answered (history.missing a)) by =
+    (λ e. absurd (omega (arith, other-code 68 64 a 0 (omega arith) (omega arith) e)), λ e. cc)
+checked-number (answered (history.judged v)) by =
+    (λ e. ap (λ (w : Verdict). answered (history.judged w)) (tells-passes v e), λ e. ap (replyCode findingCode) e)
 
 module _ (text : List ℕ) (d : Draft) (rest : List ℕ) (lines : ℕ) (is : described 64 text ≡ answered (read d rest lines))
     (vs : List ℕ) (size : length vs ≡ atoms d) (one : Each OneValue vs) where
@@ -71,7 +84,8 @@ module _ (text : List ℕ) (d : Draft) (rest : List ℕ) (lines : ℕ) (is : des
   passes-path : (room : ℕ) → length (wordsFor d) ≤ room → checkedText text vs room ≡ coded 64 0 ↔ IsPath d vs
   passes-path room enough =
       rw (checked room)
-      (Iff·trans (checked-number (history.checked (descriptionOf d) (d .laws) 64 vs room) (which-refusals .check text d rest lines vs room is))
+      (Iff·trans
+      (checked-number (history.checked (descriptionOf d) (d .laws) 64 vs room) (which-refusals .check text d rest lines vs room is))
       (demand-3 (descriptionOf d) (d .laws) 64 vs complete .history-passes room enough))
 
   holds-path : replyCode formulaCode (completion.answer vs (wordsFor d)) ≡ coded 72 0 ↔ IsPath d vs

@@ -43,7 +43,8 @@ module _ (text : List ℕ) where
     check-table-refused vs table = rw (description-refused text e)
 
   -- a description that is taken, by what its reader left
-  module _ {bytes lines : ℕ} (old : List Law) {d : Description} {laws : List Law} (e : replied text (described 64 text) ≡ answered (behind bytes lines))
+  module _ {bytes lines : ℕ} (old : List Law) {d : Description} {laws : List Law}
+      (e : replied text (described 64 text) ≡ answered (behind bytes lines))
       (dis : d ≡ recordOf (described 64 text)) (lis : laws ≡ lawsLeft (described 64 text) old) where
     is : described 64 text ≡ answered (read (known text e .draft) (known text e .rest) lines)
     is = known text e .is
@@ -68,7 +69,10 @@ module _ (text : List ℕ) where
     unfolding tableOfText translated.tableAfter
     table-read table =
         rw (dis′, lis′, is)
-        (rw (same-outcome (descriptionOf draft) (draft .laws) more refl (length table), same-laws (descriptionOf draft) (draft .laws) more refl))
+        (rw (
+          same-outcome (descriptionOf draft) (draft .laws) more refl (length table),
+          same-laws (descriptionOf draft) (draft .laws) more refl,
+        ))
 
     pub check-read : (vs : List ℕ) (room : ℕ) → replyCode findingCode (history.checked d laws 64 vs room) ≡ checkedText text vs room
     unfolding checkedText
@@ -78,16 +82,21 @@ module _ (text : List ℕ) where
     unfolding tableOfCheck history.tableAfter
     check-table-read vs table =
         rw (dis′, lis′, is)
-        (rw (same-check (descriptionOf draft) (draft .laws) more refl vs (length table), same-laws (descriptionOf draft) (draft .laws) more refl))
+        (rw (
+          same-check (descriptionOf draft) (draft .laws) more refl vs (length table),
+          same-laws (descriptionOf draft) (draft .laws) more refl,
+        ))
 
 -- the causal reading of a whole input
 module _ (input : List ℕ) where
-  pub reading-refused : {number place : ℕ} → refused number place ≡ historyReplied (recordedIn input) → coded number place ≡ readingOfInput input
+  pub reading-refused : {number place : ℕ} → refused number place ≡ historyReplied (recordedIn input)
+      → coded number place ≡ readingOfInput input
   unfolding readingOfInput
   reading-refused e = rw (history-refused (recordedIn input) e)
 
   pub reading-read : {d : Description} {laws : List Law} {vs : List ℕ} (old : List ℕ) → d ≡ recordOf (described 64 input)
-      → laws ≡ lawsLeft (described 64 input) noLaws → vs ≡ valuesLeft (recordedIn input) old → answered tt ≡ historyReplied (recordedIn input)
+      → laws ≡ lawsLeft (described 64 input) noLaws → vs ≡ valuesLeft (recordedIn input) old
+      → answered tt ≡ historyReplied (recordedIn input)
       → replyCode causalCode (causal.reading d laws 64 vs) ≡ readingOfInput input
   unfolding readingOfInput
   reading-read old dis lis vis e =

@@ -2,7 +2,7 @@
 -- Assumes nothing.
 use mathlib.Core.List.{List}
 use Prim.Native.Nat.{ℕ}
-use Rattle.basics.specs.Replies.{Reply, refused, answered, leftAfter}
+use Rattle.basics.specs.Replies.{Reply, leftAfter}
 use Rattle.translation.specs.Translated as translated
 use Rattle.history_check.specs.Checks as history
 use Rattle.causal_reading.specs.Readings as causal

@@ -23,7 +23,8 @@ ghost use Rattle.huntyghai.specs.CodeLists.{CodeAmong};
 // What the program check prints for an input, as far as the buffer goes; the result is the whole output's length, at most 400.
 #[no_mangle]
 pub extern "C" fn huntyghai_report(input: &[u8], out: &mut [u8]) -> usize
-    ensures writes { λ r. ⌜ (r ≡ length (output (now (input .entry)))) × (now (out .exit) ≡ sets (now (out .entry)) 0 (output (now (input .entry)))) ⌝ }
+    ensures writes { λ r. ⌜ (r ≡ length (output (now (input .entry))))
+        × (now (out .exit) ≡ sets (now (out .entry)) 0 (output (now (input .entry)))) ⌝ }
     ensures bounded { λ r. ⌜ r ≤ 400 ⌝ }
     ensures printed { λ _. ⌜ Program (now (input .entry)) (output (now (input .entry))) ⌝ }
 {
@@ -53,7 +54,8 @@ pub extern "C" fn huntyghai_check_completion(values: &[u8], table: &[u16]) -> u6
 // The same with a level for each literal code.
 #[no_mangle]
 pub extern "C" fn huntyghai_check_by_levels(values: &[u8], table: &[u16], levels: &[u16]) -> u64
-    ensures answers { λ r. ⌜ r ≡ replyCode formulaCode (completed.answerByLevels (now (values .entry)) (now (table .entry)) (now (levels .entry))) ⌝ }
+    ensures answers { λ r. ⌜ r ≡ replyCode formulaCode
+        (completed.answerByLevels (now (values .entry)) (now (table .entry)) (now (levels .entry))) ⌝ }
     ensures by_levels { λ r. ⌜ LevelsNumbered (now (values .entry)) (now (table .entry)) (now (levels .entry)) r ⌝ }
     ensures possible_codes { λ r. ⌜ CodeAmong (10 ∷ 11 ∷ 12 ∷ 13 ∷ 65 ∷ 68 ∷ 72 ∷ 73 ∷ []) r ⌝ }
 {
@@ -84,8 +86,11 @@ pub extern "C" fn huntyghai_translate(text: &[u8], table: &mut [u16]) -> u64
 // Reads a history's text by the names of the description's.
 #[no_mangle]
 pub extern "C" fn huntyghai_read_history(description: &[u8], text: &[u8], values: &mut [u8]) -> u64
-    ensures answers { λ r. ⌜ r ≡ replyCode readCode (historyReplied (readHistory (now (description .entry)) (now (text .entry)) (length (now (values .entry))))) ⌝ }
-    ensures leaves { λ _. ⌜ now (values .exit) ≡ valuesLeft (readHistory (now (description .entry)) (now (text .entry)) (length (now (values .entry)))) (now (values .entry)) ⌝ }
+    ensures answers { λ r. ⌜ r ≡ replyCode readCode
+        (historyReplied (readHistory (now (description .entry)) (now (text .entry)) (length (now (values .entry))))) ⌝ }
+    ensures leaves { λ _. ⌜ now (values .exit)
+        ≡ valuesLeft (readHistory (now (description .entry)) (now (text .entry)) (length (now (values .entry))))
+        (now (values .entry)) ⌝ }
     ensures possible_codes { λ r. ⌜ CodeAmong (1 ∷ 2 ∷ 3 ∷ 4 ∷ 5 ∷ 6 ∷ 7 ∷ 10 ∷ 112 ∷ []) r ⌝ }
 {
     answer_codes::of_history(history_reader::read_history(description, text, values))

@@ -79,14 +79,16 @@ module _ (input : List ℕ) where
   refused-from (answered (read d rest last)) e = let z : _≡_ {A = ℕ} 0 1 = cc in absurd (omega arith)
 
   -- the description is refused
-  pub description-refused : {number place : ℕ} → replied input (described 64 input) ≡ refused number place → described 64 input ≡ refused number place
+  pub description-refused : {number place : ℕ} → replied input (described 64 input) ≡ refused number place
+      → described 64 input ≡ refused number place
   description-refused e = refused-from (described 64 input) e
 
   pub recorded-refused : {number place : ℕ} → described 64 input ≡ refused number place → recordedIn input ≡ refused number place
   unfolding recordedIn
   recorded-refused e = rw e
 
-  known-from : (o : Reply Taken) {bytes lines : ℕ} → described 64 input ≡ o → BoundedReply input 64 65537 o → replied input o ≡ answered (behind bytes lines)
+  known-from : (o : Reply Taken) {bytes lines : ℕ} → described 64 input ≡ o → BoundedReply input 64 65537 o
+      → replied input o ≡ answered (behind bytes lines)
       → Known input bytes lines
   known-from (refused k p) is t e = let z : _≡_ {A = ℕ} 0 1 = cc in absurd (omega arith)
   known-from (answered (read d rest last)) {bytes} {lines} is t e =
@@ -131,18 +133,22 @@ module _ (input : List ℕ) where
       whole = rw (k .is, same-history)
 
       -- the answer to the whole input is the history reader's, moved up
-      pub says : (answer : Reply Unit) → answer ≡ historyReplied (readHistory input text lent) → movedBy lines answer ≡ historyReplied (recordedIn input)
+      pub says : (answer : Reply Unit) → answer ≡ historyReplied (readHistory input text lent)
+          → movedBy lines answer ≡ historyReplied (recordedIn input)
       says answer e = rw (e, whole) (moved-reply lines (readHistory input text lent))
 
       pub can-move : (answer : Reply Unit) → answer ≡ historyReplied (readHistory input text lent) → CanMove lines answer
-      can-move answer e = rw (e, same-history) (low-place lines (readHistory input (k .rest) (atoms (k .draft))) (k .counted) recorded-place)
+      can-move answer e =
+          rw (e, same-history) (low-place lines (readHistory input (k .rest) (atoms (k .draft))) (k .counted) recorded-place)
 
       leaves : (old : List ℕ) → valuesLeft (readHistory input text lent) old ≡ valuesLeft (recordedIn input) old
       leaves old = rw whole (sym (moved-left lines (readHistory input text lent) old))
 
       -- the values lent are the first of 1,024 zeros; behind them all stay 0
-      pub values-read : (m : ℕ) (zs last : List ℕ) → m ≤ 1024 → zs ≡ replicate 1024 0 → length last ≡ m → last ≡ valuesLeft (readHistory input text lent) (take m zs)
-          → (take m (last ++ drop m zs) ≡ valuesLeft (recordedIn input) (replicate m 0)) × (drop m (last ++ drop m zs) ≡ replicate (1024 - m) 0)
+      pub values-read : (m : ℕ) (zs last : List ℕ) → m ≤ 1024 → zs ≡ replicate 1024 0 → length last ≡ m
+          → last ≡ valuesLeft (readHistory input text lent) (take m zs)
+          → (take m (last ++ drop m zs) ≡ valuesLeft (recordedIn input) (replicate m 0))
+          × (drop m (last ++ drop m zs) ≡ replicate (1024 - m) 0)
       values-read m zs last few clear size left = (
         take-at last (drop m zs) m size
             ∙ left

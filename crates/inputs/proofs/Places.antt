@@ -44,7 +44,8 @@ module _ (line : ℕ) where
     list-place d key low high none base vs go h = later
     list-place d key low high (some l) base vs go h =
         chosen (PlaceUpTo k) (eqb (l .key) key)
-        (λ _. listed-place (listOf (d .names) low high histories.most (l .value)) base vs (λ vs′. go vs′ (l .rest)) (λ vs′. h vs′ (l .rest)))
+        (λ _.
+        listed-place (listOf (d .names) low high histories.most (l .value)) base vs (λ vs′. go vs′ (l .rest)) (λ vs′. h vs′ (l .rest)))
         (λ _. later)
 
 pub place-within : (j k : ℕ) → j ≤ k → (r : Reply (List ℕ)) → PlaceUpTo j r → PlaceUpTo k r
@@ -54,10 +55,13 @@ place-within j k h (answered vs) p = tt
 pub states-place : (n : ℕ) (d : Draft) (t line : ℕ) (vs text : List ℕ) → PlaceUpTo (line + 2 * n + 2) (statesFrom n d t line vs text)
 states-place zero d t line vs text =
     list-place line (line + 2 * 0 + 2) (omega arith) d _ _ _ (firstLine text) _ vs _
-    (λ vs′ rest. place-within (suc (suc line)) (line + 2 * 0 + 2) (omega arith) (historyEnd (firstLine rest) (suc line) vs′) (end-place (suc line) (firstLine rest) vs′))
+    (λ vs′ rest. place-within (suc (suc line)) (line + 2 * 0 + 2) (omega arith)
+    (historyEnd (firstLine rest) (suc line) vs′) (end-place (suc line) (firstLine rest) vs′))
 states-place (suc n) d t line vs text =
     list-place line (line + 2 * suc n + 2) (omega arith) d _ _ _ (firstLine text) _ vs _
     (λ vs′ rest.
     list-place (suc line) (line + 2 * suc n + 2) (omega arith) d _ _ _ (firstLine rest) _ vs′ _
-    (λ vs″ rest′. place-within (suc (suc line) + 2 * n + 2) (line + 2 * suc n + 2) (omega arith) (statesFrom n d (suc t) (suc (suc line)) (undoneFalse d t vs″) rest′)
+    (λ vs″ rest′.
+    place-within (suc (suc line) + 2 * n + 2) (line + 2 * suc n + 2) (omega arith)
+    (statesFrom n d (suc t) (suc (suc line)) (undoneFalse d t vs″) rest′)
     (states-place n d (suc t) (suc (suc line)) (undoneFalse d t vs″) rest′)))

@@ -63,7 +63,8 @@ pub fn read_input(input: &[u8]) -> Input
     ensures answers { λ r. ⌜ historyReplyOf (r .answer) ≡ historyReplied (recordedIn (now (input .entry))) ⌝ }
     ensures description { λ r. ⌜ r .description ≡ recordOf (described 64 (now (input .entry))) ⌝ }
     ensures laws { λ r. ⌜ r .laws ≡ lawsLeft (described 64 (now (input .entry))) noLaws ⌝ }
-    ensures atoms { λ r. ⌜ (let d = recordOf (described 64 (now (input .entry))) in r .atoms ≡ atomCount (d .fluents) (d .actions) (d .horizon)) ⌝ }
+    ensures atoms { λ r. ⌜ (let d = recordOf (described 64 (now (input .entry))) in
+        r .atoms ≡ atomCount (d .fluents) (d .actions) (d .horizon)) ⌝ }
     ensures values { λ r. ⌜ take (r .atoms) (r .values) ≡ valuesLeft (recordedIn (now (input .entry))) (replicate (r .atoms) 0) ⌝ }
     ensures padded { λ r. ⌜ drop (r .atoms) (r .values) ≡ replicate (1024 - r .atoms) 0 ⌝ }
     ensures bounded { λ r. ⌜ (r .atoms ≤ 1024) × (length (r .values) ≡ 1024) ⌝ }

@@ -41,7 +41,8 @@ pub run-tells : Tells Run (Is Run) (λ ls. run-val ls ∷ [])
 run-tells = array-tells T.the-row (LL.vals T.the-type T′.the-laws) (LL.tells T.the-type T′.the-laws) 64
 
 -- the records, and the run, as a struct holds them
-each-held : (ls : List Law) (us : List Val) → shadow (each Law (T.the-row .own) ls us) → shadow (each (T.the-field .row .Denot) (T.the-field .row .own) (map (T.the-field .into) ls) us)
+each-held : (ls : List Law) (us : List Val) → shadow (each Law (T.the-row .own) ls us)
+    → shadow (each (T.the-field .row .Denot) (T.the-field .row .own) (map (T.the-field .into) ls) us)
 each-held [] [] h = tt
 each-held [] (u ∷ us) h = absurd h
 each-held (x ∷ xs) [] h = absurd h

@@ -47,11 +47,13 @@ stored-rest (suc k) n run ls low = drop-set-lt n (stored k run ls) k (getD run k
 stored-later : (j k : ℕ) (run ls : List Law) → take k (stored (k + j) run ls) ≡ take k (stored k run ls)
 unfolding stored
 stored-later zero k run ls = rw (add-zero k) refl
-stored-later (suc j) k run ls = rw (add-suc k j) (take-set-le k (stored (k + j) run ls) (k + j) (getD run (k + j) noLaw) (omega arith) ∙ stored-later j k run ls)
+stored-later (suc j) k run ls =
+    rw (add-suc k j) (take-set-le k (stored (k + j) run ls) (k + j) (getD run (k + j) noLaw) (omega arith) ∙ stored-later j k run ls)
 
 -- where they are there and fit: the first k records, and behind them what stood there
 pub stored-is : (k : ℕ) (run ls : List Law) → k ≤ length run → k ≤ length ls → stored k run ls ≡ take k run ++ drop k ls
-stored-is k run ls held room = sym (take-append-drop k (stored k run ls)) ∙ rw (stored-front k run ls held room, stored-rest k k run ls (omega arith)) refl
+stored-is k run ls held room =
+    sym (take-append-drop k (stored k run ls)) ∙ rw (stored-front k run ls held room, stored-rest k k run ls (omega arith)) refl
 
 pub gathered-front : (k : ℕ) (ls : List Law) → k ≤ 64 → k ≤ length ls → take k (gathered ls) ≡ take k ls
 unfolding noLaws
@@ -60,7 +62,8 @@ gathered-front k ls few held =
     ∙ stored-front k ls noLaws held (omega (arith, length-replicate 64 noLaw))
 
 -- where all 64 places are there and the records fit: so many records, and behind them what stood there
-pub scattered-is : (count : ℕ) (run ls : List Law) → length run ≡ 64 → count ≤ 64 → count ≤ length ls → scattered count run ls ≡ take count run ++ drop count ls
+pub scattered-is : (count : ℕ) (run ls : List Law) → length run ≡ 64 → count ≤ 64 → count ≤ length ls
+    → scattered count run ls ≡ take count run ++ drop count ls
 scattered-is count run ls all few room = ap (λ (k : ℕ). stored k run ls) (omega arith) ∙ stored-is count run ls (omega arith) room
 
 -- what is scattered fits

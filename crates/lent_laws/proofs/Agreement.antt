@@ -20,10 +20,12 @@ use Rattle.law_runs.proofs.Stored.{gathered-front}
 
 module _ (d : Description) (ls : List Law) where
   -- the same answer, whether the counts fit or not
-  agreeing : {X : Type 0} {x y : X} → (take (d .laws) (gathered ls) ≡ take (d .laws) ls → x ≡ y) → (countsFit d (length ls) ≡ false → x ≡ y) → x ≡ y
+  agreeing : {X : Type 0} {x y : X} → (take (d .laws) (gathered ls) ≡ take (d .laws) ls → x ≡ y)
+      → (countsFit d (length ls) ≡ false → x ≡ y) → x ≡ y
   agreeing fit unfit =
       ⊎-elim (λ (e : countsFit d (length ls) ≡ true).
-      let limits = counts-limits d (length ls) e in fit (gathered-front (d .laws) ls (limits .3) (limits .4))) unfit (true-or-false (countsFit d (length ls)))
+      let limits = counts-limits d (length ls) e in fit (gathered-front (d .laws) ls (limits .3) (limits .4))) unfit
+      (true-or-false (countsFit d (length ls)))
 
   pub same-outcome : (room : ℕ) → translated.outcome d (gathered ls) (length ls) room ≡ translated.outcome d ls (length ls) room
   unfolding translated.outcome badRecord
@@ -33,11 +35,13 @@ module _ (d : Description) (ls : List Law) where
   unfolding translated.tableAfter translated.outcome badRecord
   same-table table = agreeing (λ e. rw e refl) (λ e. rw e refl)
 
-  pub same-checked : (vs : List ℕ) (room : ℕ) → history.checked d (gathered ls) (length ls) vs room ≡ history.checked d ls (length ls) vs room
+  pub same-checked : (vs : List ℕ) (room : ℕ)
+      → history.checked d (gathered ls) (length ls) vs room ≡ history.checked d ls (length ls) vs room
   unfolding history.checked translated.outcome badRecord
   same-checked vs room = agreeing (λ e. rw e refl) (λ e. rw e refl)
 
-  pub same-checked-table : (vs table : List ℕ) → history.tableAfter d (gathered ls) (length ls) vs table ≡ history.tableAfter d ls (length ls) vs table
+  pub same-checked-table : (vs table : List ℕ)
+      → history.tableAfter d (gathered ls) (length ls) vs table ≡ history.tableAfter d ls (length ls) vs table
   unfolding history.tableAfter history.checked translated.outcome badRecord
   same-checked-table vs table = agreeing (λ e. rw e refl) (λ e. rw e refl)
 

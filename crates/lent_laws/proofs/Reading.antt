@@ -1,7 +1,7 @@
 -- No description is read with more laws than are lent, nor with more than 64: so the records read, stored back into the run, leave
 -- what the description reader promises, and what is left is accepted.
 -- Assumes nothing.
-use mathlib.Core.Path.{_≡_, refl, sym, _∙_, ap, subst}
+use mathlib.Core.Path.{_≡_, refl, sym, _∙_, ap}
 use mathlib.Core.List.{List, _++_}
 use Prim.Native.Nat.{ℕ, min}
 use native.Mathlib.Omega.{arith}
@@ -35,24 +35,35 @@ scattered-left ls text (answered (read d rest lines)) h =
   where
     full : length (d .laws ++ drop (length (d .laws)) (gathered ls)) ≡ 64
     full =
-        omega
-        (arith, h .limited .room, gathered-64 ls, length-append (d .laws) (drop (length (d .laws)) (gathered ls)), length-drop (length (d .laws)) (gathered ls))
+        omega (
+          arith,
+          h .limited .room,
+          gathered-64 ls,
+          length-append (d .laws) (drop (length (d .laws)) (gathered ls)),
+          length-drop (length (d .laws)) (gathered ls),
+        )
 
-pub left-stored : (ls : List Law) (text : List ℕ) (run : List Law) (count : ℕ) → run ≡ lawsLeft (described (length ls) text) (gathered ls) → count ≡ recordOf (described (length ls) text) .laws
+pub left-stored : (ls : List Law) (text : List ℕ) (run : List Law) (count : ℕ)
+    → run ≡ lawsLeft (described (length ls) text) (gathered ls) → count ≡ recordOf (described (length ls) text) .laws
     → scattered count run ls ≡ lawsLeft (described (length ls) text) ls
 left-stored ls text run count e f =
     ap (λ (k : ℕ). scattered k run ls) f ∙ ap (λ (xs : List Law). scattered (recordOf (described (length ls) text) .laws) xs ls) e
     ∙ scattered-left ls text (described (length ls) text) (bounded (length ls) text)
 
 -- what is taken is accepted, with the whole run lent
-reply-accepted : (ls : List Law) (text : List ℕ) (o : Reply Taken) → described (length ls) text ≡ o → TakesAccepted (replied text o) (recordOf o) (lawsLeft o ls)
+reply-accepted : (ls : List Law) (text : List ℕ) (o : Reply Taken) → described (length ls) text ≡ o
+    → TakesAccepted (replied text o) (recordOf o) (lawsLeft o ls)
 reply-accepted ls text (refused number place) is = tt
 reply-accepted ls text (answered (read d rest lines)) is =
     let taken = taken-accepted (length ls) text d rest lines is in
-    let left = length-drop (length (d .laws)) ls in
-    (taken .fits (drop (length (d .laws)) ls) (length (d .laws ++ drop (length (d .laws)) ls)) (omega (arith, length-append (d .laws) (drop (length (d .laws)) ls))), taken .time)
+    let left = length-drop (length (d .laws)) ls in (
+      taken .fits (drop (length (d .laws)) ls) (length (d .laws ++ drop (length (d .laws)) ls))
+          (omega (arith, length-append (d .laws) (drop (length (d .laws)) ls))),
+      taken .time,
+    )
 
 pub takes-accepted : (ls : List Law) (text : List ℕ) (reply : Reply Behind) (d : Description) (left : List Law)
-    → reply ≡ replied text (described (length ls) text) → d ≡ recordOf (described (length ls) text) → left ≡ lawsLeft (described (length ls) text) ls
+    → reply ≡ replied text (described (length ls) text) → d ≡ recordOf (described (length ls) text)
+    → left ≡ lawsLeft (described (length ls) text) ls
     → TakesAccepted reply d left
 takes-accepted ls text reply d left e f g = rw (e, f, g) (reply-accepted ls text (described (length ls) text) refl)

@@ -52,7 +52,8 @@ fn read_of(d: Described) -> Read
 
 // Reads a description's text into the run lent: the laws read, and behind them the old records. On a refusal every record stays.
 pub fn read_description(text: &[u8], laws: &mut [Law]) -> Read
-    ensures answers { λ r. ⌜ replyOf (r .answer) ≡ replied (now (text .entry)) (described (length (now (laws .entry))) (now (text .entry))) ⌝ }
+    ensures answers { λ r. ⌜ replyOf (r .answer)
+        ≡ replied (now (text .entry)) (described (length (now (laws .entry))) (now (text .entry))) ⌝ }
     ensures description { λ r. ⌜ r .description ≡ recordOf (described (length (now (laws .entry))) (now (text .entry))) ⌝ }
     ensures leaves { λ _. ⌜ now (laws .exit) ≡ lawsLeft (described (length (now (laws .entry))) (now (text .entry))) (now (laws .entry)) ⌝ }
     ensures accepted { λ r. ⌜ TakesAccepted (replyOf (r .answer)) (r .description) (now (laws .exit)) ⌝ }
@@ -66,7 +67,8 @@ pub fn read_description(text: &[u8], laws: &mut [Law]) -> Read
 pub fn translate(d: Description, laws: &[Law], table: &mut [u16]) -> Translated
     ensures answers { λ r. ⌜ outcomeOf r ≡ outcome d (now (laws .entry)) (length (now (laws .entry))) (length (now (table .entry))) ⌝ }
     ensures leaves { λ _. ⌜ now (table .exit) ≡ tableAfter d (now (laws .entry)) (length (now (laws .entry))) (now (table .entry)) ⌝ }
-    ensures demand_3 { λ _. ⌜ TranslatesExactly d (now (laws .entry)) (length (now (laws .entry))) (now (table .entry)) (now (table .exit)) ⌝ }
+    ensures demand_3 { λ _.
+        ⌜ TranslatesExactly d (now (laws .entry)) (length (now (laws .entry))) (now (table .entry)) (now (table .exit)) ⌝ }
 {
     translation::translate(d, law_runs::gather(laws), laws.len(), table)
 }
@@ -74,16 +76,22 @@ pub fn translate(d: Description, laws: &[Law], table: &mut [u16]) -> Translated
 // Checks values, one byte an atom, against the description's translation, which is left in the table unless the answer is a
 // refusal.
 pub fn check_history(d: Description, laws: &[Law], values: &[u8], table: &mut [u16]) -> Checked
-    ensures answers { λ r. ⌜ Checks.replyOf r ≡ Checks.checked d (now (laws .entry)) (length (now (laws .entry))) (now (values .entry)) (length (now (table .entry))) ⌝ }
-    ensures leaves { λ _. ⌜ now (table .exit) ≡ Checks.tableAfter d (now (laws .entry)) (length (now (laws .entry))) (now (values .entry)) (now (table .entry)) ⌝ }
-    ensures demand_3 { λ r. ⌜ PassesExactly d (now (laws .entry)) (length (now (laws .entry))) (now (values .entry)) (length (now (table .entry))) r ⌝ }
+    ensures answers { λ r. ⌜ Checks.replyOf r
+        ≡ Checks.checked d (now (laws .entry)) (length (now (laws .entry))) (now (values .entry))
+        (length (now (table .entry))) ⌝ }
+    ensures leaves { λ _.
+        ⌜ now (table .exit)
+        ≡ Checks.tableAfter d (now (laws .entry)) (length (now (laws .entry))) (now (values .entry)) (now (table .entry)) ⌝ }
+    ensures demand_3 { λ r.
+        ⌜ PassesExactly d (now (laws .entry)) (length (now (laws .entry))) (now (values .entry)) (length (now (table .entry))) r ⌝ }
 {
     history_check::check_history(d, law_runs::gather(laws), laws.len(), values, table)
 }
 
 // Reads values as a history, state by state.
 pub fn causal_reading(d: Description, laws: &[Law], values: &[u8]) -> Reading
-    ensures answers { λ r. ⌜ Readings.replyOf r ≡ Readings.reading d (now (laws .entry)) (length (now (laws .entry))) (now (values .entry)) ⌝ }
+    ensures answers { λ r. ⌜ Readings.replyOf r
+        ≡ Readings.reading d (now (laws .entry)) (length (now (laws .entry))) (now (values .entry)) ⌝ }
     ensures demand_3 { λ r. ⌜ PathExactly d (now (laws .entry)) (length (now (laws .entry))) (now (values .entry)) r ⌝ }
     ensures fault { λ r. ⌜ NamesFault d (now (laws .entry)) (length (now (laws .entry))) (now (values .entry)) r ⌝ }
 {

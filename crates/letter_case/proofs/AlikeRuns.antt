@@ -73,11 +73,13 @@ alike-length [] (y ∷ ys) a = absurd a
 alike-length (x ∷ xs) [] a = absurd a
 alike-length (x ∷ xs) (y ∷ ys) a = ap suc (alike-length xs ys (a .1))
 
-pub alike-lacks : (b : ℕ) → isLetter b ≡ false → (xs ys : List ℕ) → Alike xs ys → Each (λ x. eqb b x ≡ false) xs → Each (λ y. eqb b y ≡ false) ys
+pub alike-lacks : (b : ℕ) → isLetter b ≡ false → (xs ys : List ℕ) → Alike xs ys → Each (λ x. eqb b x ≡ false) xs
+    → Each (λ y. eqb b y ≡ false) ys
 alike-lacks b apart [] [] a h = tt
 alike-lacks b apart [] (y ∷ ys) a h = absurd a
 alike-lacks b apart (x ∷ xs) [] a h = absurd a
-alike-lacks b apart (x ∷ xs) (y ∷ ys) a h = (sym (kept y) ∙ ap (eqb b) (sym (byte-lowered x y (a .0))) ∙ kept x ∙ h .0, alike-lacks b apart xs ys (a .1) (h .1))
+alike-lacks b apart (x ∷ xs) (y ∷ ys) a h =
+    (sym (kept y) ∙ ap (eqb b) (sym (byte-lowered x y (a .0))) ∙ kept x ∙ h .0, alike-lacks b apart xs ys (a .1) (h .1))
   where
     kept : (z : ℕ) → eqb b (lowered z) ≡ eqb b z
     kept = lowered-outside (eqb b) (λ z letter. ne-eqb b z (no-letter b apart z letter))

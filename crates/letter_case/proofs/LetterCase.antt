@@ -3,7 +3,7 @@
 use mathlib.Core.Path.{_≡_, refl, sym, ap, subst, _∙_}
 use mathlib.Core.Bool.{true, false}
 use mathlib.Core.List.{List, [], _∷_, map}
-use Prim.Native.Nat.{ℕ, _-_}
+use Prim.Native.Nat.{ℕ}
 use borrow.Author.Tests.{ne-eqb}
 use lib.Dec.{eqb}
 use lib.ListN.{length}
@@ -20,7 +20,8 @@ use Rattle.letter_case.proofs.AlikeRuns.{lowers, alike-of, names-lower,
 use Rattle.letter_case.proofs.Lowered.{new-lowered, literal-lowered, head-lowered, list-lowered}
 
 -- what makes the same of lowered names and bytes reads alike
-reads-alike : {A : Type 0} (f : List (List ℕ) → List ℕ → A) → ((names : List (List ℕ)) (xs : List ℕ) → f (map (map lowered) names) (map lowered xs) ≡ f names xs)
+reads-alike : {A : Type 0} (f : List (List ℕ) → List ℕ → A)
+    → ((names : List (List ℕ)) (xs : List ℕ) → f (map (map lowered) names) (map lowered xs) ≡ f names xs)
     → (names names′ : List (List ℕ)) → AlikeNames names names′ → (xs ys : List ℕ) → Alike xs ys → f names xs ≡ f names′ ys
 reads-alike f stable names names′ n xs ys a =
     sym (stable names xs)
@@ -52,8 +53,18 @@ line-alike lent due d key uses xs ys a =
     let fluents : fluentList d xs ≡ fluentList d ys =
     reads-alike (λ names bs. listOf names 0 (d .fluents) 6 bs) (list-lowered 0 (d .fluents) 6) (d .names) (d .names) same xs ys a in
     let either : anyList d xs ≡ anyList d ys =
-    reads-alike (λ names bs. listOf names 0 (length (d .names)) 6 bs) (list-lowered 0 (length (d .names)) 6) (d .names) (d .names) same xs ys a in
-    rw (other-key key horizonKey uses refl, other-key key fluentKey uses refl, other-key key actionKey uses refl, head, code, fluents, either, end-alike d xs ys a)
+    reads-alike (λ names bs. listOf names 0 (length (d .names)) 6 bs) (list-lowered 0 (length (d .names)) 6) (d .names)
+    (d .names) same xs ys a in
+    rw (
+      other-key key horizonKey uses refl,
+      other-key key fluentKey uses refl,
+      other-key key actionKey uses refl,
+      head,
+      code,
+      fluents,
+      either,
+      end-alike d xs ys a,
+    )
 
 pub letter-case : LetterCase
 letter-case = record {

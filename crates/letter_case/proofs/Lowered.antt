@@ -4,7 +4,7 @@ use mathlib.Core.Path.{_≡_, refl, sym, ap, _∙_}
 use mathlib.Core.Bool.{cond}
 use mathlib.Core.List.{List, [], _∷_, _++_, map}
 use mathlib.Core.Option.{Option, none, some}
-use Prim.Native.Nat.{ℕ, zero, suc, _+_}
+use Prim.Native.Nat.{ℕ, zero, suc}
 use borrow.Author.Tests.{ne-eqb}
 use lib.Dec.{eqb, ltb}
 use lib.ListN.{length, take, drop, length-map}
@@ -91,11 +91,15 @@ module _ (low high most : ℕ) (names : List (List ℕ)) where
       rw (literal-lowered low high names x)
       (ap (λ next. cond (ltb (length done) most) next (Listed.refused 5)) (go (literal names low high x) (λ more. list-from more xs)))
     where
-      go : (o : Option ℕ) → ((more : List ℕ) → listFrom (map (map lowered) names) low high most more (map (map lowered) xs) ≡ listFrom names low high most more xs)
-          → added done o (λ more. listFrom (map (map lowered) names) low high most more (map (map lowered) xs)) ≡ added done o (λ more. listFrom names low high most more xs)
+      go : (o : Option ℕ)
+          → ((more : List ℕ)
+          → listFrom (map (map lowered) names) low high most more (map (map lowered) xs) ≡ listFrom names low high most more xs)
+          → added done o (λ more. listFrom (map (map lowered) names) low high most more (map (map lowered) xs))
+          ≡ added done o (λ more. listFrom names low high most more xs)
       go none later = refl
       go (some c) later = later (done ++ (c ∷ []))
 
-  pub list-lowered : (value : List ℕ) → listOf (map (map lowered) names) low high most (map lowered value) ≡ listOf names low high most value
+  pub list-lowered : (value : List ℕ)
+      → listOf (map (map lowered) names) low high most (map lowered value) ≡ listOf names low high most value
   unfolding listOf
   list-lowered value = rw (items-lowered value) (list-from [] (items value))

@@ -21,7 +21,8 @@ pub record LetterCase : Type 0 where
   -- two names are the same to the reader exactly if they differ in letter case alone
   pub same-name : (xs ys : List ℕ) → sameName xs ys ≡ true ↔ Alike xs ys
   -- a name is new, or it is no name or declared before
-  pub declarations : (names names′ : List (List ℕ)) → AlikeNames names names′ → (xs ys : List ℕ) → Alike xs ys → isNew names xs ≡ isNew names′ ys
+  pub declarations : (names names′ : List (List ℕ)) → AlikeNames names names′ → (xs ys : List ℕ) → Alike xs ys
+      → isNew names xs ≡ isNew names′ ys
   pub literals : (low high : ℕ) (names names′ : List (List ℕ)) → AlikeNames names names′ → (xs ys : List ℕ) → Alike xs ys
       → literal names low high xs ≡ literal names′ low high ys
   pub heads : (fluents : ℕ) (names names′ : List (List ℕ)) → AlikeNames names names′ → (xs ys : List ℕ) → Alike xs ys

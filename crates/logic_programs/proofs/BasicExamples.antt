@@ -10,13 +10,15 @@ use lib.Dec.{eqb}
 use borrow.Author.Tests.{eqb-true}
 use Rattle.basics.specs.Search.{Each, chosen, range}
 use Rattle.basics.proofs.Tests.{not-both, or-iff}
+use Rattle.basics.proofs.Pairs.{_&_}
 use Rattle.logic_programs.specs.Literals.{Lits, complement, setOf, holdsTrue, holdsFalse, OneValue}
 use Rattle.logic_programs.specs.Rules.{Rule}
 use Rattle.logic_programs.specs.AnswerSets.{reduct, Closed, Subset, ProperSubset, Consistent, AnswerSet, literalHeaded, IsLeastClosed}
 use Rattle.logic_programs.specs.Words.{words, rulesOf}
-use Rattle.logic_programs.specs.BasicExamples.{codes, p, ¬p, q, r, four, fourReduct, recipeRules, recipeWords, IsAnswerSet, answerSets, Reason, inconsistent, unclosed, smaller, Shown, IsOther, otherSets, DefinitionsHold}
+use Rattle.logic_programs.specs.BasicExamples.{codes, p, ¬p, q, r, four, fourReduct, recipeRules, recipeWords}
+use Rattle.logic_programs.specs.BasicExamples.{IsAnswerSet, answerSets, Reason, inconsistent, unclosed, smaller}
+use Rattle.logic_programs.specs.BasicExamples.{Shown, IsOther, otherSets, DefinitionsHold}
 
-infixr 20 _&_
 -- what the definitions compute
 
 drops : reduct four (codes (p ∷ q ∷ [])) ≡ fourReduct
@@ -39,10 +41,6 @@ complements = refl
 
 not-one : (v : ℕ) → (v ≡ 1 → ⊥) → (v ≡ 2 → ⊥) → OneValue v → ⊥
 not-one v h g o = ⊎-elim h g o
-
--- the first of a list, and the rest
-_&_ : {A B : Type 0} → A → B → A × B
-a & b = (a, b)
 
 -- what holds of each listed literal holds of each in the set
 codes-each : (P : ℕ → Type 0) (cs : List ℕ) → Each P cs → (c : ℕ) → codes cs c ≡ true → P c

@@ -17,10 +17,6 @@ complement-odd a =
     let before : 2 * a + 1 - 1 ≡ 2 * a = omega arith in
     rw (odd, before)
 
-pub complement-complement : (c : ℕ) → complement (complement c) ≡ c
-complement-complement =
-    by-parity (λ c. complement (complement c) ≡ c) (λ a. rw (complement-even, complement-odd)) (λ a. rw (complement-odd, complement-even))
-
 pub complement-below : (n c : ℕ) → c < 2 * n → complement c < 2 * n
 complement-below n =
     by-parity (λ c. c < 2 * n → complement c < 2 * n) (λ a h. rw complement-even (omega arith)) (λ a h. rw complement-odd (omega arith))

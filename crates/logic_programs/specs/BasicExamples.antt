@@ -9,7 +9,8 @@ use lib.Dec.{eqb}
 use Rattle.basics.specs.Search.{Each, chosen, range}
 use Rattle.logic_programs.specs.Literals.{Lits, complement, setOf, OneValue, noneOrBoth}
 use Rattle.logic_programs.specs.Rules.{Head, lit, falsum, Rule}
-use Rattle.logic_programs.specs.AnswerSets.{PositiveRule, reduct, Closed, ProperSubset, Consistent, AnswerSet, literalHeaded, IsLeastClosed}
+use Rattle.logic_programs.specs.AnswerSets.{PositiveRule, reduct, Closed, ProperSubset, Consistent, AnswerSet}
+use Rattle.logic_programs.specs.AnswerSets.{literalHeaded, IsLeastClosed}
 use Rattle.logic_programs.specs.Words.{words, rulesOf}
 
 -- the set of the listed literals

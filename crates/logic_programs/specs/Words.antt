@@ -1,7 +1,7 @@
 -- A rule table: each rule is a run of words, its head code (65535 for false), the count of its negated parts, the count of
 -- its plain parts, the negated parts, the plain parts.
 -- Assumes nothing.
-use mathlib.Core.Bool.{Bool, false, not, cond, _&&_, _||_}
+use mathlib.Core.Bool.{Bool, cond, _&&_, _||_}
 use mathlib.Core.List.{List, [], _∷_, _++_}
 use mathlib.Core.Option.{Option, none, some}
 use Prim.Native.Nat.{ℕ, zero, suc, _+_, _*_}

@@ -2,12 +2,9 @@
 -- Assumes nothing.
 use mathlib.Core.Path.{refl}
 use Rattle.basics.specs.Search.{Each}
+use Rattle.basics.proofs.Pairs.{_&_}
 use Rattle.number_lines.specs.Runs.{runEnd, valuesOf}
 use Rattle.number_lines.specs.Examples.{Reads, lines, Ends, runs, ValuesTaken}
-
-infixr 20 _&_
-_&_ : {A B : Type 0} → A → B → A × B
-a & b = (a, b)
 
 pub lines-read : Each Reads lines
 lines-read =

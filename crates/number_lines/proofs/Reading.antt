@@ -16,25 +16,29 @@ use Rattle.number_lines.specs.Lines.{withDigit, numbersOf, lineSize}
 -- and the stored list R
 abbrev pub Left : List ℕ → ℕ → ℕ → ℕ → List ℕ → ℕ → ℕ → List ℕ → Type 0
 Left text next value count stored C N R =
-    (count + length (numbersOf value (drop next text)) ≡ C) × ((next + lineSize (drop next text) ≡ N) × (sets stored count (numbersOf value (drop next text)) ≡ R))
+    (count + length (numbersOf value (drop next text)) ≡ C)
+    × ((next + lineSize (drop next text) ≡ N) × (sets stored count (numbersOf value (drop next text)) ≡ R))
 
 module _ (text : List ℕ) (next value count : ℕ) (stored : List ℕ) {C N : ℕ} {R : List ℕ} where
   -- byte 10 ends the line
-  pub line-end : {after : List ℕ} → next < length text → Left text next value count stored C N R → getD text next 0 ≡ 10 → after ≡ set stored count value
+  pub line-end : {after : List ℕ} → next < length text → Left text next value count stored C N R → getD text next 0 ≡ 10
+      → after ≡ set stored count value
       → (count + 1 ≡ C) × ((next + 1 ≡ N) × (after ≡ R))
   line-end more left byte is =
       let now = rw (drop-cons text next 0 more, eq-eqb _ _ byte) at left in
       (now .0, (now .1 .0, is ∙ now .1 .1))
 
   -- byte 32 ends a number
-  pub number-end : {after : List ℕ} → next < length text → Left text next value count stored C N R → getD text next 0 ≡ 32 → after ≡ set stored count value
+  pub number-end : {after : List ℕ} → next < length text → Left text next value count stored C N R
+      → getD text next 0 ≡ 32 → after ≡ set stored count value
       → Left text (next + 1) 0 (count + 1) after C N R
   number-end more left byte is =
       let now = rw (drop-cons text next 0 more, byte) at left in
       rw (is, add-one next, add-one count) (omega (arith, now .0), (omega (arith, now .1 .0), now .1 .1))
 
   -- any other is a digit
-  pub digit-read : {begun : ℕ} → next < length text → Left text next value count stored C N R → (getD text next 0 ≡ 10 → ⊥) → (getD text next 0 ≡ 32 → ⊥)
+  pub digit-read : {begun : ℕ} → next < length text → Left text next value count stored C N R
+      → (getD text next 0 ≡ 10 → ⊥) → (getD text next 0 ≡ 32 → ⊥)
       → begun ≡ withDigit value (getD text next 0) → Left text (next + 1) begun count stored C N R
   digit-read more left no-end no-space is =
       let now = rw (drop-cons text next 0 more, ne-eqb _ _ no-end, ne-eqb _ _ no-space) at left in

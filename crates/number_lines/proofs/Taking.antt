@@ -28,7 +28,8 @@ module _ (ns : List ℕ) (at : ℕ) where
   unfolding runEnd
   run-within {end} found = go (leb (at + 1 + getD ns at 0) (length ns)) refl found
     where
-      go : (b : Bool) → leb (at + 1 + getD ns at 0) (length ns) ≡ b → cond b (some (at + 1 + getD ns at 0)) none ≡ some end → (at < end) × (end ≤ length ns)
+      go : (b : Bool) → leb (at + 1 + getD ns at 0) (length ns) ≡ b
+          → cond b (some (at + 1 + getD ns at 0)) none ≡ some end → (at < end) × (end ≤ length ns)
       go true e f =
           let same : at + 1 + getD ns at 0 ≡ end = cc in
           let fits : at + 1 + getD ns at 0 ≤ length ns = leb-true _ _ e in

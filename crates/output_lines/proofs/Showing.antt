@@ -24,20 +24,25 @@ reading-shown input (answered (contradicted t l)) = refl
 reading-shown input (answered (uncaused t f)) = refl
 
 -- after any answer but missing and clash the causal reading is shown
-pub otherwise-shown : (c : Checked) (r : Reply Causal) → OneOf (0 ∷ 3 ∷ 4 ∷ 5 ∷ []) (tagOf the-type c) → causalShownAfter (replyOf c) r ≡ causalShown r
+pub otherwise-shown : (c : Checked) (r : Reply Causal) → OneOf (0 ∷ 3 ∷ 4 ∷ 5 ∷ []) (tagOf the-type c)
+    → causalShownAfter (replyOf c) r ≡ causalShown r
 otherwise-shown (Refused number place) r h = refl
-otherwise-shown (Missing a) r h = absurd (⊎-elim (λ z. omega arith) (⊎-elim (λ z. omega arith) (⊎-elim (λ z. omega arith) (λ z. omega arith))) h)
-otherwise-shown (Clash a) r h = absurd (⊎-elim (λ z. omega arith) (⊎-elim (λ z. omega arith) (⊎-elim (λ z. omega arith) (λ z. omega arith))) h)
+otherwise-shown (Missing a) r h =
+    absurd (⊎-elim (λ z. omega arith) (⊎-elim (λ z. omega arith) (⊎-elim (λ z. omega arith) (λ z. omega arith))) h)
+otherwise-shown (Clash a) r h =
+    absurd (⊎-elim (λ z. omega arith) (⊎-elim (λ z. omega arith) (⊎-elim (λ z. omega arith) (λ z. omega arith))) h)
 otherwise-shown (Broken k) r h = refl
 otherwise-shown (Unfounded k) r h = refl
 otherwise-shown Passes r h = refl
 
 -- counts stand in front of every answer but a refusal
 pub checked-shown : (input counts : List ℕ) (c : Checked) (r : Reply Causal) → OneOf (1 ∷ 2 ∷ 3 ∷ 4 ∷ 5 ∷ []) (tagOf the-type c)
-    → checkedLines input counts (replyOf c) r ≡ counts ++ (verdictBytes input (verdictShown (replyOf c)) ++ causalBytes input (causalShownAfter (replyOf c) r))
+    → checkedLines input counts (replyOf c) r
+    ≡ counts ++ (verdictBytes input (verdictShown (replyOf c)) ++ causalBytes input (causalShownAfter (replyOf c) r))
 unfolding wordAt
 checked-shown input counts (Refused number place) r h =
-    absurd (⊎-elim (λ z. omega arith) (⊎-elim (λ z. omega arith) (⊎-elim (λ z. omega arith) (⊎-elim (λ z. omega arith) (λ z. omega arith)))) h)
+    absurd
+    (⊎-elim (λ z. omega arith) (⊎-elim (λ z. omega arith) (⊎-elim (λ z. omega arith) (⊎-elim (λ z. omega arith) (λ z. omega arith)))) h)
 checked-shown input counts (Missing a) r h = refl
 checked-shown input counts (Clash a) r h = refl
 checked-shown input counts (Broken k) r h = rw (reading-shown input r)

@@ -3,7 +3,7 @@
 use mathlib.Core.Path.{_≡_, refl}
 use mathlib.Core.Bool.{true, false}
 use mathlib.Core.Logic.{⊎-elim}
-use mathlib.Core.List.{List, [], _∷_}
+use mathlib.Core.List.{List, []}
 use Prim.Native.Nat.{ℕ, _+_, _-_, _*_, _≤_, _<_}
 use native.Mathlib.Omega.{arith}
 use borrow.Author.Tests.{ltb-true, ltb-false}
@@ -30,7 +30,10 @@ unfolding wordAt
 no-word k h = List·getD-eq-default words [] h
 
 pub word-short : (k : ℕ) → length (wordAt k) ≤ 12
-word-short k = ⊎-elim (λ (e : ltb k 21 ≡ true). within (row k (ltb-true k 21 e))) (λ (e : ltb k 21 ≡ false). rw (no-word k (ltb-false k 21 e)) (omega arith)) (true-or-false (ltb k 21))
+word-short k =
+    ⊎-elim (λ (e : ltb k 21 ≡ true). within (row k (ltb-true k 21 e)))
+    (λ (e : ltb k 21 ≡ false). rw (no-word k (ltb-false k 21 e)) (omega arith)) (true-or-false (ltb k 21))
   where
     within : RowAt k → length (wordAt k) ≤ 12
-    within (few, is) = rw (← is) (omega (arith, few, length-take (13 * k + 1 + getD table (13 * k) 0 - (13 * k + 1)) (drop (13 * k + 1) table)))
+    within (few, is) =
+        rw (← is) (omega (arith, few, length-take (13 * k + 1 + getD table (13 * k) 0 - (13 * k + 1)) (drop (13 * k + 1) table)))

@@ -12,8 +12,10 @@ use Rattle.output_lines.specs.declared.shown.Value.{Value}
 use Rattle.output_lines.specs.declared.shown.Value.the-variants.{Word, Number, Fluent}
 use Rattle.output_lines.specs.declared.shown.Verdict.{Verdict}
 use Rattle.output_lines.specs.declared.shown.Causal.{Causal}
-use Rattle.output_lines.specs.Writing.{outputLine, decimal, horizonWord, atomsWord, rulesWord, wordsWord, answerWord, atWord, causalWord, timeWord, itemWord, refusedWord, placeWord}
-use Rattle.output_lines.specs.Writing.{passesWord, missingWord, clashWord, brokenWord, unfoundedWord, noneWord, pathWord, contradictedWord, uncausedWord}
+use Rattle.output_lines.specs.Writing.{outputLine, decimal, horizonWord, atomsWord, rulesWord, wordsWord}
+use Rattle.output_lines.specs.Writing.{answerWord, atWord, causalWord, timeWord, itemWord, refusedWord, placeWord}
+use Rattle.output_lines.specs.Writing.{passesWord, missingWord, clashWord, brokenWord, unfoundedWord, noneWord}
+use Rattle.output_lines.specs.Writing.{pathWord, contradictedWord, uncausedWord}
 
 -- the words by their numbers; a number that is no word's has no bytes
 abbrev pub words : List (List ℕ)
@@ -35,7 +37,8 @@ verdictBytes input v = outputLine (wordAt 4) (valueBytes input (v .answer)) ++ o
 
 abbrev pub causalBytes : List ℕ → Causal → List ℕ
 causalBytes input c =
-    outputLine (wordAt 6) (valueBytes input (c .causal)) ++ outputLine (wordAt 7) (valueBytes input (c .time)) ++ outputLine (wordAt 8) (valueBytes input (c .item))
+    outputLine (wordAt 6) (valueBytes input (c .causal)) ++ outputLine (wordAt 7) (valueBytes input (c .time))
+    ++ outputLine (wordAt 8) (valueBytes input (c .item))
 
 -- what is shown of the history check's answer
 abbrev pub verdictShown : Reply Finding → Verdict

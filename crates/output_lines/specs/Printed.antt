@@ -7,8 +7,10 @@ use Rattle.answer_sets.specs.Verdicts.{Verdict, clash, broken, unfounded, passe
 use Rattle.history_check.specs.Checks.{Finding, missing, judged}
 use Rattle.causal_reading.specs.Verdicts.{Causal, contradicted, uncaused, path}
 use Rattle.shown_names.specs.Shown.{shownFluent}
-use Rattle.output_lines.specs.Writing.{outputLine, decimal, horizonWord, atomsWord, rulesWord, wordsWord, answerWord, atWord, causalWord, timeWord, itemWord, refusedWord, placeWord}
-use Rattle.output_lines.specs.Writing.{passesWord, missingWord, clashWord, brokenWord, unfoundedWord, noneWord, pathWord, contradictedWord, uncausedWord}
+use Rattle.output_lines.specs.Writing.{outputLine, decimal, horizonWord, atomsWord, rulesWord, wordsWord}
+use Rattle.output_lines.specs.Writing.{answerWord, atWord, causalWord, timeWord, itemWord, refusedWord, placeWord}
+use Rattle.output_lines.specs.Writing.{passesWord, missingWord, clashWord, brokenWord, unfoundedWord, noneWord}
+use Rattle.output_lines.specs.Writing.{pathWord, contradictedWord, uncausedWord}
 
 -- a refusal prints its number and place only
 abbrev pub refusalLines : ℕ → ℕ → List ℕ
@@ -28,8 +30,10 @@ findingLines (judged v) = verdictLines v
 -- the causal verdict, its time and its item: a law's number or a fluent's name as declared
 abbrev pub causalLines : List ℕ → Causal → List ℕ
 causalLines input path = outputLine causalWord pathWord ++ outputLine timeWord [] ++ outputLine itemWord []
-causalLines input (contradicted t l) = outputLine causalWord contradictedWord ++ outputLine timeWord (decimal t) ++ outputLine itemWord (decimal l)
-causalLines input (uncaused t f) = outputLine causalWord uncausedWord ++ outputLine timeWord (decimal t) ++ outputLine itemWord (shownFluent input f)
+causalLines input (contradicted t l) =
+    outputLine causalWord contradictedWord ++ outputLine timeWord (decimal t) ++ outputLine itemWord (decimal l)
+causalLines input (uncaused t f) =
+    outputLine causalWord uncausedWord ++ outputLine timeWord (decimal t) ++ outputLine itemWord (shownFluent input f)
 
 -- no causal verdict after missing or clash
 abbrev pub noCausal : List ℕ
@@ -49,7 +53,8 @@ causalAfter input (judged passes) reply = readingLines input reply
 
 abbrev pub countLines : ℕ → ℕ → ℕ → ℕ → List ℕ
 countLines T atoms rules words =
-    outputLine horizonWord (decimal T) ++ outputLine atomsWord (decimal atoms) ++ outputLine rulesWord (decimal rules) ++ outputLine wordsWord (decimal words)
+    outputLine horizonWord (decimal T) ++ outputLine atomsWord (decimal atoms) ++ outputLine rulesWord (decimal rules)
+    ++ outputLine wordsWord (decimal words)
 
 -- the nine lines, or a refusal
 abbrev pub checkedLines : List ℕ → List ℕ → Reply Finding → Reply Causal → List ℕ

@@ -137,7 +137,8 @@ pub fn put_checked(
     checked: Checked,
     reading: Reading,
 ) -> usize
-    ensures writes { λ r. ⌜ (let ws = checkedLines (now (input .entry)) (countLines (counts .horizon) (counts .atoms) (counts .rules) (counts .words))
+    ensures writes { λ r. ⌜ (let ws =
+        checkedLines (now (input .entry)) (countLines (counts .horizon) (counts .atoms) (counts .rules) (counts .words))
         (Checks.replyOf checked) (Readings.replyOf reading) in
         (r ≡ 0 + length ws) × (now (out .exit) ≡ sets (now (out .entry)) 0 ws)) ⌝ }
     ensures bounded { λ r. ⌜ r ≤ 400 ⌝ }

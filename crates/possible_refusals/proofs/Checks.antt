@@ -1,5 +1,5 @@
--- The numbers by which the engine, the judging by formulas and, behind a description that was taken, the translation, the history check and the causal
--- reading refuse. Besides, what is known of a whole input that the readers take.
+-- The numbers by which the engine, the judging by formulas and, behind a description that was taken, the translation, the history check and
+-- the causal reading refuse. Besides, what is known of a whole input that the readers take.
 -- Assumes nothing.
 use mathlib.Core.Path.{_≡_, refl, sym, subst, _∙_}
 use mathlib.Core.Bool.{Bool, true, false}
@@ -46,13 +46,15 @@ use Rattle.possible_refusals.specs.Refusals.{among, RefusedBy, WhichRefu
 use Rattle.possible_refusals.proofs.Readers.{refused-more, described-by, history-by, input-by}
 
 -- what a search refuses, and what comes next
-or-refused : {A : Type 0} (numbers : List ℕ) (o : Option ℕ) (number : ℕ) (next : Reply A) → among number numbers ≡ true → (o ≡ none → RefusedBy numbers next)
+or-refused : {A : Type 0} (numbers : List ℕ) (o : Option ℕ) (number : ℕ) (next : Reply A) → among number numbers ≡ true
+    → (o ≡ none → RefusedBy numbers next)
     → RefusedBy numbers (orRefuse o number next)
 or-refused numbers (some place) number next e h = e
 or-refused numbers none number next e h = h refl
 
 -- 10, 11 and 12 are tested, and what comes next refuses by one of the numbers too
-tests-by : {A : Type 0} (numbers : List ℕ) (vs ws : List ℕ) (next : Reply A) → all (λ k. among k numbers) (10 ∷ 11 ∷ 12 ∷ []) ≡ true → RefusedBy numbers next
+tests-by : {A : Type 0} (numbers : List ℕ) (vs ws : List ℕ) (next : Reply A)
+    → all (λ k. among k numbers) (10 ∷ 11 ∷ 12 ∷ []) ≡ true → RefusedBy numbers next
     → RefusedBy numbers (afterTests vs ws next)
 tests-by numbers vs ws next within h =
     let (ten, (eleven, (twelve, _))) = all-each (λ k. among k numbers) (10 ∷ 11 ∷ 12 ∷ []) .0 within in
@@ -90,7 +92,8 @@ module _ (text : List ℕ) (d : Draft) (rest : List ℕ) (lines : ℕ) (is : des
   pub small-table : length (tableFor D (d .laws)) ≤ 30912
   small-table =
       let counts = accepted-counts D (d .laws) 64 fits in
-      at-most-30912 (D .fluents) (D .actions) (D .horizon) (lawsOf D (d .laws)) (counts .1) (counts .2) (accepted-horizon (D .horizon) in-time .1)
+      at-most-30912 (D .fluents) (D .actions) (D .horizon) (lawsOf D (d .laws)) (counts .1) (counts .2)
+      (accepted-horizon (D .horizon) in-time .1)
       (accepted-few D (d .laws) 64 fits) (accepted-law D (d .laws) 64 fits)
 
   pub is-written : (room : ℕ) → 30912 ≤ room
@@ -105,7 +108,8 @@ module _ (text : List ℕ) (d : Draft) (rest : List ℕ) (lines : ℕ) (is : des
   large-by room large = rw (is-written room large) tt
 
   -- the engine's refusals never come
-  finding-by : (vs : List ℕ) (room : ℕ) {a r w : ℕ} → outcome D (d .laws) 64 room ≡ answered (written a r w) → length vs ≡ a → badValue vs ≡ none
+  finding-by : (vs : List ℕ) (room : ℕ) {a r w : ℕ} → outcome D (d .laws) 64 room ≡ answered (written a r w)
+      → length vs ≡ a → badValue vs ≡ none
       → RefusedBy (9 ∷ 10 ∷ 11 ∷ []) (finding vs (tableFor D (d .laws)))
   finding-by vs room e size small = rw (finding-answered D (d .laws) 64 room e vs size small) tt
 
@@ -113,17 +117,22 @@ module _ (text : List ℕ) (d : Draft) (rest : List ℕ) (lines : ℕ) (is : des
   unfolding checked
   check-by vs room = by-outcome (outcome D (d .laws) 64 room) refl (translation-by room)
     where
-      by-outcome : (o : Reply Written) → outcome D (d .laws) 64 room ≡ o → RefusedBy (9 ∷ []) o → RefusedBy (9 ∷ 10 ∷ 11 ∷ []) (afterTranslation o vs (finding vs (tableFor D (d .laws))))
+      by-outcome : (o : Reply Written) → outcome D (d .laws) 64 room ≡ o → RefusedBy (9 ∷ []) o
+          → RefusedBy (9 ∷ 10 ∷ 11 ∷ []) (afterTranslation o vs (finding vs (tableFor D (d .laws))))
       by-outcome (refused number place) e h = refused-more {A = Written} (9 ∷ []) (9 ∷ 10 ∷ 11 ∷ []) refl (refused number place) h
       by-outcome (answered (written a r w)) e h = by-length (eqb (length vs) a) refl
         where
-          by-length : (b : Bool) → eqb (length vs) a ≡ b → RefusedBy (9 ∷ 10 ∷ 11 ∷ []) (afterTranslation (answered (written a r w)) vs (finding vs (tableFor D (d .laws))))
+          by-length : (b : Bool) → eqb (length vs) a ≡ b
+              → RefusedBy (9 ∷ 10 ∷ 11 ∷ []) (afterTranslation (answered (written a r w)) vs (finding vs (tableFor D (d .laws))))
           by-length false q = rw q refl
           by-length true q =
-              rw q (or-refused (9 ∷ 10 ∷ 11 ∷ []) (badValue vs) 11 (finding vs (tableFor D (d .laws))) refl (λ small. finding-by vs room e (eqb-true (length vs) a q) small))
+              rw q
+              (or-refused (9 ∷ 10 ∷ 11 ∷ []) (badValue vs) 11 (finding vs (tableFor D (d .laws))) refl
+              (λ small. finding-by vs room e (eqb-true (length vs) a q) small))
 
 -- a whole input that the readers take
-module _ (input : List ℕ) (d : Draft) (rest : List ℕ) (lines : ℕ) (vs : List ℕ) (is : described 64 input ≡ answered (read d rest lines)) (e : recordedIn input ≡ answered vs) where
+module _ (input : List ℕ) (d : Draft) (rest : List ℕ) (lines : ℕ) (vs : List ℕ)
+    (is : described 64 input ≡ answered (read d rest lines)) (e : recordedIn input ≡ answered vs) where
   moved-answered : (r : Reply (List ℕ)) → movedBy lines r ≡ answered vs → r ≡ answered vs
   moved-answered (refused number place) h = let z : _≡_ {A = ℕ} 0 1 = cc in absurd (omega arith)
   moved-answered (answered xs) h = h
@@ -144,7 +153,8 @@ module _ (input : List ℕ) (d : Draft) (rest : List ℕ) (lines : ℕ) (vs : Li
       subst (OfTaken (λ x. ActionsValued (x .fluents) (length (x .names) - x .fluents) (x .horizon) vs)) (sym (v .is) ∙ is) (v .acted)
 
   pub is-read : reading (descriptionOf d) (d .laws) 64 vs
-      ≡ orRefuse (first notOneValue 0 vs) 11 (answered (causalVerdict (d .fluents) (descriptionOf d .actions) (d .horizon) (lawsOf (descriptionOf d) (d .laws)) vs))
+      ≡ orRefuse (first notOneValue 0 vs) 11
+      (answered (causalVerdict (d .fluents) (descriptionOf d .actions) (d .horizon) (lawsOf (descriptionOf d) (d .laws)) vs))
   unfolding reading
   is-read = rw (fits input d rest lines is, in-time input d rest lines is, eq-eqb (length vs) (atoms d) values-count)
 

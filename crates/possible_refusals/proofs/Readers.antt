@@ -22,7 +22,8 @@ use Rattle.description_reader.specs.LineSteps as step
 use Rattle.description_reader.specs.LineSteps.{Due, horizonDue, Draft, Step, next, finish, withIf, lineStep}
 use Rattle.description_reader.specs.Descriptions.{Taken, read, afterStep, afterFirst, blank, linesFrom, described}
 use Rattle.history_reader.specs.Histories as histories
-use Rattle.history_reader.specs.Histories.{atEnd, historyEnd, listed, listLine, undoneFalse, statesFrom, atoms, recorded, byNames, readHistory}
+use Rattle.history_reader.specs.Histories.{atEnd, historyEnd, listed, listLine, undoneFalse, statesFrom, atoms}
+use Rattle.history_reader.specs.Histories.{recorded, byNames, readHistory}
 use Rattle.reader_bounds.proofs.LineCases.{chosen, list-cases, Cases, line-cases}
 use Rattle.inputs.specs.Inputs.{movedBy, afterDescription, recordedIn}
 use Rattle.possible_refusals.specs.Refusals.{among, RefusedBy}
@@ -35,7 +36,8 @@ among-more (c ∷ few) many k e h =
     ⊎-elim (λ (is : eqb k c ≡ true). rw (eqb-true k c is) (both .0)) (λ (later : among k few ≡ true). among-more few many k (both .1) later)
     (or-iff (eqb k c) (among k few) .0 h)
 
-pub refused-more : {A : Type 0} (few many : List ℕ) → all (λ c. among c many) few ≡ true → (r : Reply A) → RefusedBy few r → RefusedBy many r
+pub refused-more : {A : Type 0} (few many : List ℕ) → all (λ c. among c many) few ≡ true → (r : Reply A)
+    → RefusedBy few r → RefusedBy many r
 refused-more few many e (refused number place) h = among-more few many number e h
 refused-more few many e (answered a) h = tt
 
@@ -92,20 +94,23 @@ module _ (lent : ℕ) where
   lines-by zero line due d text = refl
   lines-by (suc fuel) line due d text = by-line (λ due′ d′ rest. lines-by fuel (suc line) due′ d′ rest) (firstLine text)
     where
-      by-step : ((due′ : Due) (d′ : Draft) (rest : List ℕ) → RefusedBy six (linesFrom fuel lent (suc line) due′ d′ rest)) → (s : Step) (rest : List ℕ) → StepBy s
+      by-step : ((due′ : Due) (d′ : Draft) (rest : List ℕ) → RefusedBy six (linesFrom fuel lent (suc line) due′ d′ rest))
+          → (s : Step) (rest : List ℕ) → StepBy s
           → RefusedBy six (afterStep s line rest (λ due′ d′ rest′. linesFrom fuel lent (suc line) due′ d′ rest′))
       by-step go (step.refused k) rest h = h
       by-step go (next due′ d′) rest h = go due′ d′ rest
       by-step go (finish d′) rest h = tt
 
-      by-line : ((due′ : Due) (d′ : Draft) (rest : List ℕ) → RefusedBy six (linesFrom fuel lent (suc line) due′ d′ rest)) → (o : Option Line)
+      by-line : ((due′ : Due) (d′ : Draft) (rest : List ℕ) → RefusedBy six (linesFrom fuel lent (suc line) due′ d′ rest))
+          → (o : Option Line)
           → RefusedBy six (afterFirst o lent due d line (λ due′ d′ rest′. linesFrom fuel lent (suc line) due′ d′ rest′))
       by-line go none = refl
       by-line go (some l) = by-step go (lineStep lent due d (l .key) (l .value)) (l .rest) (step-by lent due d (l .key) (l .value))
 
   pub described-by : (text : List ℕ) → RefusedBy six (described lent text)
   unfolding described
-  described-by text = chosen (RefusedBy six) (ltb 65535 (length text)) (λ _. refl) (λ _. lines-by (suc (length text)) 1 horizonDue blank text)
+  described-by text =
+      chosen (RefusedBy six) (ltb 65535 (length text)) (λ _. refl) (λ _. lines-by (suc (length text)) 1 horizonDue blank text)
 
 -- Histories
 
@@ -128,7 +133,8 @@ module _ (line : ℕ) where
       by-value [] e = chosen Seven (eqb (l .key) endKey) (λ _. rw e (at-end vs (l .rest))) (λ _. refl)
       by-value (b ∷ bs) e = chosen Seven (eqb (l .key) endKey) (λ _. rw e refl) (λ _. refl)
 
-  listed-by : (l : Listed) (base : ℕ) (vs : List ℕ) (go : List ℕ → Reply (List ℕ)) → ListedBy (5 ∷ 6 ∷ []) l → ((vs′ : List ℕ) → Seven (go vs′))
+  listed-by : (l : Listed) (base : ℕ) (vs : List ℕ) (go : List ℕ → Reply (List ℕ)) → ListedBy (5 ∷ 6 ∷ []) l
+      → ((vs′ : List ℕ) → Seven (go vs′))
       → Seven (listed l line base vs go)
   listed-by (lists.refused k) base vs go h later = among-more (5 ∷ 6 ∷ []) seven k refl h
   listed-by (codes cs) base vs go h later = later _
@@ -143,14 +149,17 @@ module _ (line : ℕ) where
       (λ _. refl)
 
 states-by : (n : ℕ) (d : Draft) (t line : ℕ) (vs text : List ℕ) → Seven (statesFrom n d t line vs text)
-states-by zero d t line vs text = list-line-by line d _ _ _ (firstLine text) _ vs _ (λ vs′ rest. history-end (suc line) (firstLine rest) vs′)
+states-by zero d t line vs text =
+    list-line-by line d _ _ _ (firstLine text) _ vs _ (λ vs′ rest. history-end (suc line) (firstLine rest) vs′)
 states-by (suc n) d t line vs text =
     list-line-by line d _ _ _ (firstLine text) _ vs _
     (λ vs′ rest.
-    list-line-by (suc line) d _ _ _ (firstLine rest) _ vs′ _ (λ vs″ rest′. states-by n d (suc t) (suc (suc line)) (undoneFalse d t vs″) rest′))
+    list-line-by (suc line) d _ _ _ (firstLine rest) _ vs′ _
+    (λ vs″ rest′. states-by n d (suc t) (suc (suc line)) (undoneFalse d t vs″) rest′))
 
 -- behind the test of the buffer's length
-behind-length : (d : Draft) (text : List ℕ) → Seven (cond (ltb 65535 (length text)) (refused 1 0) (statesFrom (d .horizon) d 0 1 (replicate (atoms d) 0) text))
+behind-length : (d : Draft) (text : List ℕ)
+    → Seven (cond (ltb 65535 (length text)) (refused 1 0) (statesFrom (d .horizon) d 0 1 (replicate (atoms d) 0) text))
 behind-length d text = chosen Seven (ltb 65535 (length text)) (λ _. refl) (λ _. states-by (d .horizon) d 0 1 (replicate (atoms d) 0) text)
 
 abbrev eight : List ℕ
@@ -161,7 +170,11 @@ names-by (refused number place) text room h = among-more six eight number refl h
 names-by (answered (read d rest lines)) text room h = by-room (eqb room (atoms d)) refl
   where
     by-room : (b : Bool) → eqb room (atoms d) ≡ b → RefusedBy eight (recorded d text room)
-    by-room true e = rw e (refused-more seven eight refl (cond (ltb 65535 (length text)) (refused 1 0) (statesFrom (d .horizon) d 0 1 (replicate (atoms d) 0) text)) (behind-length d text))
+    by-room true e =
+        rw e
+        (refused-more seven eight refl
+        (cond (ltb 65535 (length text)) (refused 1 0) (statesFrom (d .horizon) d 0 1 (replicate (atoms d) 0) text))
+        (behind-length d text))
     by-room false e = rw e refl
 
 pub history-by : (description text : List ℕ) (room : ℕ) → RefusedBy eight (readHistory description text room)

@@ -25,7 +25,8 @@ use Rattle.action_language.specs.Acceptance.{codesBelow, headFits, lawFits, bad
 use Rattle.text.specs.Lines.{Line, firstLine}
 use Rattle.line_values.specs.ShortLaws.{defaultLaw, inertialLaw, causesLaw, nonexecutableLaw}
 use Rattle.description_reader.specs.LineSteps as step
-use Rattle.description_reader.specs.LineSteps.{Due, horizonDue, firstFluentDue, fluentDue, actionDue, lawDue, ifDue, afterDue, byDue, Draft, Step, next, finish, withIf, withAfter, lineStep}
+use Rattle.description_reader.specs.LineSteps.{Due, horizonDue, firstFluentDue, fluentDue, actionDue, lawDue, ifDue}
+use Rattle.description_reader.specs.LineSteps.{afterDue, byDue, Draft, Step, next, finish, withIf, withAfter, lineStep}
 use Rattle.description_reader.specs.Descriptions.{Taken, read, afterStep, afterFirst, blank, linesFrom, described, descriptionOf}
 use Rattle.reader_bounds.specs.Accepts.{Tidy, Accepted, TakenAccepted, LeftAccepted}
 use Rattle.reader_bounds.proofs.LineCases.{chosen, Below, Held, Cases, line-cases}
@@ -64,7 +65,8 @@ static-fits n N h ifs head e =
 abbrev HeldAfter : ℕ → ℕ → List ℕ → Type 0
 HeldAfter n N afters = (m : ℕ) → N ≤ n + m → Held 6 (2 * (n + m)) afters
 
-dynamic-fits : (n N : ℕ) (h : Head) (ifs afters : List ℕ) → headFits n h ≡ true → Held 6 (2 * n) ifs → HeldAfter n N afters → Fitting n N (lawOf Dynamic h ifs afters)
+dynamic-fits : (n N : ℕ) (h : Head) (ifs afters : List ℕ) → headFits n h ≡ true → Held 6 (2 * n) ifs
+    → HeldAfter n N afters → Fitting n N (lawOf Dynamic h ifs afters)
 dynamic-fits n N h ifs afters head e f =
     record {
       tidy = rw (counted ifs, counted afters);
@@ -114,7 +116,8 @@ no-laws P ls e = rw e tt
 -- one line
 module _ (d : Draft) where
   -- a law is whole
-  whole-kept : (l : Law) → Each (Fitting (d .fluents) (length (d .names))) (d .laws) → (1 ≤ d .horizon) → (1 ≤ d .fluents) → Fitting (d .fluents) (length (d .names)) l
+  whole-kept : (l : Law) → Each (Fitting (d .fluents) (length (d .names))) (d .laws) → (1 ≤ d .horizon)
+      → (1 ≤ d .fluents) → Fitting (d .fluents) (length (d .names)) l
       → Kept lawDue (step.whole d l)
   whole-kept l laws time fluents f =
       record { at = (time, fluents); laws = each-append (Fitting (d .fluents) (length (d .names))) (d .laws) (l ∷ []) .1 (laws, (f, tt)) }
@@ -124,26 +127,31 @@ module _ (d : Draft) where
   any-held cs h m b = held-more (2 * length (d .names)) (2 * (d .fluents + m)) (omega arith) cs h
 
   -- a law of a head and an after-list
-  caused-fits : (h : Head) (cs : List ℕ) → headFits (d .fluents) h ≡ true → Held 6 (2 * length (d .names)) cs → Fitting (d .fluents) (length (d .names)) (causesLaw h cs)
+  caused-fits : (h : Head) (cs : List ℕ) → headFits (d .fluents) h ≡ true → Held 6 (2 * length (d .names)) cs
+      → Fitting (d .fluents) (length (d .names)) (causesLaw h cs)
   caused-fits h cs fits held = dynamic-fits (d .fluents) (length (d .names)) h [] cs fits (none-held (2 * d .fluents)) (any-held cs held)
 
   default-fits : (c : ℕ) → c < 2 * d .fluents → Fitting (d .fluents) (length (d .names)) (defaultLaw c)
-  default-fits c b = static-fits (d .fluents) (length (d .names)) (Lit c) (c ∷ []) (lt-ltb c (2 * d .fluents) b) (one-held c (2 * d .fluents) b)
+  default-fits c b =
+      static-fits (d .fluents) (length (d .names)) (Lit c) (c ∷ []) (lt-ltb c (2 * d .fluents) b) (one-held c (2 * d .fluents) b)
 
   inertial-fits : (c : ℕ) → c < 2 * d .fluents → Fitting (d .fluents) (length (d .names)) (inertialLaw c)
   inertial-fits c b =
       dynamic-fits (d .fluents) (length (d .names)) (Lit c) (c ∷ []) (c ∷ []) (lt-ltb c (2 * d .fluents) b) (one-held c (2 * d .fluents) b)
       (λ m _. one-held c (2 * (d .fluents + m)) (omega arith))
 
-  after-fits : (l : Law) (cs : List ℕ) → Half (d .fluents) l → Held 6 (2 * length (d .names)) cs → Fitting (d .fluents) (length (d .names)) (withAfter l cs)
+  after-fits : (l : Law) (cs : List ℕ) → Half (d .fluents) l → Held 6 (2 * length (d .names)) cs
+      → Fitting (d .fluents) (length (d .names)) (withAfter l cs)
   after-fits l cs half h =
       let is : lawOf Dynamic (half .head) (half .ifs) cs ≡ withAfter l cs = ap (λ x. withAfter x cs) (sym (half .is)) in
       subst (Fitting (d .fluents) (length (d .names))) is
       (dynamic-fits (d .fluents) (length (d .names)) (half .head) (half .ifs) cs (half .fits) (half .held) (any-held cs h))
 
   -- an if-list makes a static law whole, and a dynamic one half
-  with-if-kept : (l : Law) (kind : Kind) (cs : List ℕ) → Kept (ifDue l) d → Held 6 (2 * d .fluents) cs → KeptStep (withIf d kind (l .head) cs)
-  with-if-kept l Static cs k h = whole-kept _ (k .laws) (k .at .0) (k .at .1) (static-fits (d .fluents) (length (d .names)) (l .head) cs (k .at .2) h)
+  with-if-kept : (l : Law) (kind : Kind) (cs : List ℕ) → Kept (ifDue l) d → Held 6 (2 * d .fluents) cs
+      → KeptStep (withIf d kind (l .head) cs)
+  with-if-kept l Static cs k h =
+      whole-kept _ (k .laws) (k .at .0) (k .at .1) (static-fits (d .fluents) (length (d .names)) (l .head) cs (k .at .2) h)
   with-if-kept l Dynamic cs k h =
       record { at = (k .at .0, k .at .1, record { head = l .head; ifs = cs; is = refl; fits = k .at .2; held = h }); laws = k .laws }
 
@@ -164,7 +172,8 @@ module _ (d : Draft) where
         nonexecutable = λ k _ cs held. whole-kept (nonexecutableLaw cs) (k .laws) (k .at .0) (k .at .1) (caused-fits False cs refl held);
         if-list = λ l k kind cs held. with-if-kept l kind cs k held;
         after-list = λ l k cs held. whole-kept (withAfter l cs) (k .laws) (k .at .0) (k .at .1) (after-fits l cs (k .at .2) held);
-        by-list = λ l k cs held. whole-kept (causesLaw (l .head) cs) (k .laws) (k .at .0) (k .at .1) (caused-fits (l .head) cs (k .at .2) held);
+        by-list =
+            λ l k cs held. whole-kept (causesLaw (l .head) cs) (k .laws) (k .at .0) (k .at .1) (caused-fits (l .head) cs (k .at .2) held);
         ends = λ k. k;
       }
 
@@ -184,24 +193,29 @@ module _ (lent : ℕ) where
       Later : Type 0
       Later = (due′ : Due) (d′ : Draft) (rest : List ℕ) → Kept due′ d′ → KeptReply (linesFrom fuel lent (suc line) due′ d′ rest)
 
-      by-step : (s : Step) (rest : List ℕ) → KeptStep s → Later → KeptReply (afterStep s line rest (λ due′ d′ rest′. linesFrom fuel lent (suc line) due′ d′ rest′))
+      by-step : (s : Step) (rest : List ℕ) → KeptStep s → Later
+          → KeptReply (afterStep s line rest (λ due′ d′ rest′. linesFrom fuel lent (suc line) due′ d′ rest′))
       by-step (step.refused n) rest s go = tt
       by-step (next due′ d′) rest s go = go due′ d′ rest s
       by-step (finish d′) rest s go = s
 
-      by-line : (o : Option Line) → Later → KeptReply (afterFirst o lent due d line (λ due′ d′ rest. linesFrom fuel lent (suc line) due′ d′ rest))
+      by-line : (o : Option Line) → Later
+          → KeptReply (afterFirst o lent due d line (λ due′ d′ rest. linesFrom fuel lent (suc line) due′ d′ rest))
       by-line none go = tt
       by-line (some l) go = by-step (lineStep lent due d (l .key) (l .value)) (l .rest) (step-kept d lent due k (l .key) (l .value)) go
 
   text-kept : (text : List ℕ) → KeptReply (described lent text)
   unfolding described
   text-kept text =
-      chosen KeptReply (ltb 65535 (length text)) (λ _. tt) (λ _. lines-kept (suc (length text)) 1 horizonDue blank text (record { at = refl; laws = tt }))
+      chosen KeptReply (ltb 65535 (length text)) (λ _. tt)
+      (λ _. lines-kept (suc (length text)) 1 horizonDue blank text (record { at = refl; laws = tt }))
 
 -- the limits and the laws are what refusals 8 and 3 ask for
 module _ (lent : ℕ) (d : Draft) (g : Limited (min 64 lent) lawDue d) (k : Kept lawDue d) where
   counts-fit : (room : ℕ) → length (d .laws) ≤ room
-      → (leb 1 (d .fluents) && leb (d .fluents) 24 && leb (length (d .names) - d .fluents) 8 && leb (length (d .laws)) 64 && leb (length (d .laws)) room) ≡ true
+      → (leb 1 (d .fluents) && leb (d .fluents) 24 && leb (length (d .names) - d .fluents) 8
+      && leb (length (d .laws)) 64 && leb (length (d .laws)) room)
+      ≡ true
   counts-fit room h =
       rw (
         le-leb 1 (d .fluents) (k .at .1),
@@ -234,7 +248,8 @@ module _ (lent : ℕ) (d : Draft) (g : Limited (min 64 lent) lawDue d) (k : Kept
 
 pub taken-accepted : TakenAccepted
 taken-accepted lent text d rest lines e =
-    let within : BoundedReply text (min 64 lent) 65537 (answered (read d rest lines)) = subst (BoundedReply text (min 64 lent) 65537) e (bounded lent text) in
+    let within : BoundedReply text (min 64 lent) 65537 (answered (read d rest lines)) =
+    subst (BoundedReply text (min 64 lent) 65537) e (bounded lent text) in
     let kept : KeptReply (answered (read d rest lines)) = subst KeptReply e (text-kept lent text) in
     accepted lent d (within .limited) kept
 
@@ -242,4 +257,9 @@ pub left-accepted : LeftAccepted
 left-accepted lent text d rest lines e old =
     let a = taken-accepted lent text d rest lines e in
     let behind = drop (length (d .laws)) old in
-    rw e (record { lent-fits = a .fits behind lent (omega (arith, a .few)); run-fits = a .fits behind 64 (omega (arith, a .few)); time = a .time })
+    rw e
+    (record {
+      lent-fits = a .fits behind lent (omega (arith, a .few));
+      run-fits = a .fits behind 64 (omega (arith, a .few));
+      time = a .time;
+    })

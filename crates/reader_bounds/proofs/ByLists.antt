@@ -26,7 +26,8 @@ use Rattle.history_values.specs.Values.{withTrue, withFalse, withLiterals, orFa
 use Rattle.history_values.proofs.Filling.{filled-middle}
 use Rattle.history_reader.specs.Histories.{most, undoneFalse, statesFrom, atoms, recorded, byNames, readHistory}
 use Rattle.history_reader.proofs.Kept.{OfAnswer, end-keeps, list-keeps}
-use Rattle.reader_bounds.specs.ByLists.{lists, fluentValue, actionValue, valuesBy, valuesOf, HistoryLists, last, step, ByLists, ReadByLists}
+use Rattle.reader_bounds.specs.ByLists.{lists, fluentValue, actionValue, valuesBy, valuesOf, HistoryLists, last}
+use Rattle.reader_bounds.specs.ByLists.{step, ByLists, ReadByLists}
 use Rattle.reader_bounds.proofs.Drafts.{chosen, names-declared}
 
 -- a code of a name from low up to, not including, high
@@ -64,15 +65,18 @@ list-in : (names : List (List ℕ)) (low high : ℕ) (xs : List (List ℕ)) (don
     → OfCodes (InSort low high) (listFrom names low high most done xs)
 list-in names low high [] done h = h
 list-in names low high (x ∷ xs) done h =
-    chosen (OfCodes (InSort low high)) (ltb (length done) most) (λ _. by (literal names low high x) (literal-in names low high x) (λ more g. list-in names low high xs more g))
+    chosen (OfCodes (InSort low high)) (ltb (length done) most)
+    (λ _. by (literal names low high x) (literal-in names low high x) (λ more g. list-in names low high xs more g))
     (λ _. tt)
   where
-    by : (o : Option ℕ) → OfCode (InSort low high) o → ((more : List ℕ) → Each (InSort low high) more → OfCodes (InSort low high) (listFrom names low high most more xs))
+    by : (o : Option ℕ) → OfCode (InSort low high) o
+        → ((more : List ℕ) → Each (InSort low high) more → OfCodes (InSort low high) (listFrom names low high most more xs))
         → OfCodes (InSort low high) (added done o (λ more. listFrom names low high most more xs))
     by none g next = tt
     by (some c) g next = next (done ++ (c ∷ [])) (each-append (InSort low high) done (c ∷ []) .1 (h, (g, tt)))
 
-codes-in : (names : List (List ℕ)) (low high : ℕ) (value cs : List ℕ) → listOf names low high most value ≡ codes cs → Each (InSort low high) cs
+codes-in : (names : List (List ℕ)) (low high : ℕ) (value cs : List ℕ) → listOf names low high most value ≡ codes cs
+    → Each (InSort low high) cs
 unfolding listOf
 codes-in names low high value cs e = subst (OfCodes (InSort low high)) e (list-in names low high (items value) [] tt)
 
@@ -87,7 +91,8 @@ other-name c i h = (
 
 -- a value with one literal more of its name
 same-name : (c i : ℕ) → c / 2 ≡ i → (a b : Bool)
-    → cond (eqb (c % 2) 0) (withTrue (fluentValue a b)) (withFalse (fluentValue a b)) ≡ fluentValue (eqb c (2 * i) || a) (eqb c (2 * i + 1) || b)
+    → cond (eqb (c % 2) 0) (withTrue (fluentValue a b)) (withFalse (fluentValue a b))
+    ≡ fluentValue (eqb c (2 * i) || a) (eqb c (2 * i + 1) || b)
 same-name c i e a b = by (eqb (c % 2) 0) refl
   where
     true-too : (a b : Bool) → withTrue (fluentValue a b) ≡ fluentValue true b
@@ -112,7 +117,8 @@ same-name c i e a b = by (eqb (c % 2) 0) refl
         rw (ne-eqb c (2 * i) (λ g. absurd (omega arith)), eq-eqb c (2 * i + 1) odd) (false-too a b)
 
 -- values by two tests that agree on the literals of the names from i on
-values-alike : (value : Bool → Bool → ℕ) (f g : ℕ → Bool) (i k : ℕ) → ((c : ℕ) → 2 * i ≤ c → f c ≡ g c) → valuesBy value f i k ≡ valuesBy value g i k
+values-alike : (value : Bool → Bool → ℕ) (f g : ℕ → Bool) (i k : ℕ) → ((c : ℕ) → 2 * i ≤ c → f c ≡ g c)
+    → valuesBy value f i k ≡ valuesBy value g i k
 values-alike value f g i zero h = refl
 values-alike value f g i (suc k) h =
     rw (h (2 * i) (omega arith), h (2 * i + 1) (omega arith), values-alike value f g (suc i) k (λ c b. h c (omega arith)))
@@ -136,13 +142,15 @@ module _ (base : ℕ) (has : ℕ → Bool) (c : ℕ) where
       (values-alike fluentValue has more (suc i) k (λ x above. rw (ne-eqb c x (λ q. absurd (omega arith)))))
     where
       at-place : (v : ℕ) (behind : List ℕ)
-          → set (p ++ v ∷ behind) (base + i) (cond (eqb (c % 2) 0) (withTrue (getD (p ++ v ∷ behind) (base + i) 0)) (withFalse (getD (p ++ v ∷ behind) (base + i) 0)))
+          → set (p ++ v ∷ behind) (base + i)
+          (cond (eqb (c % 2) 0) (withTrue (getD (p ++ v ∷ behind) (base + i) 0)) (withFalse (getD (p ++ v ∷ behind) (base + i) 0)))
           ≡ p ++ cond (eqb (c % 2) 0) (withTrue v) (withFalse v) ∷ behind
       at-place v behind =
           rw (getD-at p v behind 0 (base + i) there) (set-at p v behind (cond (eqb (c % 2) 0) (withTrue v) (withFalse v)) (base + i) there)
 
   mark-later : (i k : ℕ) (p zs : List ℕ) → (c / 2 ≡ i → ⊥) → let v = fluentValue (has (2 * i)) (has (2 * i + 1)) in
-      withLiterals base (p ++ (v ∷ []) ++ (valuesBy fluentValue has (suc i) k ++ zs)) (c ∷ []) ≡ p ++ (v ∷ []) ++ (valuesBy fluentValue more (suc i) k ++ zs)
+      withLiterals base (p ++ (v ∷ []) ++ (valuesBy fluentValue has (suc i) k ++ zs)) (c ∷ [])
+      ≡ p ++ (v ∷ []) ++ (valuesBy fluentValue more (suc i) k ++ zs)
       → withLiterals base (p ++ (valuesBy fluentValue has i (suc k) ++ zs)) (c ∷ []) ≡ p ++ (valuesBy fluentValue more i (suc k) ++ zs)
   mark-later i k p zs differs next =
       let v = fluentValue (has (2 * i)) (has (2 * i + 1)) in
@@ -161,7 +169,9 @@ module _ (base : ℕ) (has : ℕ → Bool) (c : ℕ) where
       (λ later. mark-one (suc i) k (p ++ (v ∷ [])) zs (omega (arith, length-append p (v ∷ []))) (later, omega (arith, inside .1)))
     where
       by : (b : Bool) → eqb (c / 2) i ≡ b → let v = fluentValue (has (2 * i)) (has (2 * i + 1)) in
-          (suc i ≤ c / 2 → withLiterals base (p ++ (v ∷ []) ++ (valuesBy fluentValue has (suc i) k ++ zs)) (c ∷ []) ≡ p ++ (v ∷ []) ++ (valuesBy fluentValue more (suc i) k ++ zs))
+          (suc i ≤ c / 2
+          → withLiterals base (p ++ (v ∷ []) ++ (valuesBy fluentValue has (suc i) k ++ zs)) (c ∷ [])
+          ≡ p ++ (v ∷ []) ++ (valuesBy fluentValue more (suc i) k ++ zs))
           → withLiterals base (p ++ (valuesBy fluentValue has i (suc k) ++ zs)) (c ∷ []) ≡ p ++ (valuesBy fluentValue more i (suc k) ++ zs)
       by true e next = mark-here i k p zs there (eqb-true (c / 2) i e)
       by false e next =
@@ -208,7 +218,8 @@ mark-line base i k r p cs there inside =
 -- an act line's values filled
 fill-values : (has : ℕ → Bool) (i k : ℕ) → map orFalse (valuesBy fluentValue has i k) ≡ valuesBy actionValue has i k
 fill-values has i zero = refl
-fill-values has i (suc k) = rw (fill-values has (suc i) k) (ap (λ (v : ℕ). v ∷ valuesBy actionValue has (suc i) k) (one (has (2 * i)) (has (2 * i + 1))))
+fill-values has i (suc k) =
+    rw (fill-values has (suc i) k) (ap (λ (v : ℕ). v ∷ valuesBy actionValue has (suc i) k) (one (has (2 * i)) (has (2 * i + 1))))
   where
     one : (a b : Bool) → orFalse (fluentValue a b) ≡ actionValue a b
     one true true = refl
@@ -237,7 +248,8 @@ record From (d : Draft) (m k : ℕ) (p text values : List ℕ) : Type 0 where
 
 module _ (d : Draft) (m : ℕ) (size : length (d .names) ≡ d .fluents + m) where
   -- the values behind a state line and an act line
-  step-values : (t a : ℕ) (p cs cs′ : List ℕ) → length p ≡ t * length (d .names) → Each (InSort 0 (d .fluents)) cs → Each (InSort (d .fluents) (length (d .names))) cs′
+  step-values : (t a : ℕ) (p cs cs′ : List ℕ) → length p ≡ t * length (d .names) → Each (InSort 0 (d .fluents)) cs
+      → Each (InSort (d .fluents) (length (d .names))) cs′
       → let n = d .fluents in let base = t * length (d .names) in
       undoneFalse d t (withLiterals base (withLiterals base (p ++ replicate (n + (m + a)) 0) cs) cs′)
       ≡ p ++ valuesBy fluentValue (lists cs) 0 n ++ valuesBy actionValue (lists cs′) n m ++ replicate a 0
@@ -283,9 +295,17 @@ module _ (d : Draft) (m : ℕ) (size : length (d .names) ≡ d .fluents + m) whe
       let act = valuesBy actionValue (lists cs′) n m in
       let p′ : List ℕ = p ++ state ++ act in
       let there′ : length p′ ≡ suc t * length (d .names) =
-      omega (arith, length-append (p ++ state) act, length-append p state, length-values fluentValue (lists cs) 0 n, length-values actionValue (lists cs′) n m, suc-mul t (length (d .names))) in
+      omega (
+        arith,
+        length-append (p ++ state) act,
+        length-append p state,
+        length-values fluentValue (lists cs) 0 n,
+        length-values actionValue (lists cs′) n m,
+        suc-mul t (length (d .names)),
+      ) in
       let values = ap (λ (q : ℕ). undoneFalse d t (withLiterals base (withLiterals base (p ++ replicate q 0) cs) cs′)) whole
-      ∙ step-values t a p cs cs′ there (codes-in (d .names) 0 n (l .value) cs list) (codes-in (d .names) n (length (d .names)) (l′ .value) cs′ list′) in
+      ∙ step-values t a p cs cs′ there (codes-in (d .names) 0 n (l .value) cs list)
+      (codes-in (d .names) n (length (d .names)) (l′ .value) cs′ list′) in
       subst (λ vs. OfAnswer (From d m (suc k) p text) (statesFrom k d (suc t) (suc (suc line)) vs (l′ .rest))) (sym values)
       (answer-map (From d m k p′ (l′ .rest)) (From d m (suc k) p text)
       (λ vs f. record {
@@ -294,11 +314,13 @@ module _ (d : Draft) (m : ℕ) (size : length (d .names) ≡ d .fluents + m) whe
             (record { line = l′; is = is′; due = due′; list = list′; behind = refl }) (f .has);
         are = f .are ∙ append-assoc (p ++ state) act (valuesOf n m (f .lines)) ∙ append-assoc p state (act ++ valuesOf n m (f .lines));
       })
-      (statesFrom k d (suc t) (suc (suc line)) (p′ ++ replicate a 0) (l′ .rest)) (steps-say k (suc t) (suc (suc line)) p′ (l′ .rest) there′))))
+      (statesFrom k d (suc t) (suc (suc line)) (p′ ++ replicate a 0) (l′ .rest))
+      (steps-say k (suc t) (suc (suc line)) p′ (l′ .rest) there′))))
 
 -- ---- a history that is taken
 
-module _ (description text : List ℕ) (room : ℕ) (d : Draft) (rest : List ℕ) (lines : ℕ) (is : described 64 description ≡ answered (read d rest lines)) where
+module _ (description text : List ℕ) (room : ℕ) (d : Draft) (rest : List ℕ) (lines : ℕ)
+    (is : described 64 description ≡ answered (read d rest lines)) where
   abbrev m : ℕ
   m = length (d .names) - d .fluents
 
@@ -316,4 +338,5 @@ module _ (description text : List ℕ) (room : ℕ) (d : Draft) (rest : List ℕ
 pub read-by-lists : ReadByLists
 unfolding readHistory
 read-by-lists description text room values d rest lines is e =
-    subst (OfAnswer (ByLists d text)) (sym (ap (λ o. byNames o text room) is) ∙ e) (by-room description text room d rest lines is (eqb room (atoms d)) refl)
+    subst (OfAnswer (ByLists d text)) (sym (ap (λ o. byNames o text room) is) ∙ e)
+    (by-room description text room d rest lines is (eqb room (atoms d)) refl)

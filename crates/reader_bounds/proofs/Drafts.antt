@@ -22,7 +22,8 @@ use Rattle.spelling.specs.Spelling.{isName}
 use Rattle.spelling.proofs.Naming.{named}
 use Rattle.text.specs.Names.{absent, isNew, declaredAt}
 use Rattle.description_reader.specs.LineSteps as step
-use Rattle.description_reader.specs.LineSteps.{Due, horizonDue, firstFluentDue, fluentDue, actionDue, lawDue, ifDue, afterDue, byDue, Draft, Step, next, finish, withIf, lineStep}
+use Rattle.description_reader.specs.LineSteps.{Due, horizonDue, firstFluentDue, fluentDue, actionDue, lawDue, ifDue}
+use Rattle.description_reader.specs.LineSteps.{afterDue, byDue, Draft, Step, next, finish, withIf, lineStep}
 use Rattle.description_reader.specs.Descriptions.{Taken, read, afterStep, afterFirst, blank, linesFrom, described}
 use Rattle.reader_bounds.proofs.LineCases.{withName, Cases, line-cases}
 -- those who use this file choose too
@@ -73,10 +74,18 @@ module _ (most : ℕ) (d : Draft) where
   -- a law is whole
   law-kept : (due : Due) (l : Law) → Limited most due d → 1 + length (d .laws) ≤ most → Limited most lawDue (step.whole d l)
   law-kept due l g h =
-      record { time = g .time; few = g .few; named = g .named; actions = g .actions; short = g .short; room = omega (arith, h, length-append (d .laws) (l ∷ [])) }
+      record {
+        time = g .time;
+        few = g .few;
+        named = g .named;
+        actions = g .actions;
+        short = g .short;
+        room = omega (arith, h, length-append (d .laws) (l ∷ []));
+      }
 
   -- a new name, where the number of fluents behind it is within the limits
-  name-kept : (due due′ : Due) (fluents : ℕ) (value : List ℕ) → Limited most due d → open-laws due′ ≡ 0 → isNew (d .names) value ≡ true → fluents ≤ 24
+  name-kept : (due due′ : Due) (fluents : ℕ) (value : List ℕ) → Limited most due d → open-laws due′ ≡ 0
+      → isNew (d .names) value ≡ true → fluents ≤ 24
       → fluents ≤ length (d .names) + 1 → length (d .names) + 1 ≤ fluents + 8 → Limited most due′ (withName d fluents value)
   name-kept due due′ fluents value g none-open new few named actions =
       record {
@@ -84,7 +93,9 @@ module _ (most : ℕ) (d : Draft) where
         few = few;
         named = omega (arith, one-more, named);
         actions = omega (arith, one-more, actions);
-        short = each-append Short (d .names) (value ∷ []) .1 (g .short, (name-short value (and-iff (isName value) (absent (declaredAt (d .names) value)) .0 new .0), tt));
+        short =
+            each-append Short (d .names) (value ∷ []) .1
+            (g .short, (name-short value (and-iff (isName value) (absent (declaredAt (d .names) value)) .0 new .0), tt));
         room = omega (arith, none-open, g .room);
       }
     where
@@ -106,9 +117,13 @@ module _ (lent : ℕ) (d : Draft) (value : List ℕ) where
         no-fluent = λ g. due-kept most d fluentDue actionDue g (g .room);
         no-action = λ g. due-kept most d actionDue lawDue g (g .room);
         refusals = (tt, (tt, (tt, (tt, (tt, tt)))));
-        horizon = λ g T low high. record { time = high; few = g .few; named = g .named; actions = g .actions; short = g .short; room = g .room };
-        fluent = λ g room new. name-kept most d firstFluentDue fluentDue (suc (d .fluents)) value g refl new room (omega (arith, g .named)) (omega (arith, g .actions));
-        action = λ g room new. name-kept most d actionDue actionDue (d .fluents) value g refl new (g .few) (omega (arith, g .named)) (omega arith);
+        horizon =
+            λ g T low high. record { time = high; few = g .few; named = g .named; actions = g .actions; short = g .short; room = g .room };
+        fluent =
+            λ g room new. name-kept most d firstFluentDue fluentDue (suc (d .fluents)) value g refl new room
+            (omega (arith, g .named)) (omega (arith, g .actions));
+        action = λ g room new.
+            name-kept most d actionDue actionDue (d .fluents) value g refl new (g .few) (omega (arith, g .named)) (omega arith);
         begins = λ g room kind h _. due-kept most d lawDue (ifDue _) g (opened most d room);
         causes = λ g room h _. due-kept most d lawDue (byDue _) g (opened most d room);
         default = λ g room c _. law-kept most d lawDue _ g (opened most d room);
@@ -129,7 +144,8 @@ pub record End (rest text : List ℕ) : Type 0 where
   pub whole : text ≡ front ++ rest
 
 end-of-end : {rest middle text : List ℕ} → End rest middle → End middle text → End rest text
-end-of-end {rest} p q = record { front = q .front ++ p .front; whole = q .whole ∙ rw (p .whole) (sym (append-assoc (q .front) (p .front) rest)) }
+end-of-end {rest} p q =
+    record { front = q .front ++ p .front; whole = q .whole ∙ rw (p .whole) (sym (append-assoc (q .front) (p .front) rest)) }
 
 abbrev RestEnds : List ℕ → Option Line → Type 0
 RestEnds text none = Unit
@@ -176,30 +192,36 @@ BoundedReply text most lines (answered (read d rest last)) = Bounded text most l
 module _ (lent : ℕ) where
   -- the same of the lines that follow
   abbrev Later : ℕ → ℕ → Type 0
-  Later fuel line = (due : Due) (d : Draft) (text : List ℕ) → Limited (min 64 lent) due d → BoundedReply text (min 64 lent) (line + fuel) (linesFrom fuel lent line due d text)
+  Later fuel line =
+      (due : Due) (d : Draft) (text : List ℕ) → Limited (min 64 lent) due d
+      → BoundedReply text (min 64 lent) (line + fuel) (linesFrom fuel lent line due d text)
 
   lines-bounded : (fuel line : ℕ) → Later fuel line
   lines-bounded zero line due d text g = tt
   lines-bounded (suc fuel) line due d text g = by-line (lines-bounded fuel (suc line)) (firstLine text) (line-ends text)
     where
-      moved : (rest : List ℕ) → End rest text → (o : Reply Taken) → BoundedReply rest (min 64 lent) (suc line + fuel) o → BoundedReply text (min 64 lent) (line + suc fuel) o
+      moved : (rest : List ℕ) → End rest text → (o : Reply Taken) → BoundedReply rest (min 64 lent) (suc line + fuel) o
+          → BoundedReply text (min 64 lent) (line + suc fuel) o
       moved rest e (refused k place) t = tt
       moved rest e (answered (read d′ rest′ last)) t =
           record { limited = t .limited; behind = end-of-end (t .behind) e; counted = omega (arith, t .counted) }
 
       by-step : Later fuel (suc line) → (s : Step) (rest : List ℕ) → End rest text → LimitedStep (min 64 lent) s
-          → BoundedReply text (min 64 lent) (line + suc fuel) (afterStep s line rest (λ due′ d′ rest′. linesFrom fuel lent (suc line) due′ d′ rest′))
+          → BoundedReply text (min 64 lent) (line + suc fuel)
+          (afterStep s line rest (λ due′ d′ rest′. linesFrom fuel lent (suc line) due′ d′ rest′))
       by-step go (step.refused k) rest e s = tt
       by-step go (next due′ d′) rest e s = moved rest e (linesFrom fuel lent (suc line) due′ d′ rest) (go due′ d′ rest s)
       by-step go (finish d′) rest e s = record { limited = s; behind = e; counted = omega arith }
 
       by-line : Later fuel (suc line) → (o : Option Line) → RestEnds text o
-          → BoundedReply text (min 64 lent) (line + suc fuel) (afterFirst o lent due d line (λ due′ d′ rest. linesFrom fuel lent (suc line) due′ d′ rest))
+          → BoundedReply text (min 64 lent) (line + suc fuel)
+          (afterFirst o lent due d line (λ due′ d′ rest. linesFrom fuel lent (suc line) due′ d′ rest))
       by-line go none e = tt
       by-line go (some l) e = by-step go (lineStep lent due d (l .key) (l .value)) (l .rest) e (step-kept lent d (l .value) due g (l .key))
 
   blank-limited : Limited (min 64 lent) horizonDue blank
-  blank-limited = record { time = omega arith; few = omega arith; named = omega arith; actions = omega arith; short = tt; room = omega arith }
+  blank-limited =
+      record { time = omega arith; few = omega arith; named = omega arith; actions = omega arith; short = tt; room = omega arith }
 
   pub bounded : (text : List ℕ) → BoundedReply text (min 64 lent) 65537 (described lent text)
   unfolding described
@@ -208,10 +230,12 @@ module _ (lent : ℕ) where
       (λ small. fewer (linesFrom (suc (length text)) lent 1 horizonDue blank text) (ltb-false 65535 (length text) small)
       (lines-bounded (suc (length text)) 1 horizonDue blank text blank-limited))
     where
-      fewer : (o : Reply Taken) → length text ≤ 65535 → BoundedReply text (min 64 lent) (1 + suc (length text)) o → BoundedReply text (min 64 lent) 65537 o
+      fewer : (o : Reply Taken) → length text ≤ 65535 → BoundedReply text (min 64 lent) (1 + suc (length text)) o
+          → BoundedReply text (min 64 lent) 65537 o
       fewer (refused k place) small t = tt
       fewer (answered (read d rest last)) small t = record { limited = t .limited; behind = t .behind; counted = omega (arith, t .counted) }
 
 -- the fluents are among the names
-pub names-declared : (text : List ℕ) (d : Draft) (rest : List ℕ) (lines : ℕ) → described 64 text ≡ answered (read d rest lines) → d .fluents ≤ length (d .names)
+pub names-declared : (text : List ℕ) (d : Draft) (rest : List ℕ) (lines : ℕ)
+    → described 64 text ≡ answered (read d rest lines) → d .fluents ≤ length (d .names)
 names-declared text d rest lines is = subst (BoundedReply text (min 64 64) 65537) is (bounded 64 text) .limited .named

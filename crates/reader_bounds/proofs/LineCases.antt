@@ -31,8 +31,11 @@ use Rattle.text.specs.Lists.{Listed, codes, items, added, listFrom, listOf}
 use Rattle.line_values.specs.HorizonText.{inHorizon, horizonOf}
 use Rattle.line_values.specs.ShortLaws.{defaultLaw, inertialLaw, causesLaw, nonexecutableLaw}
 use Rattle.description_reader.specs.LineSteps as step
-use Rattle.description_reader.specs.LineSteps.{Due, horizonDue, firstFluentDue, fluentDue, actionDue, lawDue, ifDue, afterDue, byDue, Draft, startsLaw, allowed, Step, next, finish}
-use Rattle.description_reader.specs.LineSteps.{horizonLine, nameLine, litHead, readHead, begun, roomFor, whole, withIf, ifLine, withAfter, afterLine, wholeByLiteral, wholeByList, endLine, anyList, keyLine, lineStep}
+use Rattle.description_reader.specs.LineSteps.{Due, horizonDue, firstFluentDue, fluentDue, actionDue, lawDue, ifDue}
+use Rattle.description_reader.specs.LineSteps.{afterDue, byDue, Draft, startsLaw, allowed, Step, next, finish}
+use Rattle.description_reader.specs.LineSteps.{horizonLine, nameLine, litHead, readHead, begun, roomFor, whole, withIf}
+use Rattle.description_reader.specs.LineSteps.{ifLine, withAfter, afterLine, wholeByLiteral, wholeByList, endLine}
+use Rattle.description_reader.specs.LineSteps.{anyList, keyLine, lineStep}
 
 -- a choice by what its test says
 pub chosen : {A : Type 0} (P : A → Type 0) (b : Bool) {x y : A} → (b ≡ true → P x) → (b ≡ false → P y) → P (cond b x y)
@@ -69,7 +72,8 @@ module _ (names : List (List ℕ)) (low high : ℕ) (P : Option ℕ → Type 0) 
   unfolding literal
   literal-cases [] = bad
   literal-cases (b ∷ bs) =
-      chosen P (eqb b hyphen) (λ _. sort-cases 1 (omega arith) (declaredAt names bs)) (λ _. sort-cases 0 (omega arith) (declaredAt names (b ∷ bs)))
+      chosen P (eqb b hyphen) (λ _. sort-cases 1 (omega arith) (declaredAt names bs))
+      (λ _. sort-cases 0 (omega arith) (declaredAt names (b ∷ bs)))
 
 -- codes below a bound
 abbrev pub Below : ℕ → List ℕ → Type 0
@@ -80,7 +84,8 @@ pub record Held (most k : ℕ) (cs : List ℕ) : Type 0 where
   pub few : length cs ≤ most
   pub below : Below k cs
 
-module _ (names : List (List ℕ)) (low high most : ℕ) (P : Listed → Type 0) (many : P (lists.refused 5)) (bad : P (lists.refused 6)) (good : (cs : List ℕ) → Held most (2 * high) cs → P (codes cs)) where
+module _ (names : List (List ℕ)) (low high most : ℕ) (P : Listed → Type 0) (many : P (lists.refused 5))
+    (bad : P (lists.refused 6)) (good : (cs : List ℕ) → Held most (2 * high) cs → P (codes cs)) where
   items-cases : (xs : List (List ℕ)) (done : List ℕ) → Held most (2 * high) done → P (listFrom names low high most done xs)
   items-cases [] done h = good done h
   items-cases (x ∷ xs) done h =
@@ -91,7 +96,10 @@ module _ (names : List (List ℕ)) (low high most : ℕ) (P : Listed → Type 0)
     where
       one-more : (c : ℕ) → c < 2 * high → length done < most → Held most (2 * high) (done ++ (c ∷ []))
       one-more c b room =
-          record { few = omega (arith, length-append done (c ∷ [])); below = each-append (λ c′. c′ < 2 * high) done (c ∷ []) .1 (h .below, (b, tt)) }
+          record {
+            few = omega (arith, length-append done (c ∷ []));
+            below = each-append (λ c′. c′ < 2 * high) done (c ∷ []) .1 (h .below, (b, tt));
+          }
 
   pub list-cases : (value : List ℕ) → P (listOf names low high most value)
   unfolding listOf
@@ -123,19 +131,26 @@ pub record Cases (lent : ℕ) (d : Draft) (value : List ℕ) (At : Due → Type 
   pub no-action : At actionDue → At lawDue
   pub refusals : Each (λ k. P (step.refused k)) (2 ∷ 3 ∷ 4 ∷ 5 ∷ 6 ∷ [])
   pub horizon : At horizonDue → (T : ℕ) → 1 ≤ T → T ≤ 30 → P (next firstFluentDue (timed d T))
-  pub fluent : At firstFluentDue → d .fluents < 24 → isNew (d .names) value ≡ true → P (next fluentDue (withName d (suc (d .fluents)) value))
-  pub action : At actionDue → length (d .names) < d .fluents + 8 → isNew (d .names) value ≡ true → P (next actionDue (withName d (d .fluents) value))
+  pub fluent : At firstFluentDue → d .fluents < 24 → isNew (d .names) value ≡ true
+      → P (next fluentDue (withName d (suc (d .fluents)) value))
+  pub action : At actionDue → length (d .names) < d .fluents + 8 → isNew (d .names) value ≡ true
+      → P (next actionDue (withName d (d .fluents) value))
   -- a law begins in full, of either kind, or is caused by what its list will say
-  pub begins : At lawDue → length (d .laws) < min 64 lent → (kind : Kind) (h : Head) → headFits (d .fluents) h ≡ true → P (next (ifDue (lawOf kind h [] [])) d)
-  pub causes : At lawDue → length (d .laws) < min 64 lent → (h : Head) → headFits (d .fluents) h ≡ true → P (next (byDue (lawOf Dynamic h [] [])) d)
+  pub begins : At lawDue → length (d .laws) < min 64 lent → (kind : Kind) (h : Head) → headFits (d .fluents) h ≡ true
+      → P (next (ifDue (lawOf kind h [] [])) d)
+  pub causes : At lawDue → length (d .laws) < min 64 lent → (h : Head) → headFits (d .fluents) h ≡ true
+      → P (next (byDue (lawOf Dynamic h [] [])) d)
   -- a law is whole at once, by a literal or by a list
   pub default : At lawDue → length (d .laws) < min 64 lent → (c : ℕ) → c < 2 * d .fluents → P (next lawDue (whole d (defaultLaw c)))
   pub inertial : At lawDue → length (d .laws) < min 64 lent → (c : ℕ) → c < 2 * d .fluents → P (next lawDue (whole d (inertialLaw c)))
-  pub nonexecutable : At lawDue → length (d .laws) < min 64 lent → (cs : List ℕ) → Held 6 (2 * length (d .names)) cs → P (next lawDue (whole d (nonexecutableLaw cs)))
+  pub nonexecutable : At lawDue → length (d .laws) < min 64 lent → (cs : List ℕ) → Held 6 (2 * length (d .names)) cs
+      → P (next lawDue (whole d (nonexecutableLaw cs)))
   -- the list of a law that has begun
   pub if-list : (l : Law) → At (ifDue l) → (kind : Kind) (cs : List ℕ) → Held 6 (2 * d .fluents) cs → P (withIf d kind (l .head) cs)
-  pub after-list : (l : Law) → At (afterDue l) → (cs : List ℕ) → Held 6 (2 * length (d .names)) cs → P (next lawDue (whole d (withAfter l cs)))
-  pub by-list : (l : Law) → At (byDue l) → (cs : List ℕ) → Held 6 (2 * length (d .names)) cs → P (next lawDue (whole d (causesLaw (l .head) cs)))
+  pub after-list : (l : Law) → At (afterDue l) → (cs : List ℕ) → Held 6 (2 * length (d .names)) cs
+      → P (next lawDue (whole d (withAfter l cs)))
+  pub by-list : (l : Law) → At (byDue l) → (cs : List ℕ) → Held 6 (2 * length (d .names)) cs
+      → P (next lawDue (whole d (causesLaw (l .head) cs)))
   pub ends : At lawDue → P (finish d)
 
 -- a choice of two tests
@@ -150,7 +165,8 @@ module _ (lent : ℕ) (d : Draft) (value : List ℕ) (At : Due → Type 0) (P : 
   unread : P (step.refused 6)
   unread = k .refusals .1 .1 .1 .1 .0
 
-  name-line : (fits : Bool) (due : Due) (fluents : ℕ) → (fits ≡ true → isNew (d .names) value ≡ true → P (next due (withName d fluents value)))
+  name-line : (fits : Bool) (due : Due) (fluents : ℕ)
+      → (fits ≡ true → isNew (d .names) value ≡ true → P (next due (withName d fluents value)))
       → P (nameLine fits due fluents d value)
   name-line fits due fluents good =
       chosen P fits (λ room. chosen P (isNew (d .names) value) (λ new. good room new) (λ _. k .refusals .1 .1 .0)) (λ _. full)
@@ -160,7 +176,8 @@ module _ (lent : ℕ) (d : Draft) (value : List ℕ) (At : Due → Type 0) (P : 
 
   action-line : At actionDue → P (step.actionLine d value)
   action-line a =
-      name-line (ltb (length (d .names)) (d .fluents + 8)) actionDue (d .fluents) (λ room new. k .action a (ltb-true (length (d .names)) (d .fluents + 8) room) new)
+      name-line (ltb (length (d .names)) (d .fluents + 8)) actionDue (d .fluents)
+      (λ room new. k .action a (ltb-true (length (d .names)) (d .fluents + 8) room) new)
 
   end-line : At lawDue → (bs : List ℕ) → P (endLine d bs)
   end-line a [] = k .ends a
@@ -177,10 +194,13 @@ module _ (lent : ℕ) (d : Draft) (value : List ℕ) (At : Due → Type 0) (P : 
 
   literal-line : (law : ℕ → Law) → (length (d .laws) < min 64 lent → (c : ℕ) → c < 2 * d .fluents → P (next lawDue (whole d (law c))))
       → P (step.literalLine lent d law value)
-  literal-line law good = with-room _ (λ room. literal-cases (d .names) 0 (d .fluents) (λ o. P (wholeByLiteral d law o)) unread (good room) value)
+  literal-line law good =
+      with-room _ (λ room. literal-cases (d .names) 0 (d .fluents) (λ o. P (wholeByLiteral d law o)) unread (good room) value)
 
   -- a list of literals of either sort makes a law whole
-  any-list : (law : List ℕ → Law) → ((cs : List ℕ) → Held 6 (2 * length (d .names)) cs → P (next lawDue (whole d (law cs)))) → P (wholeByList d law (anyList d value))
+  any-list : (law : List ℕ → Law)
+      → ((cs : List ℕ) → Held 6 (2 * length (d .names)) cs → P (next lawDue (whole d (law cs))))
+      → P (wholeByList d law (anyList d value))
   any-list law good = list-cases (d .names) 0 (length (d .names)) 6 (λ o. P (wholeByList d law o)) full unread good value
 
   module _ (key : ℕ) where
@@ -220,12 +240,15 @@ module _ (lent : ℕ) (d : Draft) (value : List ℕ) (At : Due → Type 0) (P : 
         (end-of-laws fluentDue law)
     by-due actionDue a =
         let law = k .no-action a in
-        one-of _ (eqb key endKey) (one-of (eqb key actionKey) (startsLaw key) (new-action actionDue a) (begun-law actionDue law)) (end-of-laws actionDue law)
+        one-of _ (eqb key endKey)
+        (one-of (eqb key actionKey) (startsLaw key) (new-action actionDue a) (begun-law actionDue law))
+        (end-of-laws actionDue law)
     by-due lawDue a = one-of (startsLaw key) (eqb key endKey) (begun-law lawDue a) (end-of-laws lawDue a)
     by-due (ifDue l) a =
         is (ifDue l) ifKey (list-cases (d .names) 0 (d .fluents) 6 (λ o. P (ifLine d l o)) full unread (k .if-list l a (l .kind)) value)
     by-due (afterDue l) a =
-        is (afterDue l) afterKey (list-cases (d .names) 0 (length (d .names)) 6 (λ o. P (afterLine d l o)) full unread (k .after-list l a) value)
+        is (afterDue l) afterKey
+        (list-cases (d .names) 0 (length (d .names)) 6 (λ o. P (afterLine d l o)) full unread (k .after-list l a) value)
     by-due (byDue l) a = is (byDue l) byKey (any-list (causesLaw (l .head)) (k .by-list l a))
 
   -- what holds of all these holds of every line's step

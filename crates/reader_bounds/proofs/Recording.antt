@@ -51,8 +51,10 @@ filled-good : (n at k : ℕ) (vs : List ℕ) → Good n vs → Good n (filled at
 filled-good n at zero vs g = g
 filled-good n at (suc k) vs g =
     let v = getD vs at 0 in
-    filled-good n (suc at) k (set vs at (orFalse v))
-    (length-set vs at (orFalse v) ∙ g .0, value-set vs at (orFalse v) (chosen (λ (w : ℕ). w ≤ 3) (eqb v 0) (λ _. omega arith) (λ _. value-at vs at (g .1))) (g .1))
+    filled-good n (suc at) k (set vs at (orFalse v)) (
+      length-set vs at (orFalse v) ∙ g .0,
+      value-set vs at (orFalse v) (chosen (λ (w : ℕ). w ≤ 3) (eqb v 0) (λ _. omega arith) (λ _. value-at vs at (g .1))) (g .1),
+    )
 
 zeros-good : (n : ℕ) → Good n (replicate n 0)
 zeros-good n = (length-replicate n 0, go n)
@@ -66,14 +68,16 @@ abbrev ValuedReply : List ℕ → ℕ → Reply (List ℕ) → Type 0
 ValuedReply description room (refused number place) = Unit
 ValuedReply description room (answered vs) = Valued description room vs
 
-module _ (description text : List ℕ) (room : ℕ) (d : Draft) (rest : List ℕ) (lines : ℕ) (is : described 64 description ≡ answered (read d rest lines)) where
+module _ (description text : List ℕ) (room : ℕ) (d : Draft) (rest : List ℕ) (lines : ℕ)
+    (is : described 64 description ≡ answered (read d rest lines)) where
   abbrev m : ℕ
   m = length (d .names) - d .fluents
 
   size : length (d .names) ≡ d .fluents + m
   size = omega (arith, names-declared description d rest lines is)
 
-  lines-valued : room ≡ atoms d → (r : Reply (List ℕ)) → OfAnswer (Good (atoms d)) r → OfAnswer (ActionsValued (d .fluents) m (d .horizon)) r
+  lines-valued : room ≡ atoms d → (r : Reply (List ℕ)) → OfAnswer (Good (atoms d)) r
+      → OfAnswer (ActionsValued (d .fluents) m (d .horizon)) r
       → ValuedReply description room r
   lines-valued e (refused number place) g a = tt
   lines-valued e (answered vs) g a =
@@ -85,15 +89,18 @@ module _ (description text : List ℕ) (room : ℕ) (d : Draft) (rest : List ℕ
       rw e
       (chosen (ValuedReply description room) (ltb 65535 (length text)) (λ _. tt)
       (λ _. lines-valued (eqb-true room (atoms d) e) (statesFrom (d .horizon) d 0 1 none text)
-      (states-keep d (d .horizon) (λ t. Good (atoms d)) (λ t base vs cs g. marked-good (atoms d) base vs cs g) (λ t early vs g. filled-good (atoms d) (t * length (d .names) + d .fluents) m vs g)
+      (states-keep d (d .horizon) (λ t. Good (atoms d)) (λ t base vs cs g. marked-good (atoms d) base vs cs g)
+      (λ t early vs g. filled-good (atoms d) (t * length (d .names) + d .fluents) m vs g)
       (d .horizon) 0 1 none text (omega arith) (zeros-good (atoms d)))
       (states-act d m size (d .horizon) 1 none text (length-replicate (atoms d) 0))))
   by-room false e = rw e tt
 
-by-draft : (description text : List ℕ) (room : ℕ) (o : Reply Taken) → described 64 description ≡ o → ValuedReply description room (byNames o text room)
+by-draft : (description text : List ℕ) (room : ℕ) (o : Reply Taken) → described 64 description ≡ o
+    → ValuedReply description room (byNames o text room)
 by-draft description text room (refused number place) is = tt
 by-draft description text room (answered (read d rest lines)) is = by-room description text room d rest lines is (eqb room (atoms d)) refl
 
 pub taken-valued : TakenValued
 unfolding readHistory
-taken-valued description text room values e = subst (ValuedReply description room) e (by-draft description text room (described 64 description) refl)
+taken-valued description text room values e =
+    subst (ValuedReply description room) e (by-draft description text room (described 64 description) refl)

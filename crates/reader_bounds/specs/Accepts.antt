@@ -38,7 +38,8 @@ pub record Accepted (lent : ℕ) (d : Draft) : Type 0 where
 -- for every text that the reader takes, whatever number of laws is lent
 abbrev pub TakenAccepted : Type 0
 TakenAccepted =
-    (lent : ℕ) (text : List ℕ) (d : Draft) (rest : List ℕ) (lines : ℕ) → described lent text ≡ answered (read d rest lines) → Accepted lent d
+    (lent : ℕ) (text : List ℕ) (d : Draft) (rest : List ℕ) (lines : ℕ)
+    → described lent text ≡ answered (read d rest lines) → Accepted lent d
 
 -- the same of what the reader leaves: the record, and the run that begins with the laws read, by the number lent and by 64
 pub record LeftFits (lent : ℕ) (old : List Law) (reply : Reply Taken) : Type 0 where
@@ -48,4 +49,6 @@ pub record LeftFits (lent : ℕ) (old : List Law) (reply : Reply Taken) : Type 0
 
 abbrev pub LeftAccepted : Type 0
 LeftAccepted =
-    (lent : ℕ) (text : List ℕ) (d : Draft) (rest : List ℕ) (lines : ℕ) → described lent text ≡ answered (read d rest lines) → (old : List Law) → LeftFits lent old (described lent text)
+    (lent : ℕ) (text : List ℕ) (d : Draft) (rest : List ℕ) (lines : ℕ)
+    → described lent text ≡ answered (read d rest lines) → (old : List Law)
+    → LeftFits lent old (described lent text)

@@ -52,7 +52,8 @@ pub record LineLists (d : Draft) (key low high : ℕ) (text cs rest : List ℕ) 
 pub data HistoryLists (d : Draft) : ℕ → List ℕ → List (List ℕ) → Type 0 where
   last : (text state rest : List ℕ) → LineLists d stateKey 0 (d .fluents) text state rest → HistoryLists d zero text (state ∷ [])
   step : (k : ℕ) (text state rest act rest′ : List ℕ) (more : List (List ℕ)) → LineLists d stateKey 0 (d .fluents) text state rest
-      → LineLists d actKey (d .fluents) (length (d .names)) rest act rest′ → HistoryLists d k rest′ more → HistoryLists d (suc k) text (state ∷ act ∷ more)
+      → LineLists d actKey (d .fluents) (length (d .names)) rest act rest′ → HistoryLists d k rest′ more
+      → HistoryLists d (suc k) text (state ∷ act ∷ more)
 
 -- the values are those of the lists that the text's lines have
 pub record ByLists (d : Draft) (text values : List ℕ) : Type 0 where

@@ -27,4 +27,6 @@ pub record Valued (description : List ℕ) (room : ℕ) (values : List ℕ) : Ty
 
 -- for every history that the reader takes
 abbrev pub TakenValued : Type 0
-TakenValued = (description text : List ℕ) (room : ℕ) (values : List ℕ) → readHistory description text room ≡ answered values → Valued description room values
+TakenValued =
+    (description text : List ℕ) (room : ℕ) (values : List ℕ) → readHistory description text room ≡ answered values
+    → Valued description room values

@@ -33,7 +33,8 @@ module _ (d : Description) (ls more : List Law) (all : length ls ≡ d .laws) wh
   same-reading vs = rw same-laws
 
   pub laws-behind : (input vs : List ℕ)
-      → afterOutcome input d (ls ++ more) vs (translated.outcome d (ls ++ more) 64 room) ≡ afterOutcome input d ls vs (translated.outcome d ls 64 room)
+      → afterOutcome input d (ls ++ more) vs (translated.outcome d (ls ++ more) 64 room)
+      ≡ afterOutcome input d ls vs (translated.outcome d ls 64 room)
   laws-behind input vs = rw (same-outcome room) (by-outcome (translated.outcome d ls 64 room))
     where
       by-outcome : (o : Reply Written) → afterOutcome input d (ls ++ more) vs o ≡ afterOutcome input d ls vs o

@@ -92,7 +92,8 @@ abbrev foundOf : List ℕ → Verdict → Finding
 foundOf vs v = orElse (first noneOrBoth 0 vs) (faultAt vs) (judged v)
 
 -- an input that the readers take
-module _ (input : List ℕ) (d : Draft) (rest : List ℕ) (lines : ℕ) (vs : List ℕ) (is : described 64 input ≡ answered (read d rest lines)) (e : recordedIn input ≡ answered vs) where
+module _ (input : List ℕ) (d : Draft) (rest : List ℕ) (lines : ℕ) (vs : List ℕ)
+    (is : described 64 input ≡ answered (read d rest lines)) (e : recordedIn input ≡ answered vs) where
   abbrev D : Description
   D = descriptionOf d
 
@@ -178,11 +179,23 @@ module _ (input : List ℕ) (d : Draft) (rest : List ℕ) (lines : ℕ) (vs : Li
 
 -- one of 1 to 7
 in-seven : (k : ℕ) → among k (1 ∷ 2 ∷ 3 ∷ 4 ∷ 5 ∷ 6 ∷ 7 ∷ []) ≡ true → (1 ≤ k) × (k ≤ 7)
-in-seven k h = go (1 ∷ 2 ∷ 3 ∷ 4 ∷ 5 ∷ 6 ∷ 7 ∷ []) ((omega arith, omega arith), ((omega arith, omega arith), ((omega arith, omega arith), ((omega arith, omega arith), ((omega arith, omega arith), ((omega arith, omega arith), ((omega arith, omega arith), tt))))))) h
+in-seven k h =
+    go (1 ∷ 2 ∷ 3 ∷ 4 ∷ 5 ∷ 6 ∷ 7 ∷ []) (
+      (omega arith, omega arith),
+      (
+        (omega arith, omega arith),
+        (
+          (omega arith, omega arith),
+          ((omega arith, omega arith), ((omega arith, omega arith), ((omega arith, omega arith), ((omega arith, omega arith), tt)))),
+        ),
+      ),
+    ) h
   where
     go : (xs : List ℕ) → Each (λ x. (1 ≤ x) × (x ≤ 7)) xs → among k xs ≡ true → (1 ≤ k) × (k ≤ 7)
     go [] w q = absurd (not-both q refl)
-    go (x ∷ xs) w q = ⊎-elim (λ (s : eqb k x ≡ true). rw (eqb-true k x s) (w .0)) (λ (later : among k xs ≡ true). go xs (w .1) later) (or-iff (eqb k x) (among k xs) .0 q)
+    go (x ∷ xs) w q =
+        ⊎-elim (λ (s : eqb k x ≡ true). rw (eqb-true k x s) (w .0)) (λ (later : among k xs ≡ true). go xs (w .1) later)
+        (or-iff (eqb k x) (among k xs) .0 q)
 
 module _ (input : List ℕ) where
   says-refusal : (number place : ℕ) → recordedIn input ≡ refused number place → Refused (output input)

@@ -2,7 +2,7 @@
 -- Assumes nothing.
 use mathlib.Core.Path.{_≡_, refl, sym, ap, _∙_}
 use mathlib.Core.List.{List, _++_}
-use Prim.Native.Nat.{ℕ, _+_}
+use Prim.Native.Nat.{ℕ}
 use native.Mathlib.Nat.{zero-add}
 use lib.ListN.{length, drop}
 use lib.Seq.{sets}
@@ -39,12 +39,14 @@ laws-counted (refused number place) = refl
 laws-counted (answered (read d rest lines)) = refl
 
 module _ (input : List ℕ) where
-  pub says-refused : {number place : ℕ} → refused number place ≡ historyReplied (recordedIn input) → output input ≡ refusalLines number place
+  pub says-refused : {number place : ℕ} → refused number place ≡ historyReplied (recordedIn input)
+      → output input ≡ refusalLines number place
   unfolding output
   says-refused e = rw (history-refused (recordedIn input) e)
 
   pub says-values : {d : Description} {laws : List Law} {vs : List ℕ} (old : List ℕ) → d ≡ recordOf (described 64 input)
-      → laws ≡ lawsLeft (described 64 input) noLaws → vs ≡ valuesLeft (recordedIn input) old → answered tt ≡ historyReplied (recordedIn input)
+      → laws ≡ lawsLeft (described 64 input) noLaws → vs ≡ valuesLeft (recordedIn input) old
+      → answered tt ≡ historyReplied (recordedIn input)
       → output input ≡ afterOutcome input d laws vs (outcome d laws 64 room)
   unfolding output
   says-values {d} {laws} {vs} old dis lis vis e =

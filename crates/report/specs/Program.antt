@@ -69,7 +69,8 @@ pub record VerdictPrinted (input out : List ℕ) : Type 0 where
   -- where an atom has no value or both: the lowest such atom decides
   pub lowest-decides : (a : ℕ) → Lowest (λ i. (getD values i 0 ≡ 0) ⊎ (getD values i 0 ≡ 3)) (length values) a
       → (getD values a 0 ≡ 0 → found ≡ missing a) × (getD values a 0 ≡ 3 → found ≡ judged (clash a))
-  pub incomplete : (a : ℕ) → a < length values → (getD values a 0 ≡ 0) ⊎ (getD values a 0 ≡ 3) → (missingOrClash found ≡ true) × (causal ≡ none)
+  pub incomplete : (a : ℕ) → a < length values → (getD values a 0 ≡ 0) ⊎ (getD values a 0 ≡ 3)
+      → (missingOrClash found ≡ true) × (causal ≡ none)
   -- where every atom has one value
   pub passes-exactly : Each OneValue values → found ≡ judged passes ↔ PathOf (descriptionOf draft) (draft .laws) values
   pub path-exactly : Each OneValue values → causal ≡ some path ↔ PathOf (descriptionOf draft) (draft .laws) values

@@ -53,7 +53,8 @@ fn put_outcome(
 // Writes the output for an input from the buffer's first byte on, as far as the buffer goes, and returns how long the whole
 // output is: never more than 400 bytes.
 pub fn report(input: &[u8], out: &mut [u8]) -> usize
-    ensures writes { λ r. ⌜ (r ≡ length (output (now (input .entry)))) × (now (out .exit) ≡ sets (now (out .entry)) 0 (output (now (input .entry)))) ⌝ }
+    ensures writes { λ r. ⌜ (r ≡ length (output (now (input .entry))))
+        × (now (out .exit) ≡ sets (now (out .entry)) 0 (output (now (input .entry)))) ⌝ }
     ensures bounded { λ r. ⌜ r ≤ 400 ⌝ }
     ensures printed { λ _. ⌜ Program (now (input .entry)) (output (now (input .entry))) ⌝ }
 {

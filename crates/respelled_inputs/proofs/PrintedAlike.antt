@@ -15,9 +15,8 @@ use Rattle.description_reader.specs.Descriptions.{Taken, read, described, descr
 use Rattle.history_reader.specs.Histories.{atoms, readHistory}
 use Rattle.shown_names.specs.Shown.{shownFluent}
 use Rattle.inputs.specs.Inputs.{movedBy, afterDescription, recordedIn}
-use Rattle.output_lines.specs.Writing.{outputLine, decimal}
 use Rattle.output_lines.specs.Printed.{countLines, findingLines, causalLines, readingLines, causalAfter, checkedLines}
-use Rattle.report.specs.Output.{room, afterOutcome, lawsTaken, afterInput, output}
+use Rattle.report.specs.Output.{room, afterOutcome, afterInput, output}
 use Rattle.written_form.specs.Respelling.{Respelled, ReadAlike, both-refused, both-read}
 use Rattle.written_form.proofs.Respelled.{respelling}
 use Rattle.respelled_inputs.specs.RespelledInputs.{PrintsAlike}
@@ -40,28 +39,34 @@ module _ (input input′ : List ℕ) (shown : (f : ℕ) → shownFluent input f 
   after-alike (judged (unfounded c)) reply = reading-alike reply
   after-alike (judged passes) reply = reading-alike reply
 
-  checked-alike : (counts : List ℕ) (answer : Reply Finding) (reply : Reply Causal) → checkedLines input counts answer reply ≡ checkedLines input′ counts answer reply
+  checked-alike : (counts : List ℕ) (answer : Reply Finding) (reply : Reply Causal)
+      → checkedLines input counts answer reply ≡ checkedLines input′ counts answer reply
   checked-alike counts (refused number place) reply = refl
   checked-alike counts (answered f) reply = ap (λ bytes. counts ++ (findingLines f ++ bytes)) (after-alike f reply)
 
-  outcome-alike : (d : Description) (ls : List Law) (vs : List ℕ) (reply : Reply Written) → afterOutcome input d ls vs reply ≡ afterOutcome input′ d ls vs reply
+  outcome-alike : (d : Description) (ls : List Law) (vs : List ℕ) (reply : Reply Written)
+      → afterOutcome input d ls vs reply ≡ afterOutcome input′ d ls vs reply
   outcome-alike d ls vs (refused number place) = refl
   outcome-alike d ls vs (answered (written atoms rules words)) =
       checked-alike (countLines (d .horizon) atoms rules words) (checked d ls 64 vs room) (reading d ls 64 vs)
 
   -- the same refusal, or the same values of the history behind the description
   module _ (respelled : Respelled input input′) where
-    input-alike : (o o′ : Reply Taken) → ReadAlike o o′ → afterInput input o (afterDescription input o) ≡ afterInput input′ o′ (afterDescription input′ o′)
+    input-alike : (o o′ : Reply Taken) → ReadAlike o o′
+        → afterInput input o (afterDescription input o) ≡ afterInput input′ o′ (afterDescription input′ o′)
     input-alike o o′ (both-refused number place) = refl
     input-alike o o′ (both-read d rest rest′ lines q) =
-        ap (λ reply. afterInput input (answered (read d rest lines)) (movedBy lines reply)) (respelling .histories input input′ rest rest′ (atoms d) respelled q)
+        ap (λ reply. afterInput input (answered (read d rest lines)) (movedBy lines reply))
+        (respelling .histories input input′ rest rest′ (atoms d) respelled q)
         ∙ by-reply (movedBy lines (readHistory input′ rest′ (atoms d)))
       where
-        by-reply : (reply : Reply (List ℕ)) → afterInput input (answered (read d rest lines)) reply ≡ afterInput input′ (answered (read d rest′ lines)) reply
+        by-reply : (reply : Reply (List ℕ))
+            → afterInput input (answered (read d rest lines)) reply ≡ afterInput input′ (answered (read d rest′ lines)) reply
         by-reply (refused number place) = refl
         by-reply (answered vs) = outcome-alike (descriptionOf d) (d .laws) vs (outcome (descriptionOf d) (d .laws) 64 room)
 
 pub prints-alike : PrintsAlike
 unfolding output recordedIn
 prints-alike input input′ r =
-    input-alike input input′ (respelling .shown-fluents input input′ r) r (described 64 input) (described 64 input′) (respelling .descriptions 64 input input′ r)
+    input-alike input input′ (respelling .shown-fluents input input′ r) r (described 64 input) (described 64 input′)
+    (respelling .descriptions 64 input input′ r)

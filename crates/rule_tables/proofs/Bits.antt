@@ -102,7 +102,10 @@ in-stored ws code h d = go (eqb (d / 64) (code / 64)) refl
         )
     go false e =
         let n : d / 64 ≢ code / 64 = eqb-false (d / 64) (code / 64) e in
-        rw (getD-set-other ws (code / 64) (d / 64) (withBit (getD ws (code / 64) 0) (code % 64)) 0 n, ne-eqb code d (λ r. n (ap (λ (x : ℕ). x / 64) (sym r))))
+        rw (
+          getD-set-other ws (code / 64) (d / 64) (withBit (getD ws (code / 64) 0) (code % 64)) 0 n,
+          ne-eqb code d (λ r. n (ap (λ (x : ℕ). x / 64) (sym r))),
+        )
 
 pub length-with : (ws : List ℕ) (code : ℕ) → length (withMark ws code) ≡ length ws
 length-with ws code = length-set ws (code / 64) (withBit (getD ws (code / 64) 0) (code % 64))

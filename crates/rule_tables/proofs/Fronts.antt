@@ -36,7 +36,8 @@ module _ (X Y : Lits) (ws : List ℕ) (r : Bool) (is : r ≡ all (λ c. not (X c
   unfolding frontApplies
   applies-stop h e = rw (le-leb (ruleSize ws) (length ws) h, ← negated, not-true r e)
 
-  pub applies-go : (q : Bool) → ruleSize ws ≤ length ws → not r ≡ false → q ≡ all Y (take (3 + getD ws 1 0 + getD ws 2 0 - (3 + getD ws 1 0)) (drop (3 + getD ws 1 0) ws))
+  pub applies-go : (q : Bool) → ruleSize ws ≤ length ws → not r ≡ false
+      → q ≡ all Y (take (3 + getD ws 1 0 + getD ws 2 0 - (3 + getD ws 1 0)) (drop (3 + getD ws 1 0) ws))
       → q ≡ frontApplies X Y ws
   unfolding frontApplies
   applies-go q h e plain =

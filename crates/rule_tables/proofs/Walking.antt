@@ -41,7 +41,8 @@ rulesOf-nil = refl
 
 pub rulesOf-cons : (w : ℕ) (ws : List ℕ) → rulesOf (w ∷ ws) ≡ ruleAt (w ∷ ws) ∷ rulesOf (drop (ruleSize (w ∷ ws)) (w ∷ ws))
 unfolding rulesOf
-rulesOf-cons w ws = ap {B = List Rule} (λ rs. ruleAt (w ∷ ws) ∷ rs) (rulesIn-enough (length ws) (afterRule (w ∷ ws)) (fewer w ws (length ws) (omega arith)))
+rulesOf-cons w ws =
+    ap {B = List Rule} (λ rs. ruleAt (w ∷ ws) ∷ rs) (rulesIn-enough (length ws) (afterRule (w ∷ ws)) (fewer w ws (length ws) (omega arith)))
 
 -- a table of rules that is not at its end
 pub rules-front : (ws : List ℕ) → 0 < length ws → rulesOf ws ≡ ruleAt ws ∷ rulesOf (drop (ruleSize ws) ws)
@@ -64,7 +65,8 @@ module _ (ws : List ℕ) (h : 0 < length ws) (s : Sound ws) where
   unfolding badRuleFrom
   tested = passed (ltb (s .before) 4096) (ruleFits (s .atoms) ws) refl refl (sym (bad-front (s .atoms) (s .before) (s .at) ws h) ∙ s .fits)
     where
-      passed : (a b : Bool) → a ≡ ltb (s .before) 4096 → b ≡ ruleFits (s .atoms) ws → {next : Option ℕ} → cond (a && b) next (some (s .at)) ≡ none
+      passed : (a b : Bool) → a ≡ ltb (s .before) 4096 → b ≡ ruleFits (s .atoms) ws → {next : Option ℕ}
+          → cond (a && b) next (some (s .at)) ≡ none
           → (s .before < 4096) × (ruleFits (s .atoms) ws ≡ true) × (next ≡ none)
       passed true true few q e = (ltb-true (s .before) 4096 (sym few), sym q, e)
       passed true false few q e = absurd (let z : _≡_ {A = ℕ} 0 1 = cc in omega arith)
@@ -83,7 +85,9 @@ module _ (ws : List ℕ) (h : 0 < length ws) (s : Sound ws) where
   sound-size = fit .0
 
   pub sound-head : (getD ws 0 0 ≡ 65535 → ⊥) → getD ws 0 0 < 2048
-  sound-head literal = ⊎-elim (λ e. absurd (literal (eqb-true _ _ e))) (λ e. omega (arith, ltb-true (getD ws 0 0) (2 * s .atoms) e, s .few)) (or-iff _ _ .0 (fit .1))
+  sound-head literal =
+      ⊎-elim (λ e. absurd (literal (eqb-true _ _ e)))
+      (λ e. omega (arith, ltb-true (getD ws 0 0) (2 * s .atoms) e, s .few)) (or-iff _ _ .0 (fit .1))
 
   pub sound-rest : Sound (drop (ruleSize ws) ws)
   unfolding badRuleFrom

@@ -69,10 +69,16 @@ module _ (N : ℕ) (l : Law) (t : ℕ) where
   rule-words = rw add-one (go (l .kind))
     where
       go : (k : Kind) → ruleWords (ruleFor N k l t)
-          ≡ headWord (headAt N (byKind t (suc t) k) (l .head)) ∷ length (ifList l) ∷ length (take (byKind 0 (l .«after_count») k) (l .«after_codes»))
-          ∷ (map (λ c. complement (atTime N (byKind t (suc t) k) c)) (ifList l) ++ map (atTime N t) (take (byKind 0 (l .«after_count») k) (l .«after_codes»)))
+          ≡ headWord (headAt N (byKind t (suc t) k) (l .head)) ∷ length (ifList l)
+          ∷ length (take (byKind 0 (l .«after_count») k) (l .«after_codes»))
+          ∷ (map (λ c. complement (atTime N (byKind t (suc t) k) c)) (ifList l)
+          ++ map (atTime N t) (take (byKind 0 (l .«after_count») k) (l .«after_codes»)))
       go Static = rw (length-map (ifList l) (λ c. complement (atTime N t c)))
-      go Dynamic = rw (length-map (ifList l) (λ c. complement (atTime N (suc t) c)), length-map (take (l .«after_count») (l .«after_codes»)) (atTime N t))
+      go Dynamic =
+          rw (
+            length-map (ifList l) (λ c. complement (atTime N (suc t) c)),
+            length-map (take (l .«after_count») (l .«after_codes»)) (atTime N t),
+          )
 
   pub rule-length : length (ruleWords (ruleFor N (l .kind) l t)) ≡ 3 + length (ifList l) + length (plainList l)
   rule-length =
@@ -145,7 +151,8 @@ module _ (atom : ℕ) where
 
   pub choice-none : {i : ℕ} → ((i ≡ 0) ⊎ (i ≡ 7) → ⊥) → ((i ≡ 1) ⊎ (i ≡ 5) → ⊥) → (i < 3) ⊎ (5 ≤ i) → 0 ≡ getD choiceWords i 0
   choice-none {i} a b o =
-      go i (λ e. a (inl e)) (λ e. b (inl e)) (λ h. ⊎-elim (λ (l : i < 3). omega arith) (λ (l : 5 ≤ i). omega arith) o) (λ e. b (inr e)) (λ e. a (inr e))
+      go i (λ e. a (inl e)) (λ e. b (inl e)) (λ h. ⊎-elim (λ (l : i < 3). omega arith) (λ (l : 5 ≤ i). omega arith) o)
+      (λ e. b (inr e)) (λ e. a (inr e))
     where
       go : (k : ℕ) → (k ≡ 0 → ⊥) → (k ≡ 1 → ⊥) → ((3 ≤ k) × (k ≤ 4) → ⊥) → (k ≡ 5 → ⊥) → (k ≡ 7 → ⊥) → 0 ≡ getD choiceWords k 0
       go zero p q r s t = absurd (p refl)

@@ -19,7 +19,8 @@ use Rattle.text.specs.Lines.{Line, firstLine}
 use Rattle.text.specs.Places.{startOfLine, lineNumber}
 use Rattle.text.proofs.Placing.{next-line}
 use Rattle.description_reader.specs.LineSteps as step
-use Rattle.description_reader.specs.LineSteps.{Due, horizonDue, firstFluentDue, fluentDue, actionDue, lawDue, ifDue, afterDue, byDue, Draft, Step, next, finish, withIf, lineStep}
+use Rattle.description_reader.specs.LineSteps.{Due, horizonDue, firstFluentDue, fluentDue, actionDue, lawDue, ifDue}
+use Rattle.description_reader.specs.LineSteps.{afterDue, byDue, Draft, Step, next, finish, withIf, lineStep}
 use Rattle.description_reader.specs.Descriptions.{Taken, read, afterStep, afterFirst, blank, linesFrom, described}
 use Rattle.reader_bounds.proofs.LineCases.{chosen, timed, withName, Cases, line-cases}
 
@@ -58,7 +59,9 @@ module _ (text : List ℕ) where
     horizon-kept : (T : ℕ) → Placed horizonDue d rest → Placed firstFluentDue (timed d T) (l .rest)
     horizon-kept T p =
         record {
-          at = next-line 0 text l (ap firstLine (sym (p .at .0)) ∙ is) ∙ ap (λ ns. drop (startOfLine (suc (length ns)) text) text) (sym (p .at .1));
+          at =
+              next-line 0 text l (ap firstLine (sym (p .at .0)) ∙ is)
+              ∙ ap (λ ns. drop (startOfLine (suc (length ns)) text) text) (sym (p .at .1));
           names = p .names;
         }
 
@@ -73,7 +76,8 @@ module _ (text : List ℕ) where
       after : l .rest ≡ drop (startOfLine (suc (length (d .names ++ (l .value ∷ [])))) text) text
       after = next-line (suc (length (d .names))) text l there ∙ ap (λ n. drop (startOfLine (suc n) text) text) (sym one-more)
 
-      by-place : (i : ℕ) (b : Bool) → ltb i (length (d .names)) ≡ b → i < length (d .names ++ (l .value ∷ [])) → DeclaredAt i (getD (d .names ++ (l .value ∷ [])) i [])
+      by-place : (i : ℕ) (b : Bool) → ltb i (length (d .names)) ≡ b → i < length (d .names ++ (l .value ∷ []))
+          → DeclaredAt i (getD (d .names ++ (l .value ∷ [])) i [])
       by-place i true t b =
           let below = ltb-true i (length (d .names)) t in
           subst (DeclaredAt i) (sym (List·getD-append (d .names) (l .value ∷ []) [] i below)) (names i below)
@@ -122,19 +126,24 @@ module _ (text : List ℕ) where
   PlacedReply (answered (read d rest lines)) = AllDeclared d
 
   module _ (lent : ℕ) where
-    lines-placed : (fuel line : ℕ) (due : Due) (d : Draft) (rest : List ℕ) → Placed due d rest → PlacedReply (linesFrom fuel lent line due d rest)
+    lines-placed : (fuel line : ℕ) (due : Due) (d : Draft) (rest : List ℕ) → Placed due d rest
+        → PlacedReply (linesFrom fuel lent line due d rest)
     lines-placed zero line due d rest p = tt
-    lines-placed (suc fuel) line due d rest p = by-line (firstLine rest) refl (λ due′ d′ rest′ p′. lines-placed fuel (suc line) due′ d′ rest′ p′)
+    lines-placed (suc fuel) line due d rest p =
+        by-line (firstLine rest) refl (λ due′ d′ rest′ p′. lines-placed fuel (suc line) due′ d′ rest′ p′)
       where
         Later : Type 0
-        Later = (due′ : Due) (d′ : Draft) (rest′ : List ℕ) → Placed due′ d′ rest′ → PlacedReply (linesFrom fuel lent (suc line) due′ d′ rest′)
+        Later =
+            (due′ : Due) (d′ : Draft) (rest′ : List ℕ) → Placed due′ d′ rest′ → PlacedReply (linesFrom fuel lent (suc line) due′ d′ rest′)
 
-        by-step : (s : Step) (rest′ : List ℕ) → PlacedStep rest′ s → Later → PlacedReply (afterStep s line rest′ (λ due′ d′ rest″. linesFrom fuel lent (suc line) due′ d′ rest″))
+        by-step : (s : Step) (rest′ : List ℕ) → PlacedStep rest′ s → Later
+            → PlacedReply (afterStep s line rest′ (λ due′ d′ rest″. linesFrom fuel lent (suc line) due′ d′ rest″))
         by-step (step.refused n) rest′ s go = tt
         by-step (next due′ d′) rest′ s go = go due′ d′ rest′ s
         by-step (finish d′) rest′ s go = s
 
-        by-line : (o : Option Line) → firstLine rest ≡ o → Later → PlacedReply (afterFirst o lent due d line (λ due′ d′ rest′. linesFrom fuel lent (suc line) due′ d′ rest′))
+        by-line : (o : Option Line) → firstLine rest ≡ o → Later
+            → PlacedReply (afterFirst o lent due d line (λ due′ d′ rest′. linesFrom fuel lent (suc line) due′ d′ rest′))
         by-line none e go = tt
         by-line (some l) e go = by-step (lineStep lent due d (l .key) (l .value)) (l .rest) (step-kept d rest l e lent due p) go
 

@@ -14,7 +14,8 @@ use Rattle.text.specs.Lines.{Line}
 use Rattle.text.specs.Places.{lineNumber, startOfValue, LiesAt}
 use Rattle.description_reader.specs.LineSteps.{Draft}
 use Rattle.description_reader.specs.Descriptions.{Taken, read, described}
-use Rattle.shown_names.specs.Shown.{fluentName, actionName, shownBy, shownFluent, shownAction, fluentStart, actionStart, startBy, shownFluentStart, shownActionStart}
+use Rattle.shown_names.specs.Shown.{fluentName, actionName, shownBy, shownFluent, shownAction, fluentStart}
+use Rattle.shown_names.specs.Shown.{actionStart, startBy, shownFluentStart, shownActionStart}
 use Rattle.shown_names.proofs.Declaring.{declared-at}
 
 abbrev shows : Bool → ℕ → Reply Taken → List ℕ
@@ -34,7 +35,8 @@ part-refused text false i k place = (refl, refl)
 -- a description that is read
 module _ (text : List ℕ) (action : Bool) (d : Draft) (rest : List ℕ) (line i : ℕ) where
   pub part-no-action : action ≡ true → length (d .names) ≤ d .fluents + i → Part text action i (answered (read d rest line)) [] 0
-  part-no-action e h = rw (e, le-ltb (d .fluents + i) (length (d .names)) h) (sym (List·getD-eq-default (d .names) [] {n = d .fluents + i} h), refl)
+  part-no-action e h =
+      rw (e, le-ltb (d .fluents + i) (length (d .names)) h) (sym (List·getD-eq-default (d .names) [] {n = d .fluents + i} h), refl)
 
   pub part-action : action ≡ true → d .fluents + i < length (d .names)
       → Part text action i (answered (read d rest line)) (getD (d .names) (d .fluents + i) []) (startOfValue (suc (d .fluents + i)) text)
@@ -43,13 +45,15 @@ module _ (text : List ℕ) (action : Bool) (d : Draft) (rest : List ℕ) (line i
   pub part-no-fluent : action ≡ false → d .fluents ≤ i → Part text action i (answered (read d rest line)) [] 0
   part-no-fluent e h = rw (e, le-ltb i (d .fluents) h) (refl, refl)
 
-  pub part-fluent : action ≡ false → i < d .fluents → Part text action i (answered (read d rest line)) (getD (d .names) i []) (startOfValue (suc i) text)
+  pub part-fluent : action ≡ false → i < d .fluents
+      → Part text action i (answered (read d rest line)) (getD (d .names) i []) (startOfValue (suc i) text)
   part-fluent e h = rw (e, lt-ltb i (d .fluents) h) (refl, refl)
 
 -- a reference to that part
 module _ (text r : RefT (List ℕ)) where
   -- the value of the line behind the horizon's that stands at the name's place
-  pub value-shown : (d : Draft) (rest : List ℕ) (lines : ℕ) → described 64 (now text) ≡ answered (read d rest lines) → (i : ℕ) → i < length (d .names)
+  pub value-shown : (d : Draft) (rest : List ℕ) (lines : ℕ) → described 64 (now text) ≡ answered (read d rest lines)
+      → (i : ℕ) → i < length (d .names)
       → ((l : Line) → lineNumber (i + 1) (now text) ≡ some l → (now r ≡ l .value) × LiesAt (startOfValue (i + 1) (now text)) text r)
       → (now r ≡ getD (d .names) i []) × LiesAt (startOfValue (suc i) (now text)) text r
   value-shown d rest lines is i below gives =

@@ -10,7 +10,9 @@ ghost use Rattle.shown_names.specs.Shown.{shownFluent, shownAction, show
 // first. At most 8 actions stand behind the fluents.
 pub(crate) fn name(text: &[u8], action: bool, number: usize) -> &[u8]
     ensures { λ r. ⌜ now r ≡ cond action (shownAction (now (text .entry)) number) (shownFluent (now (text .entry)) number) ⌝ }
-    ensures { λ r. ⌜ LiesAt (cond action (shownActionStart (now (text .entry)) number) (shownFluentStart (now (text .entry)) number)) (text .entry) r ⌝ }
+    ensures { λ r. ⌜ LiesAt
+        (cond action (shownActionStart (now (text .entry)) number) (shownFluentStart (now (text .entry)) number))
+        (text .entry) r ⌝ }
 {
     let end = descriptions::read_alone(text);
     let state = end.state;

@@ -14,7 +14,8 @@ use Rattle.spelling.specs.Letters.{isCapital, isLetter, isNameByte, lowe
 use Rattle.spelling.specs.Spelling.{startsWithLetter, isName}
 
 -- a byte and what it is lowered to: a capital and the byte 32 behind it, or the same byte
-pub by-case : (P : ℕ → ℕ → Type 0) → ((b : ℕ) → 65 ≤ b → b ≤ 90 → P b (b + 32)) → ((b : ℕ) → isCapital b ≡ false → P b b) → (b : ℕ) → P b (lowered b)
+pub by-case : (P : ℕ → ℕ → Type 0) → ((b : ℕ) → 65 ≤ b → b ≤ 90 → P b (b + 32))
+    → ((b : ℕ) → isCapital b ≡ false → P b b) → (b : ℕ) → P b (lowered b)
 by-case P capital other b = go (isCapital b) refl
   where
     go : (c : Bool) → isCapital b ≡ c → P b (cond c (b + 32) b)
@@ -32,10 +33,17 @@ module _ (b : ℕ) (low : 65 ≤ b) (high : b ≤ 90) where
   no-capital = rw (le-leb 65 (b + 32) (omega arith), lt-leb (b + 32) 90 (omega arith))
 
   pub small-letter : isLetter (b + 32) ≡ true
-  small-letter = rw (le-leb 65 (b + 32) (omega arith), lt-leb (b + 32) 90 (omega arith), le-leb 97 (b + 32) (omega arith), le-leb (b + 32) 122 (omega arith))
+  small-letter =
+      rw (
+        le-leb 65 (b + 32) (omega arith),
+        lt-leb (b + 32) 90 (omega arith),
+        le-leb 97 (b + 32) (omega arith),
+        le-leb (b + 32) 122 (omega arith),
+      )
 
 pub lowered-letter : (b : ℕ) → isLetter (lowered b) ≡ isLetter b
-lowered-letter = by-case (λ b l. isLetter l ≡ isLetter b) (λ b low high. small-letter b low high ∙ sym (capital-letter b low high)) (λ b e. refl)
+lowered-letter =
+    by-case (λ b l. isLetter l ≡ isLetter b) (λ b low high. small-letter b low high ∙ sym (capital-letter b low high)) (λ b e. refl)
 
 -- a letter is a name byte
 letter-byte : (b : ℕ) → isLetter b ≡ true → isNameByte b ≡ true

@@ -1,4 +1,5 @@
--- Internal: what the functions of the crates that read texts promise each other. No promise of the readers themselves rests on it; a reader may pass it over.
+-- Internal: what the functions of the crates that read texts promise each other. No promise of the readers themselves rests on it; a reader
+-- may pass it over.
 -- Assumes nothing.
 use mathlib.Core.Bool.{Bool, cond}
 use Prim.Native.Nat.{ℕ}

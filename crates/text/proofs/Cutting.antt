@@ -85,7 +85,13 @@ module _ (text : List ℕ) (at : ℕ) (rest : List ℕ) (is : rest ≡ drop at t
 
 -- where there is no line
 pub none-fits : (text : List ℕ) (at : ℕ) → LineFits text at (noLine (length text))
-none-fits text at = record { ordered = omega arith; inside = omega arith; within = omega arith; later = λ b. absurd (omega arith); starts = λ b. absurd (omega arith) }
+none-fits text at = record {
+  ordered = omega arith;
+  inside = omega arith;
+  within = omega arith;
+  later = λ b. absurd (omega arith);
+  starts = λ b. absurd (omega arith);
+}
 
 -- the item at a place of a list, where `rest` is the list from there on
 module _ (list : List ℕ) (from : ℕ) (rest : List ℕ) (is : rest ≡ drop from list) where

@@ -7,7 +7,9 @@ use mathlib.Core.Option.{Option, some}
 use Prim.Native.Nat.{ℕ}
 use Rattle.basics.specs.Quoted.{bytes}
 use Rattle.text.specs.Bytes.{cut}
-use Rattle.text.specs.Lines.{keys, horizonKey, fluentKey, actionKey, staticKey, dynamicKey, ifKey, afterKey, stateKey, actKey, endKey, defaultKey, inertialKey, causesKey, byKey, nonexecutableKey, keyNumber, firstLine}
+use Rattle.text.specs.Lines.{keys, horizonKey, fluentKey, actionKey, staticKey, dynamicKey, ifKey, afterKey}
+use Rattle.text.specs.Lines.{stateKey, actKey, endKey, defaultKey, inertialKey, causesKey, byKey}
+use Rattle.text.specs.Lines.{nonexecutableKey, keyNumber, firstLine}
 use Rattle.text.specs.Places.{lineSize, startOfLine, valueFrom, startOfValue, lineNumber}
 use Rattle.text.specs.Names.{literal}
 use Rattle.text.specs.Lists.{refused, codes, items, listOf}
@@ -28,7 +30,8 @@ unfolding firstLine cut keyNumber
 line-read = refl
 
 -- line 1 begins at byte 7, its value at byte 11; behind the last line nothing follows
-pub line-placed : (startOfLine 1 two-lines ≡ 7) × (startOfValue 0 two-lines ≡ 3) × (startOfValue 1 two-lines ≡ 11) × (startOfLine 3 two-lines ≡ 12)
+pub line-placed : (startOfLine 1 two-lines ≡ 7) × (startOfValue 0 two-lines ≡ 3) × (startOfValue 1 two-lines ≡ 11)
+    × (startOfLine 3 two-lines ≡ 12)
 unfolding lineSize valueFrom
 line-placed = (refl, refl, refl, refl)
 

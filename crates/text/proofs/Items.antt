@@ -37,7 +37,8 @@ items-end list i h = rw (lt-leb i (length list) h)
 
 -- the items from a place on are the one there and those from the next place on
 module _ (list : List ℕ) (from : ℕ) (h : from ≤ length list) where
-  items-cut : (o : Option ℕ) → first (eqb comma) 0 (drop from list) ≡ o → itemsAt list from ≡ itemAt list from ∷ itemsAt list (nextAt list from)
+  items-cut : (o : Option ℕ) → first (eqb comma) 0 (drop from list) ≡ o
+      → itemsAt list from ≡ itemAt list from ∷ itemsAt list (nextAt list from)
   unfolding cut itemsAt itemAt nextAt
   items-cut none e =
       let past : leb (length list + 1) (length list) ≡ false = lt-leb (length list + 1) (length list) (omega arith) in

@@ -1,7 +1,7 @@
 -- The code's table of keys, 14 bytes a key, has the keys of the definition.
 -- Assumes nothing.
 use mathlib.Core.Path.{refl}
-use mathlib.Core.List.{List, [], _∷_}
+use mathlib.Core.List.{List}
 use Prim.Native.Nat.{ℕ, _<_}
 use Rattle.basics.proofs.Tables.{tableOf, Row, rows}
 use Rattle.text.specs.Lines.{keys, noKey}

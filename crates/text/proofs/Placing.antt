@@ -40,10 +40,12 @@ key-there k value rest l e = go (ltb k noKey) refl e
     go true t h = ltb-true k noKey t
     go false t h = let z : _≡_ {A = ℕ} 0 1 = cc in absurd (omega arith)
 
-module _ (text : List ℕ) (at : ℕ) (found : LineAt) (is : lineOf text found ≡ firstLine (drop at text)) (l : Line) (e : firstLine (drop at text) ≡ some l) where
+module _ (text : List ℕ) (at : ℕ) (found : LineAt) (is : lineOf text found ≡ firstLine (drop at text)) (l : Line)
+    (e : firstLine (drop at text) ≡ some l) where
   pub line-value : take (found .to - found .from) (drop (found .from) text) ≡ l .value
   unfolding lineOf
-  line-value = value-there (keyIn (found .key)) (take (found .to - found .from) (drop (found .from) text)) (drop (found .next) text) l (is ∙ e)
+  line-value =
+      value-there (keyIn (found .key)) (take (found .to - found .from) (drop (found .from) text)) (drop (found .next) text) l (is ∙ e)
 
   pub line-key : found .key < noKey
   unfolding lineOf
@@ -67,4 +69,5 @@ line-rest text l e = go (first (eqb newline) 0 text) e
     go (some i) h = valued-rest (cut equalsSign (take i text)) (drop (suc i) text) l h
 
 pub next-line : (n : ℕ) (text : List ℕ) (l : Line) → lineNumber n text ≡ some l → l .rest ≡ drop (startOfLine (suc n) text) text
-next-line n text l e = line-rest (drop (startOfLine n text) text) l e ∙ drop-drop (lineSize (drop (startOfLine n text) text)) (startOfLine n text) text
+next-line n text l e =
+    line-rest (drop (startOfLine n text) text) l e ∙ drop-drop (lineSize (drop (startOfLine n text) text)) (startOfLine n text) text

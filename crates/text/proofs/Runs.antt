@@ -16,7 +16,8 @@ module _ (xs : List ℕ) (s n : ℕ) where
 
   pub part-rest : length xs - s ≤ n → take (length xs - s) (drop s xs) ≡ take n (drop s xs)
   part-rest h =
-      take-all (length xs - s) (drop s xs) (omega (arith, length-drop s xs)) ∙ sym (take-all n (drop s xs) (omega (arith, length-drop s xs)))
+      take-all (length xs - s) (drop s xs) (omega (arith, length-drop s xs))
+      ∙ sym (take-all n (drop s xs) (omega (arith, length-drop s xs)))
 
   pub part-inside : take (s + n - s) (drop s xs) ≡ take n (drop s xs)
   part-inside = let e : s + n - s ≡ n = omega arith in rw e

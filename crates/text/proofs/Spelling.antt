@@ -67,7 +67,8 @@ found-below text names b bs i size e = go (ltb i 32) refl
         let is = mapped-found (sameName (b ∷ bs)) (λ j. nameAt text names j) 0 (names .count) i e in
         absurd (false≢true (rw (← past) at is))
 
-pub place-fits : (text : List ℕ) (names : Names) (bs : List ℕ) → length (names .lengths) ≡ 32 → PlaceFits (declaredAt (spelled text names) bs)
+pub place-fits : (text : List ℕ) (names : Names) (bs : List ℕ) → length (names .lengths) ≡ 32
+    → PlaceFits (declaredAt (spelled text names) bs)
 place-fits text names [] size = tt
 place-fits text names (b ∷ bs) size = go (first (sameName (b ∷ bs)) 0 (spelled text names)) refl
   where
@@ -104,16 +105,33 @@ map-range-snoc : {A : Type 0} (f : ℕ → A) (k n : ℕ) → map f (range k (su
 map-range-snoc f k zero = let e : k + 0 ≡ k = omega arith in rw e
 map-range-snoc f k (suc n) = let e : k + suc n ≡ suc k + n = omega arith in rw (e, map-range-snoc f (suc k) n)
 
-pub spelled-more : (text : List ℕ) (names : Names) (start size : ℕ) → names .count < length (names .starts) → names .count < length (names .lengths)
-    → spelled text (record { starts = set (names .starts) (names .count) start; lengths = set (names .lengths) (names .count) size; count = names .count + 1 })
+pub spelled-more : (text : List ℕ) (names : Names) (start size : ℕ) → names .count < length (names .starts)
+    → names .count < length (names .lengths)
+    → spelled text
+    (record {
+      starts = set (names .starts) (names .count) start;
+      lengths = set (names .lengths) (names .count) size;
+      count = names .count + 1;
+    })
     ≡ spelled text names ++ (take size (drop start text) ∷ [])
 unfolding spelled
 spelled-more text names start size h k =
-    let more : Names = record { starts = set (names .starts) (names .count) start; lengths = set (names .lengths) (names .count) size; count = names .count + 1 } in
+    let more : Names = record {
+      starts = set (names .starts) (names .count) start;
+      lengths = set (names .lengths) (names .count) size;
+      count = names .count + 1;
+    } in
     let old : (i : ℕ) → i < names .count → nameAt text more i ≡ nameAt text names i =
-    λ i below. rw (getD-set-other (names .starts) (names .count) i start 0 (λ e. absurd (omega arith)), getD-set-other (names .lengths) (names .count) i size 0 (λ e. absurd (omega arith))) in
+    λ i below. rw (
+      getD-set-other (names .starts) (names .count) i start 0 (λ e. absurd (omega arith)),
+      getD-set-other (names .lengths) (names .count) i size 0 (λ e. absurd (omega arith)),
+    ) in
     let new : nameAt text more (0 + names .count) ≡ take size (drop start text) =
-    rw (zero-add (names .count), getD-set-same (names .starts) (names .count) start 0 h, getD-set-same (names .lengths) (names .count) size 0 k) in
+    rw (
+      zero-add (names .count),
+      getD-set-same (names .starts) (names .count) start 0 h,
+      getD-set-same (names .lengths) (names .count) size 0 k,
+    ) in
     rw (add-one (names .count))
     (map-range-snoc (λ i. nameAt text more i) 0 (names .count)
     ∙ rw (new, map-range (λ i. nameAt text more i) (λ i. nameAt text names i) (names .count) 0 (names .count) old (omega arith)))
@@ -136,6 +154,7 @@ unfolding literal
 literal-small names low high [] h = tt
 literal-small names low high (x ∷ xs) h = go (eqb x 45) refl
   where
-    go : (b : Bool) → eqb x 45 ≡ b → CodeFits (cond b (inSort low high 1 (declaredAt names xs)) (inSort low high 0 (declaredAt names (x ∷ xs))))
+    go : (b : Bool) → eqb x 45 ≡ b
+        → CodeFits (cond b (inSort low high 1 (declaredAt names xs)) (inSort low high 0 (declaredAt names (x ∷ xs))))
     go true e = sort-small low high 1 (declaredAt names xs) (omega arith) h
     go false e = sort-small low high 0 (declaredAt names (x ∷ xs)) (omega arith) h

@@ -1,4 +1,5 @@
--- Internal: what the functions of the readers' crates promise each other. No promise of the readers themselves rests on it; a reader may pass it over.
+-- Internal: what the functions of the readers' crates promise each other. No promise of the readers themselves rests on it; a reader may
+-- pass it over.
 -- Assumes nothing.
 use mathlib.Core.Path.{_≡_}
 use mathlib.Core.Bool.{cond}

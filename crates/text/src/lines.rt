@@ -156,7 +156,8 @@ fn line_start(text: &[u8], n: usize) -> usize
 
 // The value of line n: the part of the text behind its equals sign.
 pub fn value_of_line(text: &[u8], n: usize) -> &[u8]
-    ensures { λ r. ⌜ ((l : Line) → lineNumber n (now (text .entry)) ≡ some l → (now r ≡ l .value) × LiesAt (startOfValue n (now (text .entry))) (text .entry) r) ⌝ }
+    ensures { λ r. ⌜ ((l : Line) → lineNumber n (now (text .entry)) ≡ some l
+        → (now r ≡ l .value) × LiesAt (startOfValue n (now (text .entry))) (text .entry) r) ⌝ }
 {
     let at = line_start(text, n);
     let line = line_at(text, at);

@@ -26,8 +26,8 @@ fn number_at(numbers: &[usize], i: usize) -> usize
     0
 }
 
-// The place of a name among those declared, in any mix of capitals; no bytes are no name. The places of the names are copied once and then lent, since a
-// struct that is handed on by value is copied for each name.
+// The place of a name among those declared, in any mix of capitals; no bytes are no name. The places of the names are copied once and then
+// lent, since a struct that is handed on by value is copied for each name.
 fn find_name(text: &[u8], names: Names, name: &[u8]) -> Found
     ensures { λ r. ⌜ placeOf r ≡ declaredAt (spelled (now (text .entry)) names) (now (name .entry)) ⌝ }
 {

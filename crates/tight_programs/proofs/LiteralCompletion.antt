@@ -42,7 +42,10 @@ module _ (n : ℕ) (X : Lits) (consistent : Consistent X) (set : CompleteSet n X
   body-iff : (r : Rule) → Each (λ c. c < 2 * n) (r .negated) → bodyIn X r ≡ true ↔ BodyHolds X r
   body-iff r low = Iff·trans (and-iff (not (meets (r .negated) X)) (all X (r .plain))) (
     λ h. (all-within X (r .plain) .0 (h .1), negated .0 (all-each (λ c. not (X c)) (r .negated) .0 (all-not-meets X (r .negated) ∙ h .0))),
-    λ h. (sym (all-not-meets X (r .negated)) ∙ all-each (λ c. not (X c)) (r .negated) .1 (negated .1 (h .1)), all-within X (r .plain) .1 (h .0)),
+    λ h. (
+      sym (all-not-meets X (r .negated)) ∙ all-each (λ c. not (X c)) (r .negated) .1 (negated .1 (h .1)),
+      all-within X (r .plain) .1 (h .0),
+    ),
   )
     where
       negated : Each (λ c. not (X c) ≡ true) (r .negated) ↔ Each (λ c. X (complement c) ≡ true) (r .negated)
@@ -72,7 +75,9 @@ module _ (n : ℕ) (X : Lits) (consistent : Consistent X) (set : CompleteSet n X
     head-holds h falsum b s = h .of-falsum .1 s
 
     closes : Completion n Π X → Closed (reduct Π X) X
-    closes h = closed-rules Π X .1 (each-map₂ (λ r over m e. head-holds h (r .head) (over .0) (r, m, refl, body-iff r (over .1) .0 e)) Π rules-over (each-member Π))
+    closes h =
+        closed-rules Π X .1
+        (each-map₂ (λ r over m e. head-holds h (r .head) (over .0) (r, m, refl, body-iff r (over .1) .0 e)) Π rules-over (each-member Π))
 
     supports : Completion n Π X → Supported Π X
     supports h c x =

@@ -97,7 +97,9 @@ without-subset d X c e = and-iff (X c) (not (eqb c d)) .0 e .0
 without-closed : (P : List PositiveRule) (X : Lits) (d : ℕ) → Each (λ r. supports X d r ≡ false) P → Closed P X → Closed P (without d X)
 without-closed P X d unsupported closed =
     each-map₂ (λ r none-there kept body. let inX = within-subset (without-subset d X) (r .body) body in
-    head (r .head) (kept inX) (λ e. not-both (and-iff (isHead d (r .head)) (all X (r .body)) .1 (e, all-within X (r .body) .1 inX)) none-there)) P
+    head (r .head) (kept inX)
+    (λ e. not-both (and-iff (isHead d (r .head)) (all X (r .body)) .1 (e, all-within X (r .body) .1 inX)) none-there))
+    P
     unsupported closed
   where
     head : (h : Head) → HeadIn h X → (isHead d h ≡ true → ⊥) → HeadIn h (without d X)

@@ -32,7 +32,8 @@ pub length-ruleWords : (r : Rule) → length (ruleWords r) ≡ 3 + length (r .ne
 length-ruleWords r = omega (arith, length-append (r .negated) (r .plain))
 
 -- rules of one size
-length-words-map : (f : ℕ → Rule) (w : ℕ) → ((t : ℕ) → length (ruleWords (f t)) ≡ w) → (ts : List ℕ) → length (words (map f ts)) ≡ length ts * w
+length-words-map : (f : ℕ → Rule) (w : ℕ) → ((t : ℕ) → length (ruleWords (f t)) ≡ w) → (ts : List ℕ)
+    → length (words (map f ts)) ≡ length ts * w
 length-words-map f w each [] = sym (zero-mul w)
 length-words-map f w each (t ∷ ts) =
     length-append (ruleWords (f t)) (words (map f ts)) ∙ rw (each t, length-words-map f w each ts, suc-mul) (omega arith)

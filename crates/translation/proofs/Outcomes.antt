@@ -67,7 +67,8 @@ pub refused-left : (d : Description) (ls : List Law) (lent : ℕ) (table : List 
 unfolding tableAfter
 refused-left d ls lent table e = rw e
 
-pub written-left : (d : Description) (ls : List Law) (lent : ℕ) (table : List ℕ) {a r w : ℕ} → outcome d ls lent (length table) ≡ answered (written a r w)
+pub written-left : (d : Description) (ls : List Law) (lent : ℕ) (table : List ℕ) {a r w : ℕ}
+    → outcome d ls lent (length table) ≡ answered (written a r w)
     → overwritten (tableFor d ls) table ≡ tableAfter d ls lent table
 unfolding tableAfter
 written-left d ls lent table e = rw e

@@ -36,7 +36,8 @@ past = record { kind = Static; head = Lit 0; «if_count» = 0; «if_codes» = []
 law-words : (T : ℕ) (l : Law) → byKind (T + 1) T (l .kind) * (3 + length (ifList l) + length (plainList l)) ≡ lawWordsOf T (l .kind) l
 law-words T l = go (l .kind)
   where
-    go : (k : Kind) → byKind (T + 1) T k * (3 + length (ifList l) + length (take (byKind 0 (l .«after_count») k) (l .«after_codes»))) ≡ lawWordsOf T k l
+    go : (k : Kind)
+        → byKind (T + 1) T k * (3 + length (ifList l) + length (take (byKind 0 (l .«after_count») k) (l .«after_codes»))) ≡ lawWordsOf T k l
     go Static = rw (add-one T, add-zero (3 + length (ifList l)))
     go Dynamic = refl
 
@@ -72,9 +73,11 @@ counting-first T laws count rules words held =
       all-words = refl;
     }
 
-pub counting-next : {T : ℕ} {laws : List Law} {count rules₀ words₀ rules words i x y : ℕ} → Counting T laws count rules₀ words₀ rules words i
+pub counting-next : {T : ℕ} {laws : List Law} {count rules₀ words₀ rules words i x y : ℕ}
+    → Counting T laws count rules₀ words₀ rules words i
     → i < count → count ≤ 64 → (x ≡ byKind (T + 1) T (getD laws i past .kind)) × (x ≤ 31)
-    → (y ≡ byKind (T + 1) T (getD laws i past .kind) * (3 + length (ifList (getD laws i past)) + length (plainList (getD laws i past)))) × (y ≤ 465)
+    → (y ≡ byKind (T + 1) T (getD laws i past .kind) * (3 + length (ifList (getD laws i past)) + length (plainList (getD laws i past))))
+    × (y ≤ 465)
     → Counting T laws count rules₀ words₀ (rules + x) (words + y) (i + 1)
 counting-next {T} {laws} {count} {rules₀} {words₀} {rules} {words} {i} {x} {y} inv here few xs ys =
     let all : count ≤ length laws = omega arith in

@@ -47,7 +47,8 @@ module _ {Goes : ℕ → Type 0} {k : ℕ} {turns : Turns Goes k} {i : ℕ} {tab
   fits h = room (inv .rest) (here h)
 
   -- the turn has stored it
-  pub turned : Goes i → {table′ : List ℕ} {place′ : ℕ} → place′ ≡ place + length (turns .first i) → table′ ≡ sets table place (turns .first i)
+  pub turned : Goes i → {table′ : List ℕ} {place′ : ℕ} → place′ ≡ place + length (turns .first i)
+      → table′ ≡ sets table place (turns .first i)
       → Before turns (i + 1) table′ place′ table₀ at₀ ws₀
   turned h p t = record { rest = wrote (inv .rest) (here h) p t }
 

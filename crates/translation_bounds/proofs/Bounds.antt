@@ -54,10 +54,15 @@ law-bound n m T small l fits = by-kind (l .kind) refl
     ifs = omega (arith, length-take (l .«if_count») (l .«if_codes»), fits-if n m l fits .0)
 
     by-kind : (k : Kind) → l .kind ≡ k → lawWordsOf T k l ≤ 450
-    by-kind Static e = omega (arith, mul-le-mul {n₁ = suc T} {m₁ = 3 + length (ifList l)} {n₂ = 31} {m₂ = 9} (omega arith) (omega (arith, ifs)))
+    by-kind Static e =
+        omega (arith, mul-le-mul {n₁ = suc T} {m₁ = 3 + length (ifList l)} {n₂ = 31} {m₂ = 9} (omega arith) (omega (arith, ifs)))
     by-kind Dynamic e =
-        let afters : length (afterList l) ≤ 6 = omega (arith, length-take (l .«after_count») (l .«after_codes»), fits-after n m l fits e .0) in
-        omega (arith, mul-le-mul {n₁ = T} {m₁ = 3 + length (ifList l) + length (afterList l)} {n₂ = 30} {m₂ = 15} small (omega (arith, ifs)))
+        let afters : length (afterList l) ≤ 6 =
+        omega (arith, length-take (l .«after_count») (l .«after_codes»), fits-after n m l fits e .0) in
+        omega (
+          arith,
+          mul-le-mul {n₁ = T} {m₁ = 3 + length (ifList l) + length (afterList l)} {n₂ = 30} {m₂ = 15} small (omega (arith, ifs)),
+        )
 
 module _ (n m T : ℕ) (ls : List Law) (fluents : n ≤ 24) (actions : m ≤ 8) (horizon : T ≤ 30) (laws : length ls ≤ 64) where
   choice-atoms : T * m ≤ 240
@@ -115,8 +120,11 @@ module _ (n m T : ℕ) where
   step-below : (t : ℕ) → t < T → (l : Law) → fits.Fits n m l → (k : Kind) → fits.AfterBelow (2 * N) k l → RuleBelow limit (stepRule N t k l)
   step-below t time l f Static after =
       (head-at (suc t) time (l .head) (f .head), complements-at (suc t) time (ifList l) (f .if-list), tt)
-  step-below t time l f Dynamic after =
-      (head-at (suc t) time (l .head) (f .head), complements-at (suc t) time (ifList l) (f .if-list), literals-at t time (afterList l) after)
+  step-below t time l f Dynamic after = (
+    head-at (suc t) time (l .head) (f .head),
+    complements-at (suc t) time (ifList l) (f .if-list),
+    literals-at t time (afterList l) after,
+  )
 
   -- the two rules that leave an atom open
   choice-below : (B : ℕ) → B < atomCount n m T → AtChoice (RuleBelow limit) B

@@ -55,7 +55,8 @@ module _ (P : Rule → Type 0) where
   each-law N T Dynamic l = (λ h. (tt, steps .0 (h .1)), λ h. (tt, steps .1 (h .1)))
     where
       steps : Each P (map (dynamicRule N l) (range 0 T)) ↔ ((t : ℕ) → t < T → P (dynamicRule N l t))
-      steps = Iff·trans (each-mapped P (dynamicRule N l) (range 0 T)) (each-range (λ t. P (dynamicRule N l t)) 0 T (λ t. t) (λ t. omega arith))
+      steps =
+          Iff·trans (each-mapped P (dynamicRule N l) (range 0 T)) (each-range (λ t. P (dynamicRule N l t)) 0 T (λ t. t) (λ t. omega arith))
 
   -- the rules of all laws
   each-laws : (N T : ℕ) (ls : List Law) → (Each P (perLaw (staticRules N T) ls) × Each P (perLaw (dynamicRules N T) ls))

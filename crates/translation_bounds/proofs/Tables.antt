@@ -33,7 +33,11 @@ module _ (d : Description) (ls : List Law) (lent room : ℕ) {a r w : ℕ} (e : 
   pub few-atoms : a ≤ 1024
   few-atoms =
       let l = written-limits d ls lent room e in
-      omega (arith, accepted .atoms, mul-le-mul {n₁ = d .horizon} {m₁ = d .fluents + d .actions} {n₂ = 30} {m₂ = 32} (l .3) (omega (arith, l .0, l .1)))
+      omega (
+        arith,
+        accepted .atoms,
+        mul-le-mul {n₁ = d .horizon} {m₁ = d .fluents + d .actions} {n₂ = 30} {m₂ = 32} (l .3) (omega (arith, l .0, l .1)),
+      )
 
   -- every code of the table is below twice the atoms, and there are at most 4,096 rules
   pub table-accepted : badRule a (tableFor d ls) ≡ none

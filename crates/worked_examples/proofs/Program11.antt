@@ -53,8 +53,10 @@ accepted11 vs e h = (
 
 pub program11-answer-sets : (vs : List ℕ) → length vs ≡ 3 → Each (λ v. v ≤ 3) vs
     → AnswerSet (rulesOf program11) (setOf vs) ↔ List·Memᴰ vs answerSets11
-program11-answer-sets vs e h =
-    (λ a. rw program11-passing at (listed .1 (tuples-all _ 3 vs e (each-map byte vs h), pass .1 a)), λ m. pass .0 (listed .0 (rw program11-passing m) .1))
+program11-answer-sets vs e h = (
+  λ a. rw program11-passing at (listed .1 (tuples-all _ 3 vs e (each-map byte vs h), pass .1 a)),
+  λ m. pass .0 (listed .0 (rw program11-passing m) .1),
+)
   where
     listed : List·Memᴰ vs (passing program11 (allValues 3)) ↔ (List·Memᴰ vs (allValues 3) × (isPass (answer vs program11) ≡ true))
     listed = chosen-iff (λ us. isPass (answer us program11)) (allValues 3) vs

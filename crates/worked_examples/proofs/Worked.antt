@@ -3,12 +3,14 @@
 use mathlib.Core.List.{List, [], _∷_}
 use Rattle.basics.specs.Search.{Each}
 use Rattle.basics.proofs.Tests.{each-append}
+use Rattle.basics.proofs.Pairs.{_&_}
 use Rattle.worked_examples.specs.Examples.{Example, Holds}
 use Rattle.worked_examples.specs.Format.{readerExamples, lineExamples, historyExamples, longExamples}
 use Rattle.worked_examples.specs.Short.{shortRecipeExamples, shortExamples}
 use Rattle.worked_examples.specs.Log.{logExamples, callerExamples}
 use Rattle.worked_examples.specs.Capitals.{styleExamples, capitalExamples}
-use Rattle.worked_examples.specs.Worked.{worked, gathered, recordExamples, largestExamples, engineExamples, paperExamples, textExamples}
+use Rattle.worked_examples.specs.Worked.{worked, gathered, recordExamples, largestExamples, engineExamples}
+use Rattle.worked_examples.specs.Worked.{paperExamples, textExamples}
 use Rattle.worked_examples.specs.Worked.{outputExamples, codeExamples}
 use Rattle.worked_examples.specs.Formulas.{crateFormulas, crateLevels, formulaExamples}
 use Rattle.worked_examples.specs.Faults.{faultExamples}
@@ -33,5 +35,11 @@ all-hold (es ∷ ess) h = each-append Holds es (gathered ess) .1 (h .0, all-hold
 pub worked-examples : Each Holds worked
 worked-examples =
     all-hold
-    (recordExamples ∷ largestExamples ∷ engineExamples ∷ paperExamples ∷ textExamples ∷ readerExamples ∷ lineExamples ∷ historyExamples ∷ longExamples ∷ outputExamples ∷ shortRecipeExamples ∷ shortExamples ∷ logExamples ∷ callerExamples ∷ styleExamples ∷ capitalExamples ∷ codeExamples ∷ crateFormulas ∷ crateLevels ∷ formulaExamples ∷ faultExamples ∷ cutExamples ∷ joinExamples ∷ apartExamples ∷ [])
-    (record-examples, (largest-examples, (engine-examples, (paper-examples, (text-examples, (reader-examples, (line-examples, (history-examples, (long-examples, (output-examples, (short-recipe, (short-examples, (log-examples, (caller-examples, (style-examples, (capital-examples, (code-examples, (crate-formulas, (crate-levels, (formula-examples, (fault-examples, (cut-examples, (join-examples, (apart-examples, tt))))))))))))))))))))))))
+    (recordExamples ∷ largestExamples ∷ engineExamples ∷ paperExamples ∷ textExamples ∷ readerExamples ∷ lineExamples
+    ∷ historyExamples ∷ longExamples ∷ outputExamples ∷ shortRecipeExamples ∷ shortExamples ∷ logExamples
+    ∷ callerExamples ∷ styleExamples ∷ capitalExamples ∷ codeExamples ∷ crateFormulas ∷ crateLevels
+    ∷ formulaExamples ∷ faultExamples ∷ cutExamples ∷ joinExamples ∷ apartExamples ∷ [])
+    (record-examples & largest-examples & engine-examples & paper-examples & text-examples & reader-examples
+    & line-examples & history-examples & long-examples & output-examples & short-recipe & short-examples
+    & log-examples & caller-examples & style-examples & capital-examples & code-examples & crate-formulas
+    & crate-levels & formula-examples & fault-examples & cut-examples & join-examples & apart-examples & tt)

@@ -5,6 +5,7 @@ use mathlib.Core.List.{[], _∷_}
 use native.Mathlib.Omega.{arith}
 use Rattle.basics.specs.Search.{Each}
 use Rattle.basics.specs.Quoted.{bytes}
+use Rattle.basics.proofs.Pairs.{_&_}
 use Rattle.spelling.specs.Spelling.{isName}
 use Rattle.text.specs.Bytes.{cut}
 use Rattle.text.specs.Lines.{keyNumber, firstLine}
@@ -39,9 +40,14 @@ two-writable = record {
 }
 
 pub style-examples : Each Holds styleExamples
-unfolding cut keyNumber firstLine isName literal items listOf horizonOf readHead lineStep described readHistory shownFluent shownAction descriptionText valuesText
-style-examples = (refl, (refl, (refl, (refl, (refl, ((refl, two-writable, capitals-any 1 2 1), ((refl, two-writable, capitals-any 0 0 0), ((refl, capitals-any 0 1 0), tt))))))))
+unfolding cut keyNumber firstLine isName literal items listOf horizonOf readHead lineStep described readHistory
+    shownFluent shownAction descriptionText valuesText
+style-examples =
+    refl & refl & refl & refl & refl & (refl, two-writable, capitals-any 1 2 1)
+    & (refl, two-writable, capitals-any 0 0 0) & (refl, capitals-any 0 1 0) & tt
 
 pub capital-examples : Each Holds capitalExamples
 unfolding cut keyNumber firstLine isName literal items listOf horizonOf readHead lineStep described readHistory
-capital-examples = (refl, (refl, (refl, (refl, (refl, (refl, (refl, (refl, (refl, (refl, (refl, (refl, (refl, (refl, (refl, (refl, (refl, (refl, (refl, (refl, (refl, (refl, (refl, (refl, tt))))))))))))))))))))))))
+capital-examples =
+    refl & refl & refl & refl & refl & refl & refl & refl & refl & refl & refl & refl & refl & refl & refl & refl & refl
+    & refl & refl & refl & refl & refl & refl & refl & tt

@@ -2,6 +2,7 @@
 -- Assumes nothing.
 use mathlib.Core.Path.{refl}
 use Rattle.basics.specs.Search.{Each}
+use Rattle.basics.proofs.Pairs.{_&_}
 use Rattle.logic_programs.specs.Literals.{complement, setOf, holdsTrue, holdsFalse}
 use Rattle.logic_programs.specs.Words.{rulesOf, badRule}
 use Rattle.answer_sets.specs.Verdicts.{verdict}
@@ -18,13 +19,24 @@ use Rattle.worked_examples.specs.Examples.{Holds}
 use Rattle.worked_examples.specs.Cuts.{cutExamples, joinExamples, apartExamples}
 
 pub cut-examples : Each Holds cutExamples
-unfolding engine.answer verdict rulesOf badRule setOf holdsTrue holdsFalse complement badRecord badHorizon translation translated.outcome history.checked causalVerdict causal.reading completion.answer formulas.formulaFinding formulas.judgedByFormulas
-cut-examples = (refl, (refl, (refl, (refl, ((refl, refl), (refl, (refl, (refl, (refl, (refl, (refl, (refl, (refl, ((refl, refl), (refl, (refl, (refl, (refl, (refl, (refl, (refl, (refl, ((refl, refl), (refl, (refl, (refl, (refl, (refl, (refl, (refl, (refl, ((refl, refl), ((refl, refl), (refl, (refl, tt)))))))))))))))))))))))))))))))))))
+unfolding engine.answer verdict rulesOf badRule setOf holdsTrue holdsFalse complement badRecord badHorizon translation
+    translated.outcome history.checked causalVerdict causal.reading completion.answer formulas.formulaFinding
+    formulas.judgedByFormulas
+cut-examples =
+    refl & refl & refl & refl & (refl, refl) & refl & refl & refl & refl & refl & refl & refl & refl & (refl, refl)
+    & refl & refl & refl & refl & refl & refl & refl & refl & (refl, refl) & refl & refl & refl & refl & refl & refl
+    & refl & refl & (refl, refl) & (refl, refl) & refl & refl & tt
 
 pub join-examples : Each Holds joinExamples
-unfolding engine.answer verdict rulesOf badRule setOf holdsTrue holdsFalse complement badRecord badHorizon translation translated.outcome history.checked causalVerdict causal.reading completion.answer formulas.formulaFinding formulas.judgedByFormulas
+unfolding engine.answer verdict rulesOf badRule setOf holdsTrue holdsFalse complement badRecord badHorizon translation
+    translated.outcome history.checked causalVerdict causal.reading completion.answer formulas.formulaFinding
+    formulas.judgedByFormulas
 join-examples = ((refl, refl), ((refl, refl), (refl, (refl, (refl, (refl, (refl, (refl, (refl, tt)))))))))
 
 pub apart-examples : Each Holds apartExamples
-unfolding engine.answer verdict rulesOf badRule setOf holdsTrue holdsFalse complement badRecord badHorizon translation translated.outcome history.checked causalVerdict causal.reading completion.answer formulas.formulaFinding formulas.judgedByFormulas
-apart-examples = (refl, (refl, (refl, (refl, ((refl, refl), (refl, (refl, (refl, (refl, (refl, (refl, (refl, (refl, (refl, (refl, (refl, (refl, (refl, (refl, (refl, (refl, tt)))))))))))))))))))))
+unfolding engine.answer verdict rulesOf badRule setOf holdsTrue holdsFalse complement badRecord badHorizon translation
+    translated.outcome history.checked causalVerdict causal.reading completion.answer formulas.formulaFinding
+    formulas.judgedByFormulas
+apart-examples =
+    refl & refl & refl & refl & (refl, refl) & refl & refl & refl & refl & refl & refl & refl & refl & refl & refl
+    & refl & refl & refl & refl & refl & refl & tt

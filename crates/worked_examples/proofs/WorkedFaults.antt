@@ -2,6 +2,7 @@
 -- Assumes nothing.
 use mathlib.Core.Path.{refl}
 use Rattle.basics.specs.Search.{Each}
+use Rattle.basics.proofs.Pairs.{_&_}
 use Rattle.logic_programs.specs.Literals.{complement, setOf, holdsTrue, holdsFalse}
 use Rattle.logic_programs.specs.Words.{rulesOf, badRule}
 use Rattle.answer_sets.specs.Verdicts.{verdict}
@@ -17,5 +18,10 @@ use Rattle.worked_examples.specs.Examples.{Holds}
 use Rattle.worked_examples.specs.Faults.{faultExamples}
 
 pub fault-examples : Each Holds faultExamples
-unfolding engine.answer verdict rulesOf badRule setOf holdsTrue holdsFalse complement badRecord badHorizon translation translated.outcome history.checked history.tableAfter completion.answer completion.answerByLevels badLevels formulas.formulaFinding formulas.judgedByFormulas
-fault-examples = (refl, (refl, (refl, (refl, (refl, (refl, (refl, (refl, (refl, (refl, (refl, (refl, (refl, (refl, (refl, (refl, (refl, (refl, (refl, (refl, (refl, (refl, (refl, (refl, (refl, (refl, (refl, (refl, (refl, (refl, (refl, (refl, (refl, (refl, (refl, (refl, (refl, (refl, (refl, (refl, (refl, (refl, (refl, tt)))))))))))))))))))))))))))))))))))))))))))
+unfolding engine.answer verdict rulesOf badRule setOf holdsTrue holdsFalse complement badRecord badHorizon translation
+    translated.outcome history.checked history.tableAfter completion.answer completion.answerByLevels badLevels
+    formulas.formulaFinding formulas.judgedByFormulas
+fault-examples =
+    refl & refl & refl & refl & refl & refl & refl & refl & refl & refl & refl & refl & refl & refl & refl & refl & refl
+    & refl & refl & refl & refl & refl & refl & refl & refl & refl & refl & refl & refl & refl & refl & refl & refl
+    & refl & refl & refl & refl & refl & refl & refl & refl & refl & refl & tt

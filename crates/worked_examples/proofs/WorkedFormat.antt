@@ -2,6 +2,7 @@
 -- Assumes nothing.
 use mathlib.Core.Path.{refl}
 use Rattle.basics.specs.Search.{Each}
+use Rattle.basics.proofs.Pairs.{_&_}
 use Rattle.text.specs.Bytes.{cut}
 use Rattle.text.specs.Lines.{keyNumber, firstLine}
 use Rattle.spelling.specs.Spelling.{isName}
@@ -17,12 +18,17 @@ use Rattle.worked_examples.specs.Format.{readerExamples, lineExamples, h
 
 pub reader-examples : Each Holds readerExamples
 unfolding cut keyNumber firstLine isName literal items listOf horizonOf readHead lineStep described readHistory shownFluent shownAction
-reader-examples = (refl, (refl, (refl, (refl, (refl, (refl, (refl, (refl, (refl, (refl, (refl, (refl, (refl, (refl, (refl, (refl, (refl, (refl, (refl, (refl, (refl, (refl, (refl, (refl, (refl, (refl, (refl, (refl, (refl, (refl, (refl, (refl, (refl, (refl, (refl, (refl, (refl, (refl, (refl, tt)))))))))))))))))))))))))))))))))))))))
+reader-examples =
+    refl & refl & refl & refl & refl & refl & refl & refl & refl & refl & refl & refl & refl & refl & refl & refl & refl
+    & refl & refl & refl & refl & refl & refl & refl & refl & refl & refl & refl & refl & refl & refl & refl & refl
+    & refl & refl & refl & refl & refl & refl & tt
 
 pub line-examples : Each Holds lineExamples
 unfolding cut keyNumber firstLine isName literal items listOf horizonOf readHead lineStep described readHistory shownFluent shownAction
-line-examples = (refl, (refl, (refl, (refl, (refl, (refl, (refl, (refl, (refl, (refl, (refl, (refl, (refl, (refl, (refl, (refl, (refl, (refl, (refl, (refl, (refl, (refl, (refl, (refl, tt))))))))))))))))))))))))
+line-examples =
+    refl & refl & refl & refl & refl & refl & refl & refl & refl & refl & refl & refl & refl & refl & refl & refl & refl
+    & refl & refl & refl & refl & refl & refl & refl & tt
 
 pub history-examples : Each Holds historyExamples
 unfolding cut keyNumber firstLine isName literal items listOf horizonOf readHead lineStep described readHistory shownFluent shownAction
-history-examples = (refl, (refl, (refl, (refl, (refl, (refl, (refl, (refl, (refl, (refl, (refl, (refl, (refl, (refl, (refl, (refl, (refl, tt)))))))))))))))))
+history-examples = refl & refl & refl & refl & refl & refl & refl & refl & refl & refl & refl & refl & refl & refl & refl & refl & refl & tt

@@ -32,7 +32,8 @@ unfolding cut keyNumber firstLine isName literal items listOf horizonOf readHead
 log-examples = (refl, (refl, (refl, (refl, (refl, ((refl, declared), ((refl, declared), ((refl, declared), tt))))))))
 
 pub caller-examples : Each Holds callerExamples
-unfolding engine.answer verdict rulesOf badRule setOf holdsTrue holdsFalse complement badRecord badHorizon translation translated.outcome history.checked causalVerdict causal.reading
+unfolding engine.answer verdict rulesOf badRule setOf holdsTrue holdsFalse complement badRecord badHorizon translation
+    translated.outcome history.checked causalVerdict causal.reading
 caller-examples = (
   refl,
   (

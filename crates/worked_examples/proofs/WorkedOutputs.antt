@@ -29,5 +29,7 @@ use Rattle.worked_examples.specs.Examples.{Holds}
 use Rattle.worked_examples.specs.Worked.{outputExamples}
 
 pub output-examples : Each Holds outputExamples
-unfolding output decimal shownFluent engine.answer verdict rulesOf badRule setOf holdsTrue holdsFalse complement badRecord badHorizon translation translated.outcome history.checked causalVerdict causal.reading cut keyNumber firstLine isName literal items listOf horizonOf readHead lineStep described readHistory recordedIn
+unfolding output decimal shownFluent engine.answer verdict rulesOf badRule setOf holdsTrue holdsFalse complement
+    badRecord badHorizon translation translated.outcome history.checked causalVerdict causal.reading cut keyNumber
+    firstLine isName literal items listOf horizonOf readHead lineStep described readHistory recordedIn
 output-examples = (refl, (refl, (refl, (refl, (refl, (refl, (refl, (refl, (refl, (refl, tt))))))))))

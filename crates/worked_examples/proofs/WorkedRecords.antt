@@ -3,6 +3,7 @@
 use mathlib.Core.Path.{refl}
 use Rattle.basics.specs.Search.{Each}
 use Rattle.basics.proofs.Lists.{each-mapped}
+use Rattle.basics.proofs.Pairs.{_&_}
 use Rattle.logic_programs.specs.Literals.{complement, setOf, holdsTrue, holdsFalse}
 use Rattle.answer_sets.specs.Verdicts.{verdict}
 use Rattle.logic_programs.specs.Words.{rulesOf, badRule}
@@ -19,11 +20,16 @@ use Rattle.worked_examples.specs.Examples.{Holds}
 use Rattle.worked_examples.specs.Worked.{fromEngine, recordExamples, engineExamples, paperExamples}
 
 pub record-examples : Each Holds recordExamples
-unfolding engine.answer verdict rulesOf badRule setOf holdsTrue holdsFalse complement badRecord badHorizon translation translated.outcome translated.tableAfter history.checked history.tableAfter causalVerdict causal.reading
-record-examples = (refl, (refl, (refl, (refl, (refl, (refl, (refl, (refl, (refl, (refl, (refl, (refl, (refl, (refl, (refl, (refl, (refl, (refl, (refl, (refl, (refl, (refl, (refl, (refl, (refl, (refl, (refl, (refl, (refl, (refl, (refl, (refl, (refl, (refl, tt))))))))))))))))))))))))))))))))))
+unfolding engine.answer verdict rulesOf badRule setOf holdsTrue holdsFalse complement badRecord badHorizon translation
+    translated.outcome translated.tableAfter history.checked history.tableAfter causalVerdict causal.reading
+record-examples =
+    refl & refl & refl & refl & refl & refl & refl & refl & refl & refl & refl & refl & refl & refl & refl & refl & refl
+    & refl & refl & refl & refl & refl & refl & refl & refl & refl & refl & refl & refl & refl & refl & refl & refl
+    & refl & tt
 
 pub paper-examples : Each Holds paperExamples
-unfolding engine.answer verdict rulesOf badRule setOf holdsTrue holdsFalse complement badRecord badHorizon translation translated.outcome translated.tableAfter history.checked history.tableAfter causalVerdict causal.reading
+unfolding engine.answer verdict rulesOf badRule setOf holdsTrue holdsFalse complement badRecord badHorizon translation
+    translated.outcome translated.tableAfter history.checked history.tableAfter causalVerdict causal.reading
 paper-examples = (refl, (refl, (refl, (refl, (refl, (refl, (refl, (refl, (refl, (refl, (refl, tt)))))))))))
 
 -- as the engine's crate shows

@@ -2,6 +2,7 @@
 -- Assumes nothing.
 use mathlib.Core.Path.{refl}
 use Rattle.basics.specs.Search.{Each}
+use Rattle.basics.proofs.Pairs.{_&_}
 use Rattle.text.specs.Bytes.{cut}
 use Rattle.text.specs.Lines.{keyNumber, firstLine}
 use Rattle.spelling.specs.Spelling.{isName}
@@ -22,4 +23,6 @@ short-recipe = (refl, ((refl, recipe-writable, declared), tt))
 
 pub short-examples : Each Holds shortExamples
 unfolding cut keyNumber firstLine isName literal items listOf horizonOf readHead lineStep described
-short-examples = (refl, (refl, (refl, (refl, (refl, (refl, (refl, (refl, (refl, (refl, (refl, (refl, (refl, (refl, (refl, (refl, (refl, (refl, (refl, (refl, (refl, (refl, (refl, (refl, (refl, (refl, (refl, (refl, (refl, (refl, (refl, tt)))))))))))))))))))))))))))))))
+short-examples =
+    refl & refl & refl & refl & refl & refl & refl & refl & refl & refl & refl & refl & refl & refl & refl & refl & refl
+    & refl & refl & refl & refl & refl & refl & refl & refl & refl & refl & refl & refl & refl & refl & tt

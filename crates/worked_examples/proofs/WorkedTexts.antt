@@ -3,6 +3,7 @@
 use mathlib.Core.Path.{refl}
 use native.Mathlib.Omega.{arith}
 use Rattle.basics.specs.Search.{Each}
+use Rattle.basics.proofs.Pairs.{_&_}
 use Rattle.text.specs.Bytes.{cut}
 use Rattle.text.specs.Lines.{keyNumber, firstLine}
 use Rattle.spelling.specs.Spelling.{isName}
@@ -39,5 +40,7 @@ recipe-writable = record {
 }
 
 pub text-examples : Each Holds textExamples
-unfolding cut keyNumber firstLine isName literal items listOf horizonOf readHead lineStep described readHistory shownFluent shownAction descriptionText valuesText
-text-examples = (refl, (refl, (refl, (refl, (refl, (refl, (refl, (refl, (refl, (refl, (refl, ((refl, recipe-writable, declared), ((refl, declared), tt)))))))))))))
+unfolding cut keyNumber firstLine isName literal items listOf horizonOf readHead lineStep described readHistory
+    shownFluent shownAction descriptionText valuesText
+text-examples =
+    refl & refl & refl & refl & refl & refl & refl & refl & refl & refl & refl & (refl, recipe-writable, declared) & (refl, declared) & tt

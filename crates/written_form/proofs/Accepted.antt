@@ -62,9 +62,11 @@ shown-in-front xs ys i = go (ltb i (length xs)) refl
     go true e = List·getD-append xs ys [] i (ltb-true i (length xs) e)
     go false e = rw (List·getD-eq-default xs [] (ltb-false i (length xs) e))
 
-module _ (lent T : ℕ) (fluents actions : List (List ℕ)) (forms : ℕ → Form) (spell : Spelling) (any : InCapitals spell) (ls : List Law) (w : Writable lent T fluents actions ls) (more : List ℕ)
+module _ (lent T : ℕ) (fluents actions : List (List ℕ)) (forms : ℕ → Form) (spell : Spelling) (any : InCapitals spell)
+    (ls : List Law) (w : Writable lent T fluents actions ls) (more : List ℕ)
     (few : length more ≤ 45535) where
-  is-read : described lent (descriptionText T fluents actions forms spell ls ++ more) ≡ answered (read (draftWritten T fluents actions ls) more (linesWritten fluents actions forms ls))
+  is-read : described lent (descriptionText T fluents actions forms spell ls ++ more)
+      ≡ answered (read (draftWritten T fluents actions ls) more (linesWritten fluents actions forms ls))
   is-read = read-written T fluents actions forms spell any ls lent w more few
 
   -- no refusal
@@ -74,11 +76,13 @@ module _ (lent T : ℕ) (fluents actions : List (List ℕ)) (forms : ℕ → For
       let z : _≡_ {A = ℕ} 0 1 = cc in omega arith
 
   -- the description takes its own bytes and lines
-  pub reply-written : replied (descriptionText T fluents actions forms spell ls ++ more) (described lent (descriptionText T fluents actions forms spell ls ++ more))
+  pub reply-written : replied (descriptionText T fluents actions forms spell ls ++ more)
+      (described lent (descriptionText T fluents actions forms spell ls ++ more))
       ≡ answered (behind (length (descriptionText T fluents actions forms spell ls)) (linesWritten fluents actions forms ls))
   reply-written =
       ap (replied (descriptionText T fluents actions forms spell ls ++ more)) is-read
-      ∙ ap (λ n. answered (behind n (linesWritten fluents actions forms ls))) (omega (arith, length-append (descriptionText T fluents actions forms spell ls) more))
+      ∙ ap (λ n. answered (behind n (linesWritten fluents actions forms ls)))
+      (omega (arith, length-append (descriptionText T fluents actions forms spell ls) more))
 
   pub record-written : recordOf (described lent (descriptionText T fluents actions forms spell ls ++ more))
       ≡ record { fluents = length fluents; actions = length actions; laws = length ls; horizon = T }
@@ -86,10 +90,12 @@ module _ (lent T : ℕ) (fluents actions : List (List ℕ)) (forms : ℕ → For
       let count : length (fluents ++ actions) - length fluents ≡ length actions = omega (arith, length-append fluents actions) in
       ap recordOf is-read ∙ rw count
 
-  pub laws-written : (old : List Law) → lawsLeft (described lent (descriptionText T fluents actions forms spell ls ++ more)) old ≡ ls ++ drop (length ls) old
+  pub laws-written : (old : List Law)
+      → lawsLeft (described lent (descriptionText T fluents actions forms spell ls ++ more)) old ≡ ls ++ drop (length ls) old
   laws-written old = ap (λ o. lawsLeft o old) is-read
 
-  is-shown : described 64 (descriptionText T fluents actions forms spell ls ++ more) ≡ answered (read (draftWritten T fluents actions ls) more (linesWritten fluents actions forms ls))
+  is-shown : described 64 (descriptionText T fluents actions forms spell ls ++ more)
+      ≡ answered (read (draftWritten T fluents actions ls) more (linesWritten fluents actions forms ls))
   is-shown = read-written T fluents actions forms spell any ls 64 (any-lent lent 64 T fluents actions ls (w .few-laws) w) more few
 
   -- a number that nothing declares shows the empty name
@@ -102,8 +108,10 @@ module _ (lent T : ℕ) (fluents actions : List (List ℕ)) (forms : ℕ → For
   shown-action k = ap (λ o. shownBy actionName o k) is-shown ∙ getD-append-add fluents actions k []
 
 -- the same where nothing follows
-pub shown-name : (lent T : ℕ) (fluents actions : List (List ℕ)) (forms : ℕ → Form) (spell : Spelling) → InCapitals spell → (ls : List Law) → Writable lent T fluents actions ls → (i : ℕ)
-    → (shownFluent (descriptionText T fluents actions forms spell ls) i ≡ getD fluents i []) × (shownAction (descriptionText T fluents actions forms spell ls) i ≡ getD actions i [])
+pub shown-name : (lent T : ℕ) (fluents actions : List (List ℕ)) (forms : ℕ → Form) (spell : Spelling) → InCapitals spell
+    → (ls : List Law) → Writable lent T fluents actions ls → (i : ℕ)
+    → (shownFluent (descriptionText T fluents actions forms spell ls) i ≡ getD fluents i [])
+    × (shownAction (descriptionText T fluents actions forms spell ls) i ≡ getD actions i [])
 shown-name lent T fluents actions forms spell any ls w i =
     let whole = append-nil (descriptionText T fluents actions forms spell ls) in (
       rw whole at (shown-fluent lent T fluents actions forms spell any ls w [] (omega arith) i),

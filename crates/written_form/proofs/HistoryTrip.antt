@@ -6,7 +6,8 @@ use mathlib.Core.List.{List, [], _++_, map, append-nil, append-assoc}
 use Prim.Native.Nat.{ℕ, zero, suc, _+_, _-_, _*_, _≤_, _<_}
 use native.Mathlib.Omega.{arith}
 use borrow.Author.Tests.{le-ltb, eq-eqb}
-use lib.ListN.{length, getD, take, drop, replicate, length-append, length-map, length-take, length-drop, take-append-drop, drop-of-length-le}
+use lib.ListN.{length, getD, take, drop, replicate, length-append, length-map, length-take, length-drop}
+use lib.ListN.{take-append-drop, drop-of-length-le}
 use lib.Seq.{take-all, length-take-le}
 use Rattle.basics.proofs.Tests.{each-map, each-append}
 use Rattle.basics.specs.Replies.{Reply, answered}
@@ -36,10 +37,12 @@ values-split n vs h =
 module _ (d : Draft) (m : ℕ) (are : AreNames (d .names)) (distinct : Distinct (d .names)) (size : length (d .names) ≡ d .fluents + m)
     (small : length (d .names) ≤ 32) where
   -- one line: what it marks in the places from low on, as many as there are of a sort
-  line-read : (f : ℕ → Bool) (key low high base l : ℕ) (p vs rest : List ℕ) (go : List ℕ → List ℕ → Reply (List ℕ)) → key < noKey → length p ≡ base + low
+  line-read : (f : ℕ → Bool) (key low high base l : ℕ) (p vs rest : List ℕ) (go : List ℕ → List ℕ → Reply (List ℕ))
+      → key < noKey → length p ≡ base + low
       → low ≤ high → high ≤ length (d .names) → Values vs
       → let ws = take (high - low) vs in
-      listLine d key low high (firstLine (lineText key (listText (d .names) plains (codesFrom f low ws)) ++ rest)) l base (p ++ replicate (length vs) 0) go
+      listLine d key low high (firstLine (lineText key (listText (d .names) plains (codesFrom f low ws)) ++ rest)) l
+      base (p ++ replicate (length vs) 0) go
       ≡ go (p ++ (markedFrom f low ws ++ replicate (length (drop (high - low) vs)) 0)) rest
   line-read f key low high base l p vs rest go known there within held vals =
       let names = d .names in
@@ -67,11 +70,13 @@ module _ (d : Draft) (m : ℕ) (are : AreNames (d .names)) (distinct : Distinct 
       let n = d .fluents in
       let width : n - 0 ≡ n = omega arith in
       rw (width, marked-all 0 (take n vs)) at
-      (line-read (λ i. true) stateKey 0 n (t * length (d .names)) l p vs rest go (omega arith) (omega arith) (omega arith) (omega arith) vals)
+      (line-read (λ i. true) stateKey 0 n (t * length (d .names)) l p vs rest go (omega arith) (omega arith)
+      (omega arith) (omega arith) vals)
       ∙ ap (λ vs′. go vs′ rest) (sym (append-assoc p (take n vs) (replicate (length (drop n vs)) 0)))
 
   -- the actions that the line doesn't list are filled
-  act-read : (f : ℕ → Bool) (t l : ℕ) (p vs rest : List ℕ) (go : List ℕ → List ℕ → Reply (List ℕ)) → length p ≡ t * length (d .names) + d .fluents
+  act-read : (f : ℕ → Bool) (t l : ℕ) (p vs rest : List ℕ) (go : List ℕ → List ℕ → Reply (List ℕ))
+      → length p ≡ t * length (d .names) + d .fluents
       → m ≤ length vs → Values vs
       → actLine d (firstLine (actText (d .names) plains f (d .fluents) (take m vs) ++ rest)) l t (p ++ replicate (length vs) 0) go
       ≡ go (p ++ map orFalse (take m vs) ++ replicate (length (drop m vs)) 0) rest
@@ -82,12 +87,14 @@ module _ (d : Draft) (m : ℕ) (are : AreNames (d .names)) (distinct : Distinct 
       let fill = fill-values f (base + n) n p (take m vs) (replicate (length (drop m vs)) 0) there (values-split m vs vals .0) in
       rw width (
       rw width at
-      (line-read f actKey n (length (d .names)) base l p vs rest (λ vs′ rest′. go (filled (base + n) m vs′) rest′) (omega arith) there (omega arith)
+      (line-read f actKey n (length (d .names)) base l p vs rest (λ vs′ rest′. go (filled (base + n) m vs′) rest′)
+      (omega arith) there (omega arith)
       (omega arith) vals)
       ∙ ap (λ vs′. go vs′ rest) (rw (length-take-le m vs long) at fill)
       )
 
-  steps-read : (choice : ℕ → ℕ → Bool) (k t l : ℕ) (p vs : List ℕ) → length p ≡ t * length (d .names) → length vs ≡ atomCount (d .fluents) m k → Values vs
+  steps-read : (choice : ℕ → ℕ → Bool) (k t l : ℕ) (p vs : List ℕ) → length p ≡ t * length (d .names)
+      → length vs ≡ atomCount (d .fluents) m k → Values vs
       → statesFrom k d t l (p ++ replicate (length vs) 0) (stepsText (d .names) asDeclared choice (d .fluents) m t k vs)
       ≡ answered (p ++ actionsOrFalse (d .fluents) m k vs)
   steps-read choice zero t l p vs there count vals =
@@ -115,7 +122,8 @@ module _ (d : Draft) (m : ℕ) (are : AreNames (d .names)) (distinct : Distinct 
       let text = stepsText (d .names) asDeclared choice n m (suc t) k zs in
       state-read t l p vs (actText (d .names) plains (choice t) n (take m ys) ++ text)
       (λ vs′ rest. actLine d (firstLine rest) (suc l) t vs′ (λ vs″ rest′. statesFrom k d (suc t) (suc (suc l)) vs″ rest′)) there vals
-      ∙ act-read (choice t) t (suc l) (p ++ fs) ys text (λ vs″ rest′. statesFrom k d (suc t) (suc (suc l)) vs″ rest′) (omega arith) (omega arith) behind
+      ∙ act-read (choice t) t (suc l) (p ++ fs) ys text (λ vs″ rest′. statesFrom k d (suc t) (suc (suc l)) vs″ rest′)
+      (omega arith) (omega arith) behind
       ∙ steps-read choice k (suc t) (suc (suc l)) (p ++ fs ++ acts) zs (omega arith) (omega arith) (values-split m ys behind .1)
       ∙ ap answered (append-assoc (p ++ fs) acts (actionsOrFalse n m k zs) ∙ append-assoc p fs (acts ++ actionsOrFalse n m k zs))
 
@@ -159,14 +167,17 @@ module _ (T : ℕ) (fluents actions : List (List ℕ)) (forms : ℕ → Form) (l
     pub history-size : (choice : ℕ → ℕ → Bool) → length (valuesText T fluents actions asDeclared choice vs) ≤ 40000
     unfolding valuesText
     history-size choice =
-        let steps = steps-size (fluents ++ actions) (w .are-names) (length fluents) (length actions) (length-append fluents actions) (w .few-fluents)
+        let steps =
+        steps-size (fluents ++ actions) (w .are-names) (length fluents) (length actions)
+        (length-append fluents actions) (w .few-fluents)
         (w .few-actions) choice T 0 vs vals in
         omega (arith, w .horizon-to)
 
     module _ (count : length vs ≡ atomCount (length fluents) (length actions) T) (more : List ℕ) (few : length more ≤ 45535) where
       -- an action's 0 is read back as false, and all else as it is
       pub history-declared : (choice : ℕ → ℕ → Bool)
-          → readHistory (descriptionText T fluents actions forms asDeclared ls ++ more) (valuesText T fluents actions asDeclared choice vs) (length vs)
+          → readHistory (descriptionText T fluents actions forms asDeclared ls ++ more)
+          (valuesText T fluents actions asDeclared choice vs) (length vs)
           ≡ answered (actionsOrFalse (length fluents) (length actions) T vs)
       unfolding readHistory valuesText
       history-declared choice =
@@ -174,6 +185,8 @@ module _ (T : ℕ) (fluents actions : List (List ℕ)) (forms : ℕ → Form) (l
           let d = draftWritten T fluents actions ls in
           let names = length-append fluents actions in
           let width : length (fluents ++ actions) - length fluents ≡ length actions = omega arith in
-          ap (λ o. byNames o text (length vs)) (read-declared 64 T fluents actions forms ls (any-lent lent 64 T fluents actions ls (w .few-laws) w) more few)
+          ap (λ o. byNames o text (length vs))
+          (read-declared 64 T fluents actions forms ls (any-lent lent 64 T fluents actions ls (w .few-laws) w) more few)
           ∙ rw (width, ← count, eq-eqb (length vs) (length vs) refl, le-ltb 65535 (length text) (omega (arith, history-size choice)))
-          (steps-read d (length actions) (w .are-names) (w .distinct) names (omega (arith, w .few-fluents, w .few-actions)) choice T 0 1 [] vs (omega arith) count vals)
+          (steps-read d (length actions) (w .are-names) (w .distinct) names
+          (omega (arith, w .few-fluents, w .few-actions)) choice T 0 1 [] vs (omega arith) count vals)

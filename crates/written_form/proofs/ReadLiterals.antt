@@ -65,4 +65,9 @@ module _ (names : List (List ℕ)) (are : AreNames names) where
           (record { long = omega arith; one = (refl, name-lacks comma refl bs name); not-false = refl; either = either })
       go false h =
           let (name, either) = sort-name high 0 c (b ∷ bs) (rw h at e) in
-          record { long = omega arith; one = name-lacks comma refl (b ∷ bs) name; not-false = named (b ∷ bs) name .not-false; either = rw h either }
+          record {
+            long = omega arith;
+            one = name-lacks comma refl (b ∷ bs) name;
+            not-false = named (b ∷ bs) name .not-false;
+            either = rw h either;
+          }

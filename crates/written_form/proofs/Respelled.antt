@@ -15,13 +15,15 @@ use Rattle.basics.specs.Replies.{Reply, orRefuse}
 use Rattle.basics.proofs.Tests.{not-both}
 use Rattle.action_language.specs.Atoms.{wrongLength}
 use Rattle.text.specs.Bytes.{newline, equalsSign, Cut, cut}
-use Rattle.text.specs.Lines.{keyNumber, staticKey, dynamicKey, ifKey, afterKey, stateKey, actKey, endKey, defaultKey, inertialKey, causesKey, byKey, nonexecutableKey, noKey}
+use Rattle.text.specs.Lines.{keyNumber, staticKey, dynamicKey, ifKey, afterKey, stateKey, actKey, endKey, defaultKey}
+use Rattle.text.specs.Lines.{inertialKey, causesKey, byKey, nonexecutableKey, noKey}
 use Rattle.text.specs.Lines.{Line, keyed, valued, ended, firstLine}
 use Rattle.text.specs.Lists as lists
 use Rattle.text.specs.Lists.{Listed, codes, listOf}
 use Rattle.description_reader.specs.LineSteps.{Due, horizonDue, Draft, Step, refused, next, finish, lineStep}
 use Rattle.description_reader.specs.Descriptions.{Taken, afterStep, afterFirst, linesFrom, blank, described}
-use Rattle.history_reader.specs.Histories.{most, listed, listLine, actLine, undoneFalse, atEnd, historyEnd, statesFrom, atoms, recorded, byNames, readHistory}
+use Rattle.history_reader.specs.Histories.{most, listed, listLine, actLine, undoneFalse, atEnd, historyEnd, statesFrom}
+use Rattle.history_reader.specs.Histories.{atoms, recorded, byNames, readHistory}
 use Rattle.shown_names.specs.Shown.{shownBy, fluentName, actionName, shownFluent, shownAction}
 use Rattle.letter_case.specs.Alike.{Alike}
 use Rattle.letter_case.specs.LetterCase.{usesNames}
@@ -51,7 +53,8 @@ respelled-length text text′ (used-line key value value′ t t′ uses clean al
 -- what is known of the first lines: none, or of one key, with the same value or values of a line that uses names
 pub data Firsts : Option Line → Option Line → Type 0 where
   no-lines : Firsts none none
-  two-lines : (key : ℕ) (value value′ text text′ : List ℕ) → (value ≡ value′) ⊎ ((usesNames key ≡ true) × Alike value value′) → Respelled text text′
+  two-lines : (key : ℕ) (value value′ text text′ : List ℕ)
+      → (value ≡ value′) ⊎ ((usesNames key ≡ true) × Alike value value′) → Respelled text text′
       → Firsts (some (record { key = key; value = value; rest = text })) (some (record { key = key; value = value′; rest = text′ }))
 
 same-firsts : (o : Option Line) → Firsts o o
@@ -79,20 +82,37 @@ key-known k uses = go (ltb k noKey) refl
     go true e = ltb-true k noKey e
     go false e =
         let far : (j : ℕ) → j < noKey → eqb k j ≡ false = λ j b. ne-eqb k j (λ q. absurd (omega (arith, ltb-false k noKey e))) in
-        absurd (not-both uses (rw (far staticKey (omega arith), far dynamicKey (omega arith), far defaultKey (omega arith), far inertialKey (omega arith), far causesKey (omega arith), far nonexecutableKey (omega arith), far ifKey (omega arith), far afterKey (omega arith), far byKey (omega arith), far stateKey (omega arith), far actKey (omega arith))))
+        absurd (not-both uses
+        (rw (
+          far staticKey (omega arith),
+          far dynamicKey (omega arith),
+          far defaultKey (omega arith),
+          far inertialKey (omega arith),
+          far causesKey (omega arith),
+          far nonexecutableKey (omega arith),
+          far ifKey (omega arith),
+          far afterKey (omega arith),
+          far byKey (omega arith),
+          far stateKey (omega arith),
+          far actKey (omega arith),
+        )))
 
 pub first-lines : (text text′ : List ℕ) → Respelled text text′ → Firsts (firstLine text) (firstLine text′)
 first-lines text text′ (same-text _) = same-firsts (firstLine text)
 first-lines text text′ (same-line line t t′ clean r) =
     rw (line-first line t clean, line-first line t′ clean) (valued-firsts (cut equalsSign line) t t′ r)
 first-lines text text′ (used-line key value value′ t t′ uses clean alike r) =
-    rw (first-line key (key-known key uses) value clean t, first-line key (key-known key uses) value′ (alike-lacks newline refl value value′ alike clean) t′)
+    rw (
+      first-line key (key-known key uses) value clean t,
+      first-line key (key-known key uses) value′ (alike-lacks newline refl value value′ alike clean) t′,
+    )
     (two-lines key value value′ t t′ (inr (uses, alike)) r)
 
 -- descriptions
 
 -- a line with its value respelled
-step-alike : (lent : ℕ) (due : Due) (d : Draft) (key : ℕ) (value value′ : List ℕ) → (value ≡ value′) ⊎ ((usesNames key ≡ true) × Alike value value′)
+step-alike : (lent : ℕ) (due : Due) (d : Draft) (key : ℕ) (value value′ : List ℕ)
+    → (value ≡ value′) ⊎ ((usesNames key ≡ true) × Alike value value′)
     → lineStep lent due d key value ≡ lineStep lent due d key value′
 step-alike lent due d key value value′ =
     ⊎-elim (λ e. ap (lineStep lent due d key) e) (λ u. letter-case .lines lent due d key (u .0) value value′ (u .1))
@@ -100,11 +120,14 @@ step-alike lent due d key value value′ =
 module _ (lent : ℕ) where
   -- the same of the lines that follow
   abbrev Later : ℕ → ℕ → Type 0
-  Later fuel line = (due : Due) (d : Draft) (text text′ : List ℕ) → Respelled text text′ → ReadAlike (linesFrom fuel lent line due d text) (linesFrom fuel lent line due d text′)
+  Later fuel line =
+      (due : Due) (d : Draft) (text text′ : List ℕ) → Respelled text text′
+      → ReadAlike (linesFrom fuel lent line due d text) (linesFrom fuel lent line due d text′)
 
   lines-alike : (fuel line : ℕ) → Later fuel line
   lines-alike zero line due d text text′ r = both-refused 2 line
-  lines-alike (suc fuel) line due d text text′ r = by-lines (lines-alike fuel (suc line)) (firstLine text) (firstLine text′) (first-lines text text′ r)
+  lines-alike (suc fuel) line due d text text′ r =
+      by-lines (lines-alike fuel (suc line)) (firstLine text) (firstLine text′) (first-lines text text′ r)
     where
       by-step : Later fuel (suc line) → (s : Step) (t t′ : List ℕ) → Respelled t t′
           → ReadAlike (afterStep s line t (λ due′ d′ rest. linesFrom fuel lent (suc line) due′ d′ rest))
@@ -160,13 +183,15 @@ module _ (d : Draft) where
   end-alike line vs o o′ (two-lines k value value′ t t′ how q) = by-values value value′ (how-alike k value value′ how)
     where
       by-values : (v v′ : List ℕ) → Alike v v′
-          → historyEnd (some (record { key = k; value = v; rest = t })) line vs ≡ historyEnd (some (record { key = k; value = v′; rest = t′ })) line vs
+          → historyEnd (some (record { key = k; value = v; rest = t })) line vs
+          ≡ historyEnd (some (record { key = k; value = v′; rest = t′ })) line vs
       by-values [] [] a = ap (λ r. cond (eqb k endKey) r (replies.refused 2 line)) (behind-alike vs line t t′ (respelled-length t t′ q))
       by-values [] (y ∷ ys) a = absurd a
       by-values (x ∷ xs) [] a = absurd a
       by-values (x ∷ xs) (y ∷ ys) a = refl
 
-  states-alike : (k t line : ℕ) (vs text text′ : List ℕ) → Respelled text text′ → statesFrom k d t line vs text ≡ statesFrom k d t line vs text′
+  states-alike : (k t line : ℕ) (vs text text′ : List ℕ) → Respelled text text′
+      → statesFrom k d t line vs text ≡ statesFrom k d t line vs text′
   states-alike zero t line vs text text′ r =
       list-alike stateKey 0 (d .fluents) line (t * length (d .names)) vs (λ vs′ rest. historyEnd (firstLine rest) (suc line) vs′)
       (λ vs′ rest rest′ q. end-alike (suc line) vs′ (firstLine rest) (firstLine rest′) (first-lines rest rest′ q))
@@ -187,7 +212,8 @@ module _ (d : Draft) where
       (ap (λ o. orRefuse (wrongLength (atoms d) room) 10 (cond (ltb 65535 (length text′)) (replies.refused 1 0) o))
       (states-alike (d .horizon) 0 1 (replicate (atoms d) 0) text text′ r))
 
-named-alike : (text text′ : List ℕ) (room : ℕ) → Respelled text text′ → (o o′ : Reply Taken) → ReadAlike o o′ → byNames o text room ≡ byNames o′ text′ room
+named-alike : (text text′ : List ℕ) (room : ℕ) → Respelled text text′ → (o o′ : Reply Taken) → ReadAlike o o′
+    → byNames o text room ≡ byNames o′ text′ room
 named-alike text text′ room r o o′ (both-refused number place) = refl
 named-alike text text′ room r o o′ (both-read d rest rest′ lines q) = recorded-alike d text text′ room r
 

@@ -16,11 +16,14 @@ use Rattle.text.specs.Bytes.{newline}
 use Rattle.text.specs.Lines.{horizonKey, fluentKey, actionKey, staticKey, endKey, noKey}
 use Rattle.spelling.specs.Spelling.{isName}
 use Rattle.text.specs.Names.{declaredAt}
-use Rattle.description_reader.specs.LineSteps.{Due, horizonDue, firstFluentDue, fluentDue, actionDue, lawDue, Draft, allowed, next, lineStep}
+use Rattle.description_reader.specs.LineSteps.{Due, horizonDue, firstFluentDue, fluentDue, actionDue, lawDue, Draft}
+use Rattle.description_reader.specs.LineSteps.{allowed, next, lineStep}
 use Rattle.description_reader.specs.Descriptions.{blank, read, linesFrom, described}
 use Rattle.written_form.specs.Writing.{Form, asDeclared, lineText, horizonText, lawsText, namesText, descriptionText}
 use Rattle.written_form.proofs.WrittenNames.{distinct-front, name-lacks, undeclared}
-use Rattle.written_form.proofs.WrittenSteps.{horizon-clean, horizon-step, fluent-step, action-step, Passes, nothing-passes, line-passes, then, ends, dueBehind, same-due, later-due, may-behind}
+use Rattle.written_form.proofs.WrittenSteps.{horizon-clean, horizon-step, fluent-step, action-step, Passes}
+use Rattle.written_form.proofs.WrittenSteps.{nothing-passes, line-passes, then, ends, dueBehind, same-due}
+use Rattle.written_form.proofs.WrittenSteps.{later-due, may-behind}
 use Rattle.written_form.proofs.Written.{written-laws}
 use Rattle.written_form.proofs.WrittenLaws.{laws-pass}
 use Rattle.written_form.proofs.WrittenSizes.{description-size}
@@ -37,7 +40,8 @@ module _ (lent key : ℕ) (known : key < noKey) (later : Due) (may-later : allow
       line-passes due (at done) key x known (name-lacks newline refl x (are .0))
       (step due done x may (omega arith) (are .0) (undeclared done x xs distinct)) in
       let shape = append-assoc done (x ∷ []) xs in
-      let rest = names-pass xs (done ++ (x ∷ [])) later may-later (omega (arith, length-append done (x ∷ []))) (are .1) (rw shape distinct) in
+      let rest =
+      names-pass xs (done ++ (x ∷ [])) later may-later (omega (arith, length-append done (x ∷ []))) (are .1) (rw shape distinct) in
       then here (rw (shape, same-due later xs) at rest) (suc (length xs)) (omega arith)
 
 longer : (done : List (List ℕ)) (x : List ℕ) → length (done ++ (x ∷ [])) ≡ suc (length done)
@@ -49,7 +53,8 @@ module _ (lent T : ℕ) (fluents actions : List (List ℕ)) (forms : ℕ → For
 
   -- all lines but the end line
   body-passes : Passes lent (1 + length fluents + length actions + lawsLines forms 0 ls)
-      (lineText horizonKey (horizonText T) ++ namesText fluentKey fluents ++ namesText actionKey actions ++ lawsText (fluents ++ actions) forms asDeclared 0 ls)
+      (lineText horizonKey (horizonText T) ++ namesText fluentKey fluents ++ namesText actionKey actions
+      ++ lawsText (fluents ++ actions) forms asDeclared 0 ls)
       horizonDue blank (dueBehind dueAfterActions lawDue ls) (draftWritten T fluents actions ls)
   unfolding dueAfterActions
   body-passes =
@@ -64,18 +69,23 @@ module _ (lent T : ℕ) (fluents actions : List (List ℕ)) (forms : ℕ → For
       let second = names-pass lent actionKey (omega arith) actionDue refl (λ done. draft T n done []) (n + 8)
       (λ due done x may few name new. action-step lent due (draft T n done []) x may few name new)
       actions fluents fluentDue refl (omega (arith, w .few-actions)) are-actions (w .distinct) in
-      let third = laws-pass lent T n names (w .are-names) (w .distinct) (omega (arith, length-append fluents actions)) forms 0 ls [] dueAfterActions
+      let third =
+      laws-pass lent T n names (w .are-names) (w .distinct) (omega (arith, length-append fluents actions)) forms 0 ls [] dueAfterActions
       (may-behind fluentDue actionDue actions staticKey refl refl)
       (omega (arith, w .few-laws, w .held-laws)) (written-laws lent T fluents actions ls w) (w .laws-tidy) in
-      then (then (then top (rw (later-due firstFluentDue fluentDue fluents (w .some-fluent)) at first) (1 + n) refl) second (1 + n + length actions) refl) third _ refl
+      then (then (then top (rw (later-due firstFluentDue fluentDue fluents (w .some-fluent)) at first) (1 + n) refl)
+      second (1 + n + length actions) refl) third _ refl
 
   -- the written description is read back, and what follows it is left; under 20,000 bytes are written, so 65,535 are not passed
   pub read-declared : (more : List ℕ) → length more ≤ 45535
-      → described lent (descriptionText T fluents actions forms asDeclared ls ++ more) ≡ answered (read (draftWritten T fluents actions ls) more (linesWritten fluents actions forms ls))
+      → described lent (descriptionText T fluents actions forms asDeclared ls ++ more)
+      ≡ answered (read (draftWritten T fluents actions ls) more (linesWritten fluents actions forms ls))
   unfolding described descriptionText dueAfterActions
   read-declared more few =
       let text = descriptionText T fluents actions forms asDeclared ls in
-      let body = lineText horizonKey (horizonText T) ++ namesText fluentKey fluents ++ namesText actionKey actions ++ lawsText (fluents ++ actions) forms asDeclared 0 ls in
+      let body =
+      lineText horizonKey (horizonText T) ++ namesText fluentKey fluents ++ namesText actionKey actions
+      ++ lawsText (fluents ++ actions) forms asDeclared 0 ls in
       let lines = 1 + length fluents + length actions + lawsLines forms 0 ls in
       let all = length (text ++ more) in
       let (enough, size) = description-size lent T fluents actions forms ls w in
@@ -87,5 +97,6 @@ module _ (lent T : ℕ) (fluents actions : List (List ℕ)) (forms : ℕ → For
       ∙ ap (linesFrom (lines + suc (all - lines)) lent 1 horizonDue blank) (append-assoc body (lineText endKey []) more)
       ∙ body-passes .run (suc (all - lines)) 1 (lineText endKey [] ++ more)
       ∙ ends lent (dueBehind dueAfterActions lawDue ls) (draftWritten T fluents actions ls)
-      (may-behind dueAfterActions lawDue ls endKey (may-behind fluentDue actionDue actions endKey refl refl) refl) (all - lines) (lines + 1) more
+      (may-behind dueAfterActions lawDue ls endKey (may-behind fluentDue actionDue actions endKey refl refl) refl)
+      (all - lines) (lines + 1) more
       )

@@ -15,7 +15,8 @@ use Rattle.action_language.specs.declared.Kind.{Kind}
 use Rattle.action_language.specs.declared.Kind.the-variants.{Static, Dynamic}
 use Rattle.action_language.specs.declared.Law.{Law}
 use Rattle.action_language.specs.Laws.{lawOf}
-use Rattle.text.specs.Lines.{horizonKey, fluentKey, actionKey, staticKey, dynamicKey, ifKey, afterKey, defaultKey, inertialKey, causesKey, byKey, nonexecutableKey}
+use Rattle.text.specs.Lines.{horizonKey, fluentKey, actionKey, staticKey, dynamicKey, ifKey, afterKey, defaultKey}
+use Rattle.text.specs.Lines.{inertialKey, causesKey, byKey, nonexecutableKey}
 use Rattle.spelling.specs.Spelling.{sameName, falseBytes, isName}
 use Rattle.text.specs.Names.{absent, declaredAt, isNew, literal}
 use Rattle.text.specs.Lists as lists
@@ -24,8 +25,11 @@ use Rattle.letter_case.proofs.AlikeRuns.{names-refl}
 use Rattle.letter_case.proofs.LetterCase.{letter-case}
 use Rattle.line_values.specs.HorizonText.{horizonOf}
 use Rattle.line_values.specs.ShortLaws.{defaultLaw, inertialLaw, causesLaw, nonexecutableLaw}
-use Rattle.description_reader.specs.LineSteps.{Due, fluentDue, actionDue, lawDue, ifDue, byDue, Draft, startsLaw, allowed, Step, refused, next, finish, horizonLine, nameLine}
-use Rattle.description_reader.specs.LineSteps.{readHead, begun, roomFor, whole, withIf, ifLine, afterLine, wholeByLiteral, wholeByList, endLine, lawIn, fluentList, anyList, lineStep}
+use Rattle.description_reader.specs.LineSteps.{Due, fluentDue, actionDue, lawDue, ifDue, byDue, Draft, startsLaw}
+use Rattle.description_reader.specs.LineSteps.{allowed, Step, refused, next, finish, horizonLine, nameLine}
+use Rattle.description_reader.specs.LineSteps.{readHead, begun, roomFor, whole, withIf, ifLine, afterLine}
+use Rattle.description_reader.specs.LineSteps.{wholeByLiteral, wholeByList, endLine, lawIn, fluentList, anyList}
+use Rattle.description_reader.specs.LineSteps.{lineStep}
 use Rattle.description_reader.specs.Descriptions.{described}
 use Rattle.written_form.specs.Writing.{Form, Spelling, descriptionText}
 use Rattle.written_form.specs.Respelling.{InCapitals}
@@ -67,7 +71,8 @@ listLines lent Dynamic ifs afters due d = andThen (lineStep lent due d ifKey ifs
 
 module _ (lent : ℕ) (d : Draft) where
   -- the lists where both have the head's bytes
-  lists-refused : (value : List ℕ) (kind : Kind) (l : Law) → fluentList d value ≡ lists.refused 6 → listLines lent kind value value (ifDue l) d ≡ refused 6
+  lists-refused : (value : List ℕ) (kind : Kind) (l : Law) → fluentList d value ≡ lists.refused 6
+      → listLines lent kind value value (ifDue l) d ≡ refused 6
   unfolding lineStep
   lists-refused value Static l e = ap (ifLine d l) e
   lists-refused value Dynamic l e = ap (λ list. andThen (ifLine d l list) (λ due′ d′. lineStep lent due′ d′ afterKey value)) e
@@ -76,7 +81,8 @@ module _ (lent : ℕ) (d : Draft) where
       → listLines lent kind value value (ifDue (lawOf kind (Lit c) [] [])) d ≡ next lawDue (whole d (literalLaw kind c))
   lists-read value Static c ifs afters = if-step lent d (lawOf Static (Lit c) [] []) value (c ∷ []) ifs
   lists-read value Dynamic c ifs afters =
-      ap (λ s. andThen s (λ due′ d′. lineStep lent due′ d′ afterKey value)) (if-step lent d (lawOf Dynamic (Lit c) [] []) value (c ∷ []) ifs)
+      ap (λ s. andThen s (λ due′ d′. lineStep lent due′ d′ afterKey value))
+      (if-step lent d (lawOf Dynamic (Lit c) [] []) value (c ∷ []) ifs)
       ∙ after-step lent d (lawOf Dynamic (Lit c) (c ∷ []) []) value (c ∷ []) afters
 
   -- default and inertial: by the literal that the bytes stand for, if any
@@ -118,12 +124,14 @@ module _ (lent : ℕ) (d : Draft) where
     whole-by h (lists.refused k) = refl
     whole-by h (codes cs) = refl
 
-    list-long : (h : Head) → wholeByList d (causesLaw h) (anyList d afters) ≡ listLines lent Dynamic [] afters (ifDue (lawOf Dynamic h [] [])) d
+    list-long : (h : Head)
+        → wholeByList d (causesLaw h) (anyList d afters) ≡ listLines lent Dynamic [] afters (ifDue (lawOf Dynamic h [] [])) d
     unfolding lineStep listOf items
     list-long h = whole-by h (anyList d afters)
 
     head-long : (o : Option Head)
-        → andThen (begun byDue d Dynamic o) (λ due d′. lineStep lent due d′ byKey afters) ≡ andThen (begun ifDue d Dynamic o) (listLines lent Dynamic [] afters)
+        → andThen (begun byDue d Dynamic o) (λ due d′. lineStep lent due d′ byKey afters)
+        ≡ andThen (begun ifDue d Dynamic o) (listLines lent Dynamic [] afters)
     unfolding lineStep
     head-long none = refl
     head-long (some h) = list-long h
@@ -149,7 +157,9 @@ module _ (d : Draft) (are : AreNames (d .names)) where
   name-named fits due fluents value = whichever NamedStep fits (go (isNew (d .names) value) refl) tt
     where
       go : (b : Bool) → isNew (d .names) value ≡ b
-          → NamedStep (cond b (next due (record { horizon = d .horizon; fluents = fluents; names = d .names ++ (value ∷ []); laws = d .laws })) (refused 4))
+          → NamedStep (cond b
+          (next due (record { horizon = d .horizon; fluents = fluents; names = d .names ++ (value ∷ []); laws = d .laws }))
+          (refused 4))
       go true e =
           each-append (λ x. isName x ≡ true) (d .names) (value ∷ []) .1
           (are, (and-iff (isName value) (absent (declaredAt (d .names) value)) .0 e .0, tt))
@@ -201,25 +211,30 @@ module _ (d : Draft) (are : AreNames (d .names)) where
       (whichever NamedStep (eqb key inertialKey) (whichever NamedStep room (literal-named inertialLaw code) tt)
       (whichever NamedStep (eqb key causesKey) (whichever NamedStep room (begun-named byDue Dynamic head) tt)
       (whichever NamedStep (eqb key byKey) (list-named (causesLaw (lawIn due .head)) (anyList d value))
-      (whichever NamedStep (eqb key nonexecutableKey) (whichever NamedStep room (list-named nonexecutableLaw (anyList d value)) tt) (end-named value)))))))))))))
+      (whichever NamedStep (eqb key nonexecutableKey)
+      (whichever NamedStep room (list-named nonexecutableLaw (anyList d value)) tt) (end-named value)))))))))))))
       tt
 
 pub shorthand : Shorthand
 unfolding lineStep readHead
 shorthand = record {
   default-long = λ lent due d are value.
-      alike (roomFor lent d) (begun ifDue d Static (readHead (d .names) (d .fluents) value)) (listLines lent Static value value) (starts due defaultKey refl)
+      alike (roomFor lent d) (begun ifDue d Static (readHead (d .names) (d .fluents) value))
+      (listLines lent Static value value) (starts due defaultKey refl)
       (literal-long lent d are value Static (literal (d .names) 0 (d .fluents) value) refl);
   inertial-long = λ lent due d are value.
-      alike (roomFor lent d) (begun ifDue d Dynamic (readHead (d .names) (d .fluents) value)) (listLines lent Dynamic value value) (dynamic-may due inertialKey refl)
+      alike (roomFor lent d) (begun ifDue d Dynamic (readHead (d .names) (d .fluents) value))
+      (listLines lent Dynamic value value) (dynamic-may due inertialKey refl)
       (literal-long lent d are value Dynamic (literal (d .names) 0 (d .fluents) value) refl);
   causes-long = λ lent due d head afters.
       tested-then (allowed due causesKey) (roomFor lent d) (begun byDue d Dynamic (readHead (d .names) (d .fluents) head))
       (λ due′ d′. lineStep lent due′ d′ byKey afters)
-      ∙ alike (roomFor lent d) (begun ifDue d Dynamic (readHead (d .names) (d .fluents) head)) (listLines lent Dynamic [] afters) (dynamic-may due causesKey refl)
+      ∙ alike (roomFor lent d) (begun ifDue d Dynamic (readHead (d .names) (d .fluents) head))
+      (listLines lent Dynamic [] afters) (dynamic-may due causesKey refl)
       (head-long lent d afters (readHead (d .names) (d .fluents) head));
   nonexecutable-long = λ lent due d afters.
-      alike (roomFor lent d) (begun ifDue d Dynamic (some False)) (listLines lent Dynamic [] afters) (dynamic-may due nonexecutableKey refl) (list-long lent d afters False);
+      alike (roomFor lent d) (begun ifDue d Dynamic (some False)) (listLines lent Dynamic [] afters)
+      (dynamic-may due nonexecutableKey refl) (list-long lent d afters False);
   none-named = tt;
   names-kept = λ lent due d are key value due′ d′ e. subst NamedStep e (step-named d are lent due key value);
 }

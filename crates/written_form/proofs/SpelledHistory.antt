@@ -23,23 +23,27 @@ use Rattle.written_form.proofs.Respelled.{history-alike}
 use Rattle.written_form.proofs.SpelledDescription.{list-spelled, description-respelled}
 
 module _ (names : List (List ℕ)) (are : AreNames names) (spell : Spelling) (any : InCapitals spell) (choice : ℕ → ℕ → Bool) (n m : ℕ) where
-  steps-respelled : (t k : ℕ) (vs : List ℕ) → Respelled (stepsText names asDeclared choice n m t k vs) (stepsText names spell choice n m t k vs)
+  steps-respelled : (t k : ℕ) (vs : List ℕ)
+      → Respelled (stepsText names asDeclared choice n m t k vs) (stepsText names spell choice n m t k vs)
   steps-respelled t zero vs =
       let cs = codesFrom (λ i. true) 0 (take n vs) in
-      used-line stateKey (listText names plains cs) (listText names (spell t 0) cs) (lineText endKey []) (lineText endKey []) refl (list-lacks-newline names are cs)
+      used-line stateKey (listText names plains cs) (listText names (spell t 0) cs) (lineText endKey [])
+      (lineText endKey []) refl (list-lacks-newline names are cs)
       (list-spelled names (spell t 0) (any t 0) cs) (same-text (lineText endKey []))
   steps-respelled t (suc k) vs =
       let cs = codesFrom (λ i. true) 0 (take n vs) in
       let acts = codesFrom (choice t) n (take m (drop n vs)) in
       let rest = drop m (drop n vs) in
-      used-line stateKey (listText names plains cs) (listText names (spell t 0) cs) _ _ refl (list-lacks-newline names are cs) (list-spelled names (spell t 0) (any t 0) cs)
+      used-line stateKey (listText names plains cs) (listText names (spell t 0) cs) _ _ refl
+      (list-lacks-newline names are cs) (list-spelled names (spell t 0) (any t 0) cs)
       (used-line actKey (listText names plains acts) (listText names (spell t 1) acts) _ _ refl (list-lacks-newline names are acts)
       (list-spelled names (spell t 1) (any t 1) acts) (steps-respelled (suc t) k rest))
 
 module _ (T : ℕ) (fluents actions : List (List ℕ)) (forms : ℕ → Form) (spell spell′ : Spelling) (ls : List Law) (vs : List ℕ) where
   -- what is read of the values as they are written, by the names of the description as it is written, whatever follows that
   abbrev pub readBack : List ℕ → (ℕ → ℕ → Bool) → Reply (List ℕ)
-  readBack more choice = readHistory (descriptionText T fluents actions forms spell ls ++ more) (valuesText T fluents actions spell′ choice vs) (length vs)
+  readBack more choice =
+      readHistory (descriptionText T fluents actions forms spell ls ++ more) (valuesText T fluents actions spell′ choice vs) (length vs)
 
   module _ (any : InCapitals spell) (any′ : InCapitals spell′) (lent : ℕ) (w : Writable lent T fluents actions ls) (vals : Values vs)
       (count : length vs ≡ atomCount (length fluents) (length actions) T) (more : List ℕ) (few : length more ≤ 45535) where
@@ -48,7 +52,8 @@ module _ (T : ℕ) (fluents actions : List (List ℕ)) (forms : ℕ → Form) (s
     unfolding valuesText
     history-read choice =
         sym
-        (history-alike (descriptionText T fluents actions forms asDeclared ls ++ more) (descriptionText T fluents actions forms spell ls ++ more)
+        (history-alike (descriptionText T fluents actions forms asDeclared ls ++ more)
+        (descriptionText T fluents actions forms spell ls ++ more)
         (valuesText T fluents actions asDeclared choice vs) (valuesText T fluents actions spell′ choice vs) (length vs)
         (description-respelled T fluents actions forms spell any ls (w .are-names) more)
         (steps-respelled (fluents ++ actions) (w .are-names) spell′ any′ choice (length fluents) (length actions) 0 T vs))

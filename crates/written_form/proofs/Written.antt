@@ -2,14 +2,12 @@
 -- Assumes nothing.
 use mathlib.Core.Path.{_≡_, refl}
 use mathlib.Core.Bool.{true}
-use mathlib.Core.List.{List, [], _++_}
+use mathlib.Core.List.{List, _++_}
 use Prim.Native.Nat.{ℕ, _+_, _*_, _≤_}
 use native.Mathlib.Omega.{arith}
 use lib.ListN.{length, length-take, length-append}
-use lib.Seq.{take-append-seam}
 use Rattle.basics.specs.Search.{Each}
 use Rattle.basics.proofs.Tests.{each-map}
-use Rattle.action_language.specs.declared.Head.{Head}
 use Rattle.action_language.specs.declared.Kind.{Kind}
 use Rattle.action_language.specs.declared.Kind.the-variants.{Static, Dynamic}
 use Rattle.action_language.specs.declared.Law.{Law}
@@ -17,16 +15,8 @@ use Rattle.action_language.specs.Laws.{ifList}
 use Rattle.action_language.specs.Acceptance.{lawFits}
 use Rattle.action_language.proofs.Laws.{fits-if, fits-after}
 use Rattle.action_language.proofs.Fits.{CodesBelow, HeadBelow, AfterBelow, law-fits}
-use Rattle.action_language.specs.Laws.{lawOf}
-use Rattle.reader_bounds.specs.Accepts.{aftersOf, Tidy}
+use Rattle.reader_bounds.specs.Accepts.{aftersOf}
 use Rattle.written_form.specs.Writable.{Writable}
-
--- the records that the reader makes are tidy
-pub tidy-static : (h : Head) (ifs : List ℕ) → Tidy (lawOf Static h ifs [])
-tidy-static h ifs = rw (take-append-seam ifs _)
-
-pub tidy-dynamic : (h : Head) (ifs afters : List ℕ) → Tidy (lawOf Dynamic h ifs afters)
-tidy-dynamic h ifs afters = rw (take-append-seam ifs _, take-append-seam afters _)
 
 -- a law within the limits, n fluents among all names
 pub record Bounded (n names : ℕ) (l : Law) : Type 0 where

@@ -16,7 +16,8 @@ use Rattle.action_language.specs.Laws.{isStatic, ifList, afterList, lawOf}
 use Rattle.action_language.proofs.Fits.{CodesBelow}
 use Rattle.line_values.specs.ShortLaws.{defaultLaw, inertialLaw, causesLaw, nonexecutableLaw}
 use Rattle.reader_bounds.specs.Accepts.{aftersOf, Tidy}
-use Rattle.written_form.specs.Writing.{Form, inFull, asDefault, asInertial, asCauses, asNonexecutable, onlyHead, isFalse, hasForm, writtenAs}
+use Rattle.written_form.specs.Writing.{Form, inFull, asDefault, asInertial, asCauses, asNonexecutable, onlyHead}
+use Rattle.written_form.specs.Writing.{isFalse, hasForm, writtenAs}
 use Rattle.spelling.proofs.Comparing.{same-refl, same-equal}
 use Rattle.written_form.proofs.Written.{Bounded}
 
@@ -65,7 +66,8 @@ causes-dynamic l has = dynamic-kind (l .kind) (and-iff _ _ .0 has .0)
 pub nonexecutable-dynamic : (l : Law) → hasForm asNonexecutable l ≡ true → l .kind ≡ Dynamic
 nonexecutable-dynamic l has = dynamic-kind (l .kind) (and₃-iff _ _ _ .0 has .0)
 
-pub dynamic-afters : (n names : ℕ) (l : Law) → Bounded n names l → l .kind ≡ Dynamic → CodesBelow (2 * names) (afterList l) × (length (afterList l) ≤ 6)
+pub dynamic-afters : (n names : ℕ) (l : Law) → Bounded n names l → l .kind ≡ Dynamic
+    → CodesBelow (2 * names) (afterList l) × (length (afterList l) ≤ 6)
 dynamic-afters n names l b kind =
     subst (λ k. CodesBelow (2 * names) (aftersOf k l) × (length (aftersOf k l) ≤ 6)) kind (b .afters, b .few-afters)
 
@@ -93,7 +95,9 @@ module _ (l : Law) (tidy : Tidy l) where
       record {
         code = c;
         is-head = head;
-        is-law = by-parts l tidy (dynamic-kind (l .kind) kind) head (only-literal (l .head) c (ifList l) head ifs) (only-literal (l .head) c (afterList l) head afters);
+        is-law =
+            by-parts l tidy (dynamic-kind (l .kind) kind) head (only-literal (l .head) c (ifList l) head ifs)
+            (only-literal (l .head) c (afterList l) head afters);
       }
 
   pub causes-is : hasForm asCauses l ≡ true → l ≡ causesLaw (l .head) (afterList l)

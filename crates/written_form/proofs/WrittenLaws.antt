@@ -19,16 +19,19 @@ use Rattle.text.specs.Lines.{staticKey, dynamicKey, ifKey, afterKey, defaultKey
 use Rattle.text.specs.Names.{literal}
 use Rattle.text.specs.Lists.{codes}
 use Rattle.line_values.specs.ShortLaws.{defaultLaw, inertialLaw}
-use Rattle.description_reader.specs.LineSteps.{Due, lawDue, ifDue, afterDue, byDue, Draft, startsLaw, allowed, next, readHead, whole, ifLine, anyList, lineStep}
+use Rattle.description_reader.specs.LineSteps.{Due, lawDue, ifDue, afterDue, byDue, Draft, startsLaw, allowed, next}
+use Rattle.description_reader.specs.LineSteps.{readHead, whole, ifLine, anyList, lineStep}
 use Rattle.written_form.specs.Writing.{Form, inFull, asDefault, asInertial, asCauses, asNonexecutable, hasForm, writtenAs}
 use Rattle.written_form.specs.Writing.{asDeclared, lineText, listText, headText, fullText, formText, lawsText}
 use Rattle.written_form.specs.Writable.{formLines, lawLines, lawsLines, AreNames, Distinct, draft}
 use Rattle.written_form.proofs.WrittenNames.{plains, plainLines, literal-read, head-read}
 use Rattle.written_form.proofs.WrittenLists.{codes-in, head-lacks-newline, list-lacks-newline, list-read}
-use Rattle.written_form.proofs.WrittenSteps.{static-step, dynamic-step, causes-step, default-step, inertial-step, nonexecutable-step, if-step, after-step, by-step}
+use Rattle.written_form.proofs.WrittenSteps.{static-step, dynamic-step, causes-step, default-step, inertial-step}
+use Rattle.written_form.proofs.WrittenSteps.{nonexecutable-step, if-step, after-step, by-step}
 use Rattle.written_form.proofs.WrittenSteps.{starts, Passes, nothing-passes, line-passes, then, dueBehind, same-due}
 use Rattle.written_form.proofs.Written.{Bounded}
-use Rattle.written_form.proofs.WrittenForms.{form-had, causes-dynamic, nonexecutable-dynamic, dynamic-afters, OfLiteral, default-is, inertial-is, causes-is, nonexecutable-is}
+use Rattle.written_form.proofs.WrittenForms.{form-had, causes-dynamic, nonexecutable-dynamic, dynamic-afters}
+use Rattle.written_form.proofs.WrittenForms.{OfLiteral, default-is, inertial-is, causes-is, nonexecutable-is}
 
 module _ (lent T n : ℕ) (names : List (List ℕ)) (are : AreNames names) (distinct : Distinct names) (held : n ≤ length names) where
   -- one law, behind those done, where a law may start
@@ -48,7 +51,8 @@ module _ (lent T n : ℕ) (names : List (List ℕ)) (are : AreNames names) (dist
     may-start : (k : ℕ) → startsLaw k ≡ true → allowed due k ≡ true
     may-start k is = starts due k is ∙ may
 
-    head-passes : (key : ℕ) {later : Due} → key < noKey → lineStep lent due at key head ≡ next later at → Passes lent 1 (lineText key head) due at later at
+    head-passes : (key : ℕ) {later : Due} → key < noKey → lineStep lent due at key head ≡ next later at
+        → Passes lent 1 (lineText key head) due at later at
     head-passes key known step = line-passes due at key head known (head-lacks-newline names are (l .head)) step
 
     is-head : readHead names n head ≡ some (l .head)
@@ -79,7 +83,8 @@ module _ (lent T n : ℕ) (names : List (List ℕ)) (are : AreNames names) (dist
         then
         (then (head-passes dynamicKey (omega arith) (dynamic-step lent due at head (l .head) (may-start dynamicKey refl) few is-head))
         (if-passes (lawOf Dynamic (l .head) [] []) refl) 2 refl)
-        (line-passes (afterDue half) at afterKey (listText names plains (afterList l)) (omega arith) (list-lacks-newline names are (afterList l))
+        (line-passes (afterDue half) at afterKey (listText names plains (afterList l)) (omega arith)
+        (list-lacks-newline names are (afterList l))
         (after-step lent at half (listText names plains (afterList l)) (afterList l) (any-read (afterList l) afters few-afters)))
         3 refl
 
@@ -94,15 +99,19 @@ module _ (lent T n : ℕ) (names : List (List ℕ)) (are : AreNames names) (dist
         → Leaves 1 (lineText key head) l
     literal-passes key law known of step =
         subst (Leaves 1 (lineText key head)) (sym (of .is-law))
-        (line-passes due at key head known (head-lacks-newline names are (l .head)) (step (of .code) (head-literal (of .code) (of .is-head))))
+        (line-passes due at key head known (head-lacks-newline names are (l .head))
+        (step (of .code) (head-literal (of .code) (of .is-head))))
 
     form-passes : (form : Form) → hasForm form l ≡ true → Leaves (formLines form (l .kind)) (formText names plainLines form l) l
     form-passes inFull has =
-        subst (Leaves (formLines inFull (l .kind)) (fullText names plainLines (l .kind) l)) (sym tidy) (full-passes (l .kind) (b .afters) (b .few-afters))
+        subst (Leaves (formLines inFull (l .kind)) (fullText names plainLines (l .kind) l)) (sym tidy)
+        (full-passes (l .kind) (b .afters) (b .few-afters))
     form-passes asDefault has =
-        literal-passes defaultKey defaultLaw (omega arith) (default-is l tidy has) (λ c. default-step lent due at head c (may-start defaultKey refl) few)
+        literal-passes defaultKey defaultLaw (omega arith) (default-is l tidy has)
+        (λ c. default-step lent due at head c (may-start defaultKey refl) few)
     form-passes asInertial has =
-        literal-passes inertialKey inertialLaw (omega arith) (inertial-is l tidy has) (λ c. inertial-step lent due at head c (may-start inertialKey refl) few)
+        literal-passes inertialKey inertialLaw (omega arith) (inertial-is l tidy has)
+        (λ c. inertial-step lent due at head c (may-start inertialKey refl) few)
     form-passes asCauses has =
         let (below, small) = dynamic-afters n (length names) l b (causes-dynamic l has) in
         let begun = lawOf Dynamic (l .head) [] [] in
@@ -114,12 +123,16 @@ module _ (lent T n : ℕ) (names : List (List ℕ)) (are : AreNames names) (dist
     form-passes asNonexecutable has =
         let (below, small) = dynamic-afters n (length names) l b (nonexecutable-dynamic l has) in
         subst (Leaves 1 (formText names plainLines asNonexecutable l)) (sym (nonexecutable-is l tidy has))
-        (line-passes due at nonexecutableKey (listText names plains (afterList l)) (omega arith) (list-lacks-newline names are (afterList l))
-        (nonexecutable-step lent due at (listText names plains (afterList l)) (afterList l) (may-start nonexecutableKey refl) few (any-read (afterList l) below small)))
+        (line-passes due at nonexecutableKey (listText names plains (afterList l)) (omega arith)
+        (list-lacks-newline names are (afterList l))
+        (nonexecutable-step lent due at (listText names plains (afterList l)) (afterList l)
+        (may-start nonexecutableKey refl) few (any-read (afterList l) below small)))
 
-  pub laws-pass : (forms : ℕ → Form) (i : ℕ) (ls done : List Law) (due : Due) → allowed due staticKey ≡ true → length done + length ls ≤ min 64 lent
+  pub laws-pass : (forms : ℕ → Form) (i : ℕ) (ls done : List Law) (due : Due) → allowed due staticKey ≡ true
+      → length done + length ls ≤ min 64 lent
       → Each (Bounded n (length names)) ls → Each Tidy ls
-      → Passes lent (lawsLines forms i ls) (lawsText names forms asDeclared i ls) due (draft T n names done) (dueBehind due lawDue ls) (draft T n names (done ++ ls))
+      → Passes lent (lawsLines forms i ls) (lawsText names forms asDeclared i ls) due (draft T n names done)
+      (dueBehind due lawDue ls) (draft T n names (done ++ ls))
   laws-pass forms i [] done due may few b tidy = rw (append-nil done) (nothing-passes due (draft T n names done))
   laws-pass forms i (l ∷ ls) done due may few b tidy =
       let here = form-passes l done due may (omega arith) (b .0) (tidy .0) (writtenAs (forms i) l) (form-had (forms i) l) in

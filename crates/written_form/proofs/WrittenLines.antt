@@ -53,7 +53,8 @@ answers-some k (some i) e = ap {B = Option ℕ} some (eqb-true i k e)
 pub passed-by : (p : ℕ → Bool) (from n : ℕ) → all p (range from n) ≡ true → (k : ℕ) → from ≤ k → k < from + n → p k ≡ true
 passed-by p from n e k low high =
     let there : from + (k - from) ≡ k = omega arith in
-    rw there at (each-range (λ i. p i ≡ true) from n (λ i. from + i) (λ i. refl) .0 (all-each p (range from n) .0 e) (k - from) (omega arith))
+    rw there
+    at (each-range (λ i. p i ≡ true) from n (λ i. from + i) (λ i. refl) .0 (all-each p (range from n) .0 e) (k - from) (omega arith))
 
 -- `Lacks` as a test
 abbrev lacking : ℕ → List ℕ → Bool
@@ -83,7 +84,8 @@ module _ (k : ℕ) (known : k < noKey) (value : List ℕ) (clean : Lacks newline
 
   good : (answers k (keyNumber key) ≡ true) × (lacking equalsSign key ≡ true) × (lacking newline key ≡ true)
   good =
-      and₃-iff (answers k (keyNumber key)) (lacking equalsSign key) (lacking newline key) .0 (passed-by goodKey 0 noKey good-keys k (omega arith) (omega arith))
+      and₃-iff (answers k (keyNumber key)) (lacking equalsSign key) (lacking newline key) .0
+      (passed-by goodKey 0 noKey good-keys k (omega arith) (omega arith))
 
   pub line-clean : Lacks newline (key ++ equalsSign ∷ value)
   line-clean = each-append _ key (equalsSign ∷ value) .1 (lacks newline key (good .2), (refl, clean))

@@ -103,7 +103,9 @@ module _ (names : List (List ℕ)) (are : AreNames names) where
         ∙ ap codes (append-assoc done (c ∷ []) cs)
         )
 
-    pub list-read : (cs : List ℕ) → CodesIn low high cs → length cs ≤ most → listOf names low high most (listText names plains cs) ≡ codes cs
+    pub list-read : (cs : List ℕ) → CodesIn low high cs → length cs ≤ most
+        → listOf names low high most (listText names plains cs) ≡ codes cs
     unfolding listOf
     list-read cs h few =
-        ap (listFrom names low high most []) (items-written cs (each-map (λ c b. omega (arith, b .1)) cs h)) ∙ list-from [] cs h (omega arith)
+        ap (listFrom names low high most []) (items-written cs (each-map (λ c b. omega (arith, b .1)) cs h))
+        ∙ list-from [] cs h (omega arith)

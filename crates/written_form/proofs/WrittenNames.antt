@@ -138,7 +138,8 @@ module _ (names : List (List ℕ)) (are : AreNames names) where
         → inSort low high sign (declaredAt names (getD names i [])) ≡ some (2 * i + sign)
     sorted low high sign i from to held =
         ap (inSort low high sign)
-        (searched names (getD names i []) (name-at i (omega arith)) ∙ declared names 0 i distinct (omega arith) ∙ ap {B = Option ℕ} some (zero-add i))
+        (searched names (getD names i []) (name-at i (omega arith)) ∙ declared names 0 i distinct (omega arith)
+        ∙ ap {B = Option ℕ} some (zero-add i))
         ∙ rw (le-leb low i from, lt-ltb i high to)
 
     pub literal-read : (low high c : ℕ) → low ≤ c / 2 → c < 2 * high → high ≤ length names
@@ -158,7 +159,8 @@ module _ (names : List (List ℕ)) (are : AreNames names) where
             ∙ sorted low high 1 i from (omega arith) held
             ∙ ap {B = Option ℕ} some (omega (arith, eqb-false (c % 2) 0 e))
 
-    pub head-read : (fluents : ℕ) (h : Head) → HeadBelow (2 * fluents) h → fluents ≤ length names → readHead names fluents (headText names plains h) ≡ some h
+    pub head-read : (fluents : ℕ) (h : Head) → HeadBelow (2 * fluents) h → fluents ≤ length names
+        → readHead names fluents (headText names plains h) ≡ some h
     unfolding readHead
     head-read fluents (Lit c) below held =
         rw (literal-not-false c (omega arith)) (ap litHead (literal-read 0 fluents c (omega arith) below held))

@@ -23,7 +23,8 @@ use Rattle.text.specs.Lines.{keys, horizonKey, fluentKey, actionKey, staticKey,
 use Rattle.text.specs.Lines.{defaultKey, inertialKey, causesKey, byKey, nonexecutableKey}
 use Rattle.spelling.specs.Spelling.{isName}
 use Rattle.written_form.specs.Writing.{Form, inFull, asDefault, asInertial, asCauses, asNonexecutable, hasForm, writtenAs}
-use Rattle.written_form.specs.Writing.{asDeclared, lineText, horizonText, listText, headText, fullText, formText, lawText, lawsText, namesText, descriptionText}
+use Rattle.written_form.specs.Writing.{asDeclared, lineText, horizonText, listText, headText, fullText, formText}
+use Rattle.written_form.specs.Writing.{lawText, lawsText, namesText, descriptionText}
 use Rattle.written_form.proofs.WrittenNames.{plains, plainLines, literal-size}
 use Rattle.spelling.proofs.Naming.{named}
 use Rattle.written_form.proofs.WrittenLists.{list-size}
@@ -58,7 +59,8 @@ module _ (names : List (List ℕ)) (are : AreNames names) (n : ℕ) (held : n �
   head-size False below = omega arith
 
   full-size : (l : Law) → Bounded n (length names) l
-      → (formLines inFull (l .kind) ≤ length (fullText names plainLines (l .kind) l)) × (length (fullText names plainLines (l .kind) l) ≤ 256)
+      → (formLines inFull (l .kind) ≤ length (fullText names plainLines (l .kind) l))
+      × (length (fullText names plainLines (l .kind) l) ≤ 256)
   full-size l b = go (l .kind) (list-size names are (aftersOf (l .kind) l) (b .afters)) (b .few-afters)
     where
       head : length (headText names plains (l .head)) ≤ 17
@@ -68,7 +70,8 @@ module _ (names : List (List ℕ)) (are : AreNames names) (n : ℕ) (held : n �
       ifs = list-size names are (ifList l) (each-map (λ c h. omega arith) (ifList l) (b .ifs)) .1
 
       go : (k : Kind)
-          → (length (aftersOf k l) ≤ length (listText names plains (aftersOf k l))) × (length (listText names plains (aftersOf k l)) ≤ 18 * length (aftersOf k l))
+          → (length (aftersOf k l) ≤ length (listText names plains (aftersOf k l)))
+          × (length (listText names plains (aftersOf k l)) ≤ 18 * length (aftersOf k l))
           → length (aftersOf k l) ≤ 6
           → (formLines inFull k ≤ length (fullText names plainLines k l)) × (length (fullText names plainLines k l) ≤ 256)
       go Static afters few =
@@ -120,7 +123,8 @@ module _ (names : List (List ℕ)) (are : AreNames names) (n : ℕ) (held : n �
       omega (arith, list-size names are (afterList l) below .1, line-size nonexecutableKey (listText names plains (afterList l)))
 
   laws-size : (forms : ℕ → Form) (i : ℕ) (ls : List Law) → Each (Bounded n (length names)) ls
-      → (lawsLines forms i ls ≤ length (lawsText names forms asDeclared i ls)) × (length (lawsText names forms asDeclared i ls) ≤ 256 * length ls)
+      → (lawsLines forms i ls ≤ length (lawsText names forms asDeclared i ls))
+      × (length (lawsText names forms asDeclared i ls) ≤ 256 * length ls)
   laws-size forms i [] b = omega arith
   laws-size forms i (l ∷ ls) b =
       omega (
@@ -137,8 +141,10 @@ horizon-size k = go (ltb k 10)
     go true = omega arith
     go false = omega arith
 
-pub description-size : (lent T : ℕ) (fluents actions : List (List ℕ)) (forms : ℕ → Form) (ls : List Law) → Writable lent T fluents actions ls
-    → (linesWritten fluents actions forms ls ≤ length (descriptionText T fluents actions forms asDeclared ls)) × (length (descriptionText T fluents actions forms asDeclared ls) ≤ 20000)
+pub description-size : (lent T : ℕ) (fluents actions : List (List ℕ)) (forms : ℕ → Form) (ls : List Law)
+    → Writable lent T fluents actions ls
+    → (linesWritten fluents actions forms ls ≤ length (descriptionText T fluents actions forms asDeclared ls))
+    × (length (descriptionText T fluents actions forms asDeclared ls) ≤ 20000)
 unfolding descriptionText
 description-size lent T fluents actions forms ls w =
     let names = fluents ++ actions in

@@ -25,8 +25,10 @@ use Rattle.text.specs.Lists.{codes}
 use Rattle.written_form.specs.Writable.{draft}
 use Rattle.line_values.specs.HorizonText.{horizonOf}
 use Rattle.line_values.specs.ShortLaws.{defaultLaw, inertialLaw, causesLaw, nonexecutableLaw}
-use Rattle.description_reader.specs.LineSteps.{Due, horizonDue, firstFluentDue, fluentDue, actionDue, lawDue, ifDue, afterDue, byDue, Draft, startsLaw, allowed, next, finish}
-use Rattle.description_reader.specs.LineSteps.{horizonLine, readHead, begun, lawLine, whole, ifLine, afterLine, wholeByLiteral, wholeByList, literalLine, fluentList, anyList, lineStep}
+use Rattle.description_reader.specs.LineSteps.{Due, horizonDue, firstFluentDue, fluentDue, actionDue, lawDue, ifDue}
+use Rattle.description_reader.specs.LineSteps.{afterDue, byDue, Draft, startsLaw, allowed, next, finish}
+use Rattle.description_reader.specs.LineSteps.{horizonLine, readHead, begun, lawLine, whole, ifLine, afterLine}
+use Rattle.description_reader.specs.LineSteps.{wholeByLiteral, wholeByList, literalLine, fluentList, anyList, lineStep}
 use Rattle.action_language.specs.Laws.{lawOf}
 use Rattle.description_reader.specs.Descriptions.{read, afterStep, afterFirst, linesFrom}
 use Rattle.written_form.specs.Writing.{lineText, horizonText}
@@ -65,13 +67,15 @@ module _ (lent : ℕ) (due : Due) (d : Draft) where
   unfolding lineStep
   fluent-step x may few name new = rw (may, lt-ltb (d .fluents) 24 few, name, new)
 
-  pub action-step : (x : List ℕ) → allowed due actionKey ≡ true → length (d .names) < d .fluents + 8 → isName x ≡ true → declaredAt (d .names) x ≡ none
+  pub action-step : (x : List ℕ) → allowed due actionKey ≡ true → length (d .names) < d .fluents + 8 → isName x ≡ true
+      → declaredAt (d .names) x ≡ none
       → lineStep lent due d actionKey x ≡ next actionDue (draft (d .horizon) (d .fluents) (d .names ++ (x ∷ [])) (d .laws))
   unfolding lineStep
   action-step x may few name new = rw (may, lt-ltb (length (d .names)) (d .fluents + 8) few, name, new)
 
   -- a law begins: the list that follows its head is due
-  begins : (later : Law → Due) (kind : Kind) (x : List ℕ) (h : Head) → length (d .laws) < min 64 lent → readHead (d .names) (d .fluents) x ≡ some h
+  begins : (later : Law → Due) (kind : Kind) (x : List ℕ) (h : Head) → length (d .laws) < min 64 lent
+      → readHead (d .names) (d .fluents) x ≡ some h
       → lawLine lent later d kind x ≡ next (later (lawOf kind h [] [])) d
   begins later kind x h few head = rw (lt-ltb (length (d .laws)) (min 64 lent) few) (ap (begun later d kind) head)
 
@@ -176,7 +180,8 @@ module _ {lent : ℕ} where
         );
   }
 
-  pub then : {s t : ℕ} {a b : List ℕ} {due due′ due″ : Due} {d d′ d″ : Draft} → Passes lent s a due d due′ d′ → Passes lent t b due′ d′ due″ d″
+  pub then : {s t : ℕ} {a b : List ℕ} {due due′ due″ : Due} {d d′ d″ : Draft} → Passes lent s a due d due′ d′
+      → Passes lent t b due′ d′ due″ d″
       → (u : ℕ) → u ≡ s + t → Passes lent u (a ++ b) due d due″ d″
   then {s} {t} {a} {b} {due} {due′} {due″} {d} {d′} {d″} p q u e = record {
     run = λ k n rest.

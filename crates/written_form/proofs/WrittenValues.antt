@@ -58,7 +58,8 @@ module _ (base i : ℕ) (p : List ℕ) (there : length p ≡ base + i) (v : ℕ)
 mark-value : (base i : ℕ) (p q : List ℕ) → length p ≡ base + i → (b : Bool) (v : ℕ) → v ≤ 3
     → withLiterals base (p ++ 0 ∷ q) (listedAt b i v) ≡ p ++ markedAt b v ∷ q
 mark-value base i p q there =
-    by-listed (λ b v. withLiterals base (p ++ 0 ∷ q) (listedAt b i v) ≡ p ++ markedAt b v ∷ q) (λ b. refl) (λ b. mark-true base i p there 0 q)
+    by-listed (λ b v. withLiterals base (p ++ 0 ∷ q) (listedAt b i v) ≡ p ++ markedAt b v ∷ q) (λ b. refl)
+    (λ b. mark-true base i p there 0 q)
     (mark-false base i p there 0 q) refl
     (
     λ b.
@@ -74,7 +75,8 @@ mark-values f base i p (w ∷ ws) ys there h =
     let zeros : List ℕ = replicate (length (ws ++ ys)) 0 in
     let u = markedAt (f i) w in
     marked-append base (p ++ 0 ∷ zeros) (listedAt (f i) i w) (codesFrom f (suc i) ws)
-    ∙ ap (λ vs. withLiterals base vs (codesFrom f (suc i) ws)) (mark-value base i p zeros there (f i) w (h .0) ∙ sym (append-snoc p u zeros))
+    ∙ ap (λ vs. withLiterals base vs (codesFrom f (suc i) ws))
+    (mark-value base i p zeros there (f i) w (h .0) ∙ sym (append-snoc p u zeros))
     ∙ mark-values f base (suc i) (p ++ (u ∷ [])) ws ys (omega (arith, length-append p (u ∷ []))) (h .1)
     ∙ append-snoc p u (markedFrom f (suc i) ws ++ replicate (length ys) 0)
 
@@ -134,7 +136,8 @@ codes-at-in : (i high : ℕ) → i < high → (b : Bool) (v : ℕ) → v ≤ 3 �
 codes-at-in i high h =
     let even : (i ≤ (2 * i) / 2) × (2 * i < 2 * high) = omega arith in
     let odd : (i ≤ (2 * i + 1) / 2) × (2 * i + 1 < 2 * high) = omega arith in
-    by-listed (λ b v. CodesIn i high (listedAt b i v) × (length (listedAt b i v) ≤ 2)) (λ b. (tt, omega arith)) (λ b. ((even, tt), omega arith))
+    by-listed (λ b v. CodesIn i high (listedAt b i v) × (length (listedAt b i v) ≤ 2)) (λ b. (tt, omega arith))
+    (λ b. ((even, tt), omega arith))
     ((odd, tt), omega arith) (tt, omega arith) (λ b. ((even, (odd, tt)), omega arith))
 
 pub codes-from-in : (f : ℕ → Bool) (i high : ℕ) (ws : List ℕ) → i + length ws ≤ high → Values ws

@@ -26,13 +26,15 @@ pub data Respelled : List ℕ → List ℕ → Type 0 where
   same-text : (text : List ℕ) → Respelled text text
   same-line : (line text text′ : List ℕ) → Each (λ b. eqb newline b ≡ false) line → Respelled text text′
       → Respelled (line ++ newline ∷ text) (line ++ newline ∷ text′)
-  used-line : (key : ℕ) (value value′ text text′ : List ℕ) → usesNames key ≡ true → Each (λ b. eqb newline b ≡ false) value → Alike value value′
+  used-line : (key : ℕ) (value value′ text text′ : List ℕ) → usesNames key ≡ true → Each (λ b. eqb newline b ≡ false) value
+      → Alike value value′
       → Respelled text text′ → Respelled (lineText key value ++ text) (lineText key value′ ++ text′)
 
 -- the same refusal, or the same draft behind as many lines, the text behind it respelled
 pub data ReadAlike : Reply Taken → Reply Taken → Type 0 where
   both-refused : (number place : ℕ) → ReadAlike (refused number place) (refused number place)
-  both-read : (d : Draft) (rest rest′ : List ℕ) (lines : ℕ) → Respelled rest rest′ → ReadAlike (answered (read d rest lines)) (answered (read d rest′ lines))
+  both-read : (d : Draft) (rest rest′ : List ℕ) (lines : ℕ) → Respelled rest rest′
+      → ReadAlike (answered (read d rest lines)) (answered (read d rest′ lines))
 
 -- for every text, damaged ones too
 pub record Respelling : Type 0 where

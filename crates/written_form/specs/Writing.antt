@@ -74,7 +74,8 @@ writtenAs form l = cond (hasForm form l) form inFull
 
 -- the text of a law in full, by its kind
 abbrev pub fullText : List (List ℕ) → (ℕ → ℕ → List ℕ → List ℕ) → Kind → Law → List ℕ
-fullText names spell Static l = lineText staticKey (headText names (spell 0) (l .head)) ++ lineText ifKey (listText names (spell 1) (ifList l))
+fullText names spell Static l =
+    lineText staticKey (headText names (spell 0) (l .head)) ++ lineText ifKey (listText names (spell 1) (ifList l))
 fullText names spell Dynamic l =
     lineText dynamicKey (headText names (spell 0) (l .head))
     ++ lineText ifKey (listText names (spell 1) (ifList l))
@@ -85,7 +86,8 @@ abbrev pub formText : List (List ℕ) → (ℕ → ℕ → List ℕ → List ℕ
 formText names spell inFull l = fullText names spell (l .kind) l
 formText names spell asDefault l = lineText defaultKey (headText names (spell 0) (l .head))
 formText names spell asInertial l = lineText inertialKey (headText names (spell 0) (l .head))
-formText names spell asCauses l = lineText causesKey (headText names (spell 0) (l .head)) ++ lineText byKey (listText names (spell 1) (afterList l))
+formText names spell asCauses l =
+    lineText causesKey (headText names (spell 0) (l .head)) ++ lineText byKey (listText names (spell 1) (afterList l))
 formText names spell asNonexecutable l = lineText nonexecutableKey (listText names (spell 0) (afterList l))
 
 abbrev pub lawText : List (List ℕ) → (ℕ → ℕ → List ℕ → List ℕ) → Form → Law → List ℕ
@@ -102,5 +104,6 @@ namesText key (x ∷ xs) = lineText key x ++ namesText key xs
 
 unfoldable pub descriptionText : ℕ → List (List ℕ) → List (List ℕ) → (ℕ → Form) → Spelling → List Law → List ℕ
 descriptionText T fluents actions forms spell ls =
-    lineText horizonKey (horizonText T) ++ namesText fluentKey fluents ++ namesText actionKey actions ++ lawsText (fluents ++ actions) forms spell 0 ls
+    lineText horizonKey (horizonText T) ++ namesText fluentKey fluents ++ namesText actionKey actions
+    ++ lawsText (fluents ++ actions) forms spell 0 ls
     ++ lineText endKey []

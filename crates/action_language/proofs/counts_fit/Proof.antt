@@ -16,10 +16,14 @@ returns-3 : tie.Need-returns-3
 returns-3 c = let a = c .before .before .before .before .before .before .args in sym (counts-false (a .d) (a .lent) (λ h. omega arith))
 
 returns-4 : tie.Need-returns-4
-returns-4 c = let a = c .before .before .before .before .before .before .before .before .args in sym (counts-false (a .d) (a .lent) (λ h. omega arith))
+returns-4 c =
+    let a = c .before .before .before .before .before .before .before .before .args in
+    sym (counts-false (a .d) (a .lent) (λ h. omega arith))
 
 returns-5 : tie.Need-returns-5
-returns-5 c = let a = c .before .before .before .before .before .before .before .before .before .before .args in sym (counts-false (a .d) (a .lent) (λ h. omega arith))
+returns-5 c =
+    let a = c .before .before .before .before .before .before .before .before .before .before .args in
+    sym (counts-false (a .d) (a .lent) (λ h. omega arith))
 
 returns-6 : tie.Need-returns-6
 returns-6 c =

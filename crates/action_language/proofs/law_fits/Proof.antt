@@ -62,7 +62,10 @@ returns-3 c =
     let h = c .before .before .before .before .before in
     let l = c .before .before in
     let a = h .before .before .args in
-    rw (not-false (l .list-fits .result) (c .before .if2 .left), not-false (h .head-fits .result) (c .before .before .before .before .if1 .left))
+    rw (
+      not-false (l .list-fits .result) (c .before .if2 .left),
+      not-false (h .head-fits .result) (c .before .before .before .before .if1 .left),
+    )
     at (tests (a .n) (a .m) (a .law) (head h) (list l) (c .after-fits .ensures (a .n) (a .m) refl))
 
 pub law-fits-spec : {M : Type 1} → statement M

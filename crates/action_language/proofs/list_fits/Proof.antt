@@ -35,10 +35,15 @@ wide-requires c κs = tt
 next : (c : tie.After-wide Inv-loop μ-loop) → let h = c .before .before in
     codesBelow (h .before .before .args .limit) (take (h .before .before .args .count) (h .before .before .args .t1))
     ≡ (ltb (c .wide .result) (h .before .before .args .limit)
-    && codesBelow (h .before .before .args .limit) (drop (h .loop .i + 1) (take (h .before .before .args .count) (h .before .before .args .t1))))
+    && codesBelow (h .before .before .args .limit)
+    (drop (h .loop .i + 1) (take (h .before .before .args .count) (h .before .before .args .t1))))
 next c =
     let h = c .before .before in
-    rw (c .wide .ensures, ← h .loop .inv .3, rest-cons (h .before .before .args .t1) (h .before .before .args .count) (h .loop .i) 0 (c .before .loop-test .taken) (omega arith))
+    rw (
+      c .wide .ensures,
+      ← h .loop .inv .3,
+      rest-cons (h .before .before .args .t1) (h .before .before .args .count) (h .loop .i) 0 (c .before .loop-test .taken) (omega arith),
+    )
 
 returns-2 : tie.Need-returns-2 Inv-loop μ-loop
 returns-2 c = rw (le-leb _ _ (c .before .before .before .loop .inv .1), next (c .before), le-ltb _ _ (c .if2 .taken))

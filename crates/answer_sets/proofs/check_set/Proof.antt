@@ -48,8 +48,13 @@ enum-told-2 c = search needs
 judge-requires : tie.Need-judge-requires
 judge-requires c κs =
     let c2 = c .before .before in
-    let c6 = c2 .before .before .before .before in
-    (c6 .if1 .left, (not-refused 11 (c2 .before .before .before .bad-value .ensures) (c2 .before .enum-told .given .1), no-place (c2 .bad-rule .ensures) (c .enum-told2 .given .1)))
+    let c6 = c2 .before .before .before .before in (
+      c6 .if1 .left,
+      (
+        not-refused 11 (c2 .before .before .before .bad-value .ensures) (c2 .before .enum-told .given .1),
+        no-place (c2 .bad-rule .ensures) (c .enum-told2 .given .1),
+      ),
+    )
 
 returns-4 : tie.Need-returns-4
 returns-4 c =

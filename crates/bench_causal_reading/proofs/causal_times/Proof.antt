@@ -52,7 +52,8 @@ returns-2 c =
     let e = i .read-input .ensures in
     c .of-reading .ensures
     ∙ ap (replyCode causalCode) (again .repeated .ensures)
-    ∙ reading-read input (replicate (i .read-input .result .atoms) 0) (e .1 .0) (e .1 .1 .0) (e .1 .1 .1 .1 .0) (sym (ap historyReplyOf (told .enum-told .given .1)) ∙ e .0)
+    ∙ reading-read input (replicate (i .read-input .result .atoms) 0) (e .1 .0) (e .1 .1 .0) (e .1 .1 .1 .1 .0)
+    (sym (ap historyReplyOf (told .enum-told .given .1)) ∙ e .0)
 
 pub causal-times-spec : {M : Type 1} → statement M
 causal-times-spec =

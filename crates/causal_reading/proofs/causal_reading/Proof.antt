@@ -6,11 +6,11 @@ use Prim.Native.Nat.{_+_, _*_, _≤_}
 use native.Mathlib.Nat.{mul-le-mul}
 use native.Mathlib.Omega.{arith}
 use borrow.Author.Tests.{eq-eqb, ne-eqb}
-use Rattle.basics.specs.Search.{first, placeOf}
+use Rattle.basics.specs.Search.{placeOf}
 use Rattle.basics.proofs.Loops.{refused-at, not-refused}
 use Rattle.action_language.specs.Acceptance.{badRecord, badHorizon}
 use Rattle.action_language.proofs.Laws.{accepted-counts, accepted-horizon}
-use Rattle.causal_reading.specs.Readings.{notOneValue, reading}
+use Rattle.causal_reading.specs.Readings.{reading}
 use borrow.Author.Needs.{needs}
 use Rattle.causal_reading.proofs.causal_reading.Statement.{statement}
 use Rattle.causal_reading.proofs.causal_reading.Tie as tie
@@ -74,7 +74,12 @@ add-atoms-2 c = let l = limits (c .before .before .before) in omega arith
 
 returns-3 : tie.Need-returns-3
 unfolding reading
-returns-3 c = rw (record-fits (c .before .before .before .before .before .before .before), horizon-fits (c .before .before .before .before), ne-eqb _ _ (c .if1 .taken))
+returns-3 c =
+    rw (
+      record-fits (c .before .before .before .before .before .before .before),
+      horizon-fits (c .before .before .before .before),
+      ne-eqb _ _ (c .if1 .taken),
+    )
 
 bad-value-requires : tie.Need-bad-value-requires
 bad-value-requires c κs = search needs
@@ -96,7 +101,8 @@ enum-told-3 : tie.Need-enum-told-3
 enum-told-3 c = search needs
 
 verdict-requires : tie.Need-verdict-requires
-verdict-requires c κs = let l = limits (c .before .before .before .before .before .before .before) in (omega arith, c .before .before .before .if1 .left)
+verdict-requires c κs =
+    let l = limits (c .before .before .before .before .before .before .before) in (omega arith, c .before .before .before .if1 .left)
 
 returns-5 : tie.Need-returns-5
 unfolding reading

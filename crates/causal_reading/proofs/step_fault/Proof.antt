@@ -19,14 +19,19 @@ agreed : (c : tie.After-enum-told) → let a = c .before .before .before .before
 agreed c = no-place (c .before .before .try-laws .ensures .0) (c .enum-told .given .1)
 
 -- the fluent found is the lowest without a cause
-found : (c : tie.After-first-uncaused) → let a = c .before .before .before .before .before .before .before .before .before .args in let s′ = read (a .new .now) in
+found : (c : tie.After-first-uncaused)
+    → let a = c .before .before .before .before .before .before .before .before .before .args in let s′ = read (a .new .now) in
     placeOf (c .first-uncaused .result)
-    ≡ first (λ f. not (someCause (appliesInStep (a .n) (read (a .old .now)) (read (a .done .now)) s′) (literalIn s′ f) (take (a .count) (a .laws)))) 0 (range 0 (a .n))
+    ≡ first (λ f.
+    not (someCause (appliesInStep (a .n) (read (a .old .now)) (read (a .done .now)) s′) (literalIn s′ f) (take (a .count) (a .laws))))
+    0 (range 0 (a .n))
 found c =
     let e = c .before .before .before in
     let a = e .before .before .before .before .before .before .args in
     c .first-uncaused .ensures
-    ∙ unmarked-uncaused (a .n) (read (a .old .now)) (read (a .done .now)) (read (a .new .now)) (take (a .count) (a .laws)) (e .before .before .try-laws .result .marks) (agreed e) (e .before .before .try-laws .ensures .1)
+    ∙ unmarked-uncaused (a .n) (read (a .old .now)) (read (a .done .now)) (read (a .new .now))
+    (take (a .count) (a .laws)) (e .before .before .try-laws .result .marks) (agreed e)
+    (e .before .before .try-laws .ensures .1)
 
 try-laws-requires : tie.Need-try-laws-requires
 try-laws-requires c κs = search needs

@@ -37,7 +37,8 @@ enum-told c = search needs
 returns : tie.Need-returns Inv-loop μ-loop
 returns c =
     let h = c .before .before .before in
-    steps-stop _ _ _ (h .before .before .args .values .now) (h .loop .t) _ (c .before .step-at .result) (c .before .before .loop-test .taken) (h .loop .inv .2)
+    steps-stop _ _ _ (h .before .before .args .values .now) (h .loop .t) _ (c .before .step-at .result)
+    (c .before .before .loop-test .taken) (h .loop .inv .2)
     (c .match .keys2) (c .before .step-at .ensures)
 
 add-t : tie.Need-add-t Inv-loop μ-loop
@@ -51,12 +52,15 @@ loop-again c =
     let h = c .before .before .before .before in (
       h .loop .inv .0,
       h .loop .inv .1,
-      steps-go _ _ _ (h .before .before .args .values .now) (h .loop .t) _ (c .before .before .step-at .result) (c .before .before .before .loop-test .taken)
+      steps-go _ _ _ (h .before .before .args .values .now) (h .loop .t) _ (c .before .before .step-at .result)
+          (c .before .before .before .loop-test .taken)
           (h .loop .inv .2) (c .enum-told .given .1) (c .before .before .step-at .ensures),
     )
 
 returns-2 : tie.Need-returns-2 Inv-loop μ-loop
-returns-2 c = ap answered (steps-done _ _ _ (c .before .before .before .args .values .now) (c .before .loop .t) _ (c .loop-test .left) (c .before .loop .inv .2))
+returns-2 c =
+    ap answered
+    (steps-done _ _ _ (c .before .before .before .args .values .now) (c .before .loop .t) _ (c .loop-test .left) (c .before .loop .inv .2))
 
 pub steps-spec : {M : Type 1} → statement M
 steps-spec =

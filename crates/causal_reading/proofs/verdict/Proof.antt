@@ -13,7 +13,8 @@ use Rattle.causal_reading.proofs.verdict.Statement.{statement}
 use Rattle.causal_reading.proofs.verdict.Tie as tie
 
 -- the law found is the one that the verdict names
-found : (c : tie.After-first-broken) → let a = c .before .before .args in let s = stateAt (a .d .fluents) (a .d .actions) (a .values .now) 0 in
+found : (c : tie.After-first-broken)
+    → let a = c .before .before .args in let s = stateAt (a .d .fluents) (a .d .actions) (a .values .now) 0 in
     placeOf (c .first-broken .result) ≡ first (contradicts (appliesAtStart s) s) 0 (lawsOf (a .d) (a .laws))
 found c =
     let a = c .before .before .args in

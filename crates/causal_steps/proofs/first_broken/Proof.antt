@@ -14,7 +14,8 @@ use Rattle.causal_steps.proofs.first_broken.Tie as tie
 abbrev Inv-loop : tie.InvT-loop
 Inv-loop count state laws limit i₀ i =
     (limit ≤ 64) × (length laws ≡ 64)
-    × (first (contradicts (appliesAtStart (read state)) (read state)) i (drop i (take limit laws)) ≡ first (contradicts (appliesAtStart (read state)) (read state)) 0 (take count laws))
+    × (first (contradicts (appliesAtStart (read state)) (read state)) i (drop i (take limit laws))
+    ≡ first (contradicts (appliesAtStart (read state)) (read state)) 0 (take count laws))
 
 abbrev μ-loop : tie.MeasureT-loop
 μ-loop count state laws limit i₀ i = limit - i
@@ -24,8 +25,11 @@ least-requires c κs = tt
 
 loop-holds : tie.Need-loop-holds Inv-loop μ-loop
 loop-holds c =
-    let s = c .before .before in
-    (omega (arith, c .least .ensures), s .good .0 .1 .0 .1, rw (take-least _ (s .args .count) (s .good .0 .1 .0 .1) (c .least .ensures)) refl)
+    let s = c .before .before in (
+      omega (arith, c .least .ensures),
+      s .good .0 .1 .0 .1,
+      rw (take-least _ (s .args .count) (s .good .0 .1 .0 .1) (c .least .ensures)) refl,
+    )
 
 mul-law : tie.Need-mul-law Inv-loop μ-loop
 mul-law c = omega arith
@@ -39,7 +43,8 @@ breaks-requires c κs = tt
 returns : tie.Need-returns Inv-loop μ-loop
 returns c =
     let h = c .before .before .before .before in
-    prefix-stop _ (h .before .before .before .args .t1) _ (h .loop .i) _ (c .before .before .before .loop-test .taken) (omega arith) (h .loop .inv .2)
+    prefix-stop _ (h .before .before .before .args .t1) _ (h .loop .i) _ (c .before .before .before .loop-test .taken)
+    (omega arith) (h .loop .inv .2)
     (sym (c .before .breaks .ensures) ∙ c .if1 .taken)
 
 add-i : tie.Need-add-i Inv-loop μ-loop
@@ -53,12 +58,14 @@ loop-again c =
     let h = c .before .before .before .before in (
       h .loop .inv .0,
       h .loop .inv .1,
-      prefix-go _ (h .before .before .before .args .t1) _ (h .loop .i) _ (c .before .before .before .loop-test .taken) (omega arith) (h .loop .inv .2)
+      prefix-go _ (h .before .before .before .args .t1) _ (h .loop .i) _ (c .before .before .before .loop-test .taken)
+          (omega arith) (h .loop .inv .2)
           (sym (c .before .breaks .ensures) ∙ c .if1 .left),
     )
 
 returns-2 : tie.Need-returns-2 Inv-loop μ-loop
-returns-2 c = prefix-done _ (c .before .before .before .before .args .t1) _ (c .before .loop .i) (c .loop-test .left) (c .before .loop .inv .2)
+returns-2 c =
+    prefix-done _ (c .before .before .before .before .args .t1) _ (c .before .loop .i) (c .loop-test .left) (c .before .loop .inv .2)
 
 pub first-broken-spec : {M : Type 1} → statement M
 first-broken-spec =

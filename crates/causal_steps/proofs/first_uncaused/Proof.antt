@@ -1,4 +1,5 @@
--- `first_uncaused` meets its contract. The loop's invariant: the lowest fluent whose literal is not marked is the lowest of those not yet passed.
+-- `first_uncaused` meets its contract. The loop's invariant: the lowest fluent whose literal is not marked is the lowest of those not yet
+-- passed.
 -- Assumes nothing.
 use mathlib.Core.Path.{_≡_, sym, _∙_, ap}
 use mathlib.Core.Bool.{Bool, not, cond}
@@ -29,7 +30,9 @@ tested : (c : tie.After-has-literal Inv-loop μ-loop) → let h = c .before .bef
 tested c =
     let h = c .before .before .before in
     let a = h .before .before .before .args in
-    ap not (sym (c .has-literal .ensures ∙ ap (λ v. markedCaused (a .marks .now) (cond v (2 * h .loop .f) (2 * h .loop .f + 1))) (c .before .is-true .ensures)))
+    ap not
+    (sym (c .has-literal .ensures
+    ∙ ap (λ v. markedCaused (a .marks .now) (cond v (2 * h .loop .f) (2 * h .loop .f + 1))) (c .before .is-true .ensures)))
 
 loop-holds : tie.Need-loop-holds Inv-loop μ-loop
 loop-holds c =

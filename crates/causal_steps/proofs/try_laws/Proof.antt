@@ -32,7 +32,8 @@ loop-holds c =
       omega (arith, c .before .least .ensures),
       size,
       rw (c .clear .ensures) (length-replicate 256 false),
-      try-start (f .args .n) (read (f .args .old .now)) (read (f .args .done .now)) (read (f .args .new .now)) (f .args .t1) (f .args .count) (c .before .least .result)
+      try-start (f .args .n) (read (f .args .old .now)) (read (f .args .done .now)) (read (f .args .new .now))
+          (f .args .t1) (f .args .count) (c .before .least .result)
           (take-least (f .args .t1) (f .args .count) size (c .before .least .ensures)) (c .clear .result) (c .clear .ensures),
     )
 
@@ -59,8 +60,10 @@ returns c =
     let t = c .before .before in
     let h = t .before .before .before .before .before in
     let a = h .before .before .before .before .before .before .args in
-    try-stop (a .n) (read (a .old .now)) (read (a .done .now)) (read (a .new .now)) (a .t1) (a .count) _ (h .loop .number) _ (h .loop .marks)
-    (t .before .has-head .result) (t .before .before .before .before .loop-test .taken) (omega arith) (h .loop .inv .2) (h .loop .inv .3) (t .effect-of .result)
+    try-stop (a .n) (read (a .old .now)) (read (a .done .now)) (read (a .new .now)) (a .t1) (a .count) _
+    (h .loop .number) _ (h .loop .marks)
+    (t .before .has-head .result) (t .before .before .before .before .loop-test .taken) (omega arith) (h .loop .inv .2)
+    (h .loop .inv .3) (t .effect-of .result)
     (t .effect-of .ensures) (c .enum-told .given .1)
 
 slice-aggregate-mark : tie.Need-slice-aggregate-mark Inv-loop μ-loop
@@ -83,16 +86,20 @@ loop-again c =
       h .loop .inv .0,
       h .loop .inv .1,
       omega (arith, c .before .mark .ensures .0),
-      try-go (a .n) (read (a .old .now)) (read (a .done .now)) (read (a .new .now)) (a .t1) (a .count) _ (h .loop .number) _ (h .loop .marks)
-          (t .before .has-head .result) (t .before .before .before .before .loop-test .taken) (omega arith) (h .loop .inv .3) (t .before .has-head .ensures)
-          (t .effect-of .result) (t .effect-of .ensures) (c .before .before .before .match .keys2) (c .before .mark .last .0) (c .before .mark .ensures .1),
+      try-go (a .n) (read (a .old .now)) (read (a .done .now)) (read (a .new .now)) (a .t1) (a .count) _
+          (h .loop .number) _ (h .loop .marks)
+          (t .before .has-head .result) (t .before .before .before .before .loop-test .taken) (omega arith)
+          (h .loop .inv .3) (t .before .has-head .ensures)
+          (t .effect-of .result) (t .effect-of .ensures) (c .before .before .before .match .keys2)
+          (c .before .mark .last .0) (c .before .mark .ensures .1),
     )
 
 returns-2 : tie.Need-returns-2 Inv-loop μ-loop
 returns-2 c =
     let h = c .before in
     let a = h .before .before .before .before .before .before .args in
-    try-done (a .n) (read (a .old .now)) (read (a .done .now)) (read (a .new .now)) (a .t1) (a .count) _ (h .loop .number) (h .loop .marks) (c .loop-test .left)
+    try-done (a .n) (read (a .old .now)) (read (a .done .now)) (read (a .new .now)) (a .t1) (a .count) _
+    (h .loop .number) (h .loop .marks) (c .loop-test .left)
     (h .loop .inv .2) (h .loop .inv .3)
 
 pub try-laws-spec : {M : Type 1} → statement M

@@ -54,7 +54,8 @@ returns-3 c =
     let c4 = c3 .before in
     let c6 = c4 .before .before in
     let accepted = accepts _ _ (sym (ap testedOf (c4 .enum-told .given .1)) ∙ c6 .test .ensures) in
-    keeps-levels _ _ _ (c .judge .ensures ∙ says-levelled _ _ _ accepted (no-place (c3 .bad-levels .ensures) (c .before .enum-told2 .given .1)))
+    keeps-levels _ _ _
+    (c .judge .ensures ∙ says-levelled _ _ _ accepted (no-place (c3 .bad-levels .ensures) (c .before .enum-told2 .given .1)))
 
 pub check-by-levels-spec : {M : Type 1} → statement M
 check-by-levels-spec =

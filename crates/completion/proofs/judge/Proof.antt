@@ -57,7 +57,8 @@ returns-3 c =
     let c8 = c6 .before .before in
     let c11 = c8 .before .before .before in
     ap answered
-    (says-fails _ _ (no-place (c8 .first-none-or-both .ensures) (c6 .enum-told .given .1)) (c11 .pre .0) (markedHead (c5 .held-heads .result))
+    (says-fails _ _ (no-place (c8 .first-none-or-both .ensures) (c6 .enum-told .given .1)) (c11 .pre .0)
+    (markedHead (c5 .held-heads .result))
     (c5 .held-heads .ensures) (at-place (c3 .first-failing .ensures) (c .before .word .given .1)))
 
 enum-told-2 : tie.Need-enum-told-2
@@ -82,7 +83,8 @@ returns-4 c =
     let c12 = c10 .before .before in
     let c15 = c12 .before .before .before in
     ap answered
-    (says-false _ _ (no-place (c12 .first-none-or-both .ensures) (c10 .enum-told .given .1)) (c15 .pre .0) (markedHead (c9 .held-heads .result))
+    (says-false _ _ (no-place (c12 .first-none-or-both .ensures) (c10 .enum-told .given .1)) (c15 .pre .0)
+    (markedHead (c9 .held-heads .result))
     (c9 .held-heads .ensures) (no-place (c7 .first-failing .ensures) (c5 .enum-told2 .given .1))
     (at-place (c3 .false-failing .ensures) (c .before .word2 .given .1)))
 
@@ -99,7 +101,8 @@ returns-5 c =
     let c11 = c9 .before .before in
     let c14 = c11 .before .before .before in
     ap answered
-    (says-holds _ _ (no-place (c11 .first-none-or-both .ensures) (c9 .enum-told .given .1)) (c14 .pre .0) (markedHead (c8 .held-heads .result))
+    (says-holds _ _ (no-place (c11 .first-none-or-both .ensures) (c9 .enum-told .given .1)) (c14 .pre .0)
+    (markedHead (c8 .held-heads .result))
     (c8 .held-heads .ensures) (no-place (c6 .first-failing .ensures) (c4 .enum-told2 .given .1))
     (no-place (c2 .false-failing .ensures) (c .enum-told3 .given .1)))
 

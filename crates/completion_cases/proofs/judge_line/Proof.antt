@@ -35,17 +35,23 @@ part-judge-values-end c =
 
 mul-judge-values : tie.Need-mul-judge-values
 mul-judge-values c =
-    let w = run-within _ 1 (at-place (c .before .before .before .before .before .run-end .ensures) (c .before .before .before .middle .given .1)) in
+    let w =
+    run-within _ 1
+    (at-place (c .before .before .before .before .before .run-end .ensures) (c .before .before .before .middle .given .1)) in
     omega (arith, w .0, w .1)
 
 sub-judge-values-2 : tie.Need-sub-judge-values-2
 sub-judge-values-2 c =
-    let w = run-within _ 1 (at-place (c .before .before .before .before .before .run-end .ensures) (c .before .before .before .middle .given .1)) in
+    let w =
+    run-within _ 1
+    (at-place (c .before .before .before .before .before .run-end .ensures) (c .before .before .before .middle .given .1)) in
     omega (arith, w .0, w .1)
 
 part-judge-values-start-2 : tie.Need-part-judge-values-start-2
 part-judge-values-start-2 c =
-    let w = run-within _ 1 (at-place (c .before .before .before .before .before .run-end .ensures) (c .before .before .before .middle .given .1)) in
+    let w =
+    run-within _ 1
+    (at-place (c .before .before .before .before .before .run-end .ensures) (c .before .before .before .middle .given .1)) in
     omega (arith, w .0, w .1)
 
 part-judge-values-end-2 : tie.Need-part-judge-values-end-2

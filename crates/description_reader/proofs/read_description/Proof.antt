@@ -14,8 +14,10 @@ returns : tie.Need-returns
 returns c =
     let r = c .before .before .before in
     let a = r .before .before .args in
-    let o = sym (r .read .ensures .0) ∙ ends-refused (a .text .now) (r .read .result) (c .if1 .taken) in
-    (sym (ap (replied (a .text .now)) o), (sym (ap recordOf o), (sym (ap (λ x. lawsLeft x (a .laws)) o), sym (ap (λ x. recordOf x .laws) o))))
+    let o = sym (r .read .ensures .0) ∙ ends-refused (a .text .now) (r .read .result) (c .if1 .taken) in (
+      sym (ap (replied (a .text .now)) o),
+      (sym (ap recordOf o), (sym (ap (λ x. lawsLeft x (a .laws)) o), sym (ap (λ x. recordOf x .laws) o))),
+    )
 
 sub-t14 : tie.Need-sub-t14
 sub-t14 c = search needs
@@ -28,7 +30,13 @@ returns-2 c =
     let ended = r .read .ensures .1 in
     let d = read-record (a .text .now) (r .read .result) (a .laws) ended in (
       read-reply (a .text .now) (r .read .result) (a .laws) ended ∙ sym (ap (replied (a .text .now)) o),
-      (d ∙ sym (ap recordOf o), (read-laws (a .text .now) (r .read .result) (a .laws) ended ∙ sym (ap (λ x. lawsLeft x (a .laws)) o), ap (λ x. x .laws) d ∙ sym (ap (λ x. recordOf x .laws) o))),
+      (
+        d ∙ sym (ap recordOf o),
+        (
+          read-laws (a .text .now) (r .read .result) (a .laws) ended ∙ sym (ap (λ x. lawsLeft x (a .laws)) o),
+          ap (λ x. x .laws) d ∙ sym (ap (λ x. recordOf x .laws) o),
+        ),
+      ),
     )
 
 pub read-description-spec : {M : Type 1} → statement M

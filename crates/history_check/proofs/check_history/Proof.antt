@@ -1,7 +1,5 @@
 -- `history_check::check_history` meets its contract.
 -- Assumes nothing.
-use mathlib.Core.List.{List}
-use Prim.Native.Nat.{ℕ}
 use lib.ListN.{take, length-take}
 use Rattle.history_check.specs.Checks.{finding}
 use mathlib.Core.Path.{sym, ap, _∙_}

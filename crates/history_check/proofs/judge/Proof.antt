@@ -26,13 +26,15 @@ returns : tie.Need-returns
 returns c =
     let c5 = c .before .before .before .before .before in
     let a = c5 .before .before .before .args in
-    says-missing (a .values .now) (a .words .now) (at-place (c5 .first-none-or-both .ensures) (c .before .before .before .atom .given .1)) (c .if1 .taken)
+    says-missing (a .values .now) (a .words .now)
+    (at-place (c5 .first-none-or-both .ensures) (c .before .before .before .atom .given .1)) (c .if1 .taken)
 
 returns-2 : tie.Need-returns-2
 returns-2 c =
     let c5 = c .before .before .before .before .before in
     let a = c5 .before .before .before .args in
-    says-clash (a .values .now) (a .words .now) (at-place (c5 .first-none-or-both .ensures) (c .before .before .before .atom .given .1)) (c .if1 .left)
+    says-clash (a .values .now) (a .words .now)
+    (at-place (c5 .first-none-or-both .ensures) (c .before .before .before .atom .given .1)) (c .if1 .left)
 
 enum-told : tie.Need-enum-told
 enum-told c = search needs

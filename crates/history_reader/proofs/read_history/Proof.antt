@@ -26,7 +26,9 @@ unfolding readHistory
 returns c =
     let r = c .before .before .before in
     let a = r .before .before .before .before .args in
-    let h = ap (λ x. byNames x (a .text .now) (length (a .values .now))) (sym (r .read-alone .ensures .0) ∙ ends-refused (a .description .now) (r .read-alone .result) (c .if1 .taken)) in
+    let h =
+    ap (λ x. byNames x (a .text .now) (length (a .values .now)))
+    (sym (r .read-alone .ensures .0) ∙ ends-refused (a .description .now) (r .read-alone .result) (c .if1 .taken)) in
     (sym (ap historyReplied h), (sym (ap (λ x. valuesLeft x (a .values .now)) h), tt))
 
 atom-count-requires : tie.Need-atom-count-requires
@@ -38,8 +40,11 @@ returns-2 c =
     let r = c .before .before .before .before .before .before in
     let a = r .before .before .before .before .args in
     let e = r .read-alone .result in
-    let h = ap (λ x. byNames x (a .text .now) (length (a .values .now))) (sym (r .read-alone .ensures .0) ∙ ends-read (a .description .now) e (c .before .before .before .if1 .left))
-    ∙ history-room (a .description .now) (e .state .draft) (drop (e .at) (a .description .now)) (e .line) (a .text .now) (length (a .values .now)) (λ q. c .if2 .taken (q ∙ sym (c .before .atom-count .ensures .0))) in
+    let h =
+    ap (λ x. byNames x (a .text .now) (length (a .values .now)))
+    (sym (r .read-alone .ensures .0) ∙ ends-read (a .description .now) e (c .before .before .before .if1 .left))
+    ∙ history-room (a .description .now) (e .state .draft) (drop (e .at) (a .description .now)) (e .line) (a .text .now)
+    (length (a .values .now)) (λ q. c .if2 .taken (q ∙ sym (c .before .atom-count .ensures .0))) in
     (sym (ap historyReplied h), (sym (ap (λ x. valuesLeft x (a .values .now)) h), tt))
 
 returns-3 : tie.Need-returns-3
@@ -48,15 +53,19 @@ returns-3 c =
     let r = c .before .before .before .before .before .before .before in
     let a = r .before .before .before .before .args in
     let e = r .read-alone .result in
-    let h = ap (λ x. byNames x (a .text .now) (length (a .values .now))) (sym (r .read-alone .ensures .0) ∙ ends-read (a .description .now) e (c .before .before .before .before .if1 .left))
-    ∙ history-long (a .description .now) (e .state .draft) (drop (e .at) (a .description .now)) (e .line) (a .text .now) (length (a .values .now)) (c .before .if2 .left ∙ c .before .before .atom-count .ensures .0) (c .if3 .taken) in
+    let h =
+    ap (λ x. byNames x (a .text .now) (length (a .values .now)))
+    (sym (r .read-alone .ensures .0) ∙ ends-read (a .description .now) e (c .before .before .before .before .if1 .left))
+    ∙ history-long (a .description .now) (e .state .draft) (drop (e .at) (a .description .now)) (e .line) (a .text .now)
+    (length (a .values .now)) (c .before .if2 .left ∙ c .before .before .atom-count .ensures .0) (c .if3 .taken) in
     (sym (ap historyReplied h), (sym (ap (λ x. valuesLeft x (a .values .now)) h), tt))
 
 read-requires : tie.Need-read-requires
 read-requires c κs = search needs
 
 -- what was read of the history
-history : (m : tie.After-read) → let r = m .before .before .before .before .before .before .before .before in let a = r .before .before .before .before .args in
+history : (m : tie.After-read)
+    → let r = m .before .before .before .before .before .before .before .before in let a = r .before .before .before .before .args in
     readHistory (a .description .now) (a .text .now) (length (a .values .now)) ≡ valuesRead (length (a .values .now)) (m .read .result)
 unfolding readHistory
 history m =
@@ -65,15 +74,19 @@ history m =
     let a = r .before .before .before .before .args in
     let e = r .read-alone .result in
     let room : length (a .values .now) ≤ 1024 = omega (arith, m .before .before .if2 .left, k .atom-count .ensures .1) in
-    ap (λ x. byNames x (a .text .now) (length (a .values .now))) (sym (r .read-alone .ensures .0) ∙ ends-read (a .description .now) e (k .before .before .if1 .left))
-    ∙ history-lines (a .description .now) (e .state .draft) (drop (e .at) (a .description .now)) (e .line) (a .text .now) (length (a .values .now)) (m .before .before .if2 .left ∙ k .atom-count .ensures .0) (m .before .if3 .left)
+    ap (λ x. byNames x (a .text .now) (length (a .values .now)))
+    (sym (r .read-alone .ensures .0) ∙ ends-read (a .description .now) e (k .before .before .if1 .left))
+    ∙ history-lines (a .description .now) (e .state .draft) (drop (e .at) (a .description .now)) (e .line)
+    (a .text .now) (length (a .values .now)) (m .before .before .if2 .left ∙ k .atom-count .ensures .0)
+    (m .before .if3 .left)
     ∙ sym (m .read .ensures (length (a .values .now)) room)
 
 copy-out-requires : tie.Need-copy-out-requires
 copy-out-requires c κs = search needs
 
 -- no action atom is left at 0 where the record is no refusal
-acted : (m : tie.After-read) → let r = m .before .before .before .before .before .before .before .before in let a = r .before .before .before .before .args in
+acted : (m : tie.After-read)
+    → let r = m .before .before .before .before .before .before .before .before in let a = r .before .before .before .before .args in
     (vs : List ℕ) → vs ≡ valuesLeft (valuesRead (length (a .values .now)) (m .read .result)) (a .values .now) → m .read .result .refused ≤ 0
     → ActionsFilled (a .description .now) Complete vs
 acted m vs is whole =
@@ -89,7 +102,8 @@ acted m vs is whole =
     actions-filled (a .description .now) (a .text .now) d (drop (e .at) (a .description .now)) (e .line)
     (sym (r .read-alone .ensures .0) ∙ ends-read (a .description .now) e (k .before .before .if1 .left))
     (omega (arith, names, r .read-alone .ensures .1 .declared)) (length (a .values .now)) size vs
-    (sym (m .read .ensures (length (a .values .now)) room) ∙ answer ∙ ap answered (sym (is ∙ ap (λ x. valuesLeft x (a .values .now)) answer)))
+    (sym (m .read .ensures (length (a .values .now)) room) ∙ answer
+    ∙ ap answered (sym (is ∙ ap (λ x. valuesLeft x (a .values .now)) answer)))
 
 same-length : tie.Need-same-length
 same-length c = search needs

@@ -21,7 +21,8 @@ returns : tie.Need-returns Inv-loop μ-loop
 returns c =
     let s = c .before in
     let size : length (s .args .values) ≡ 1024 = s .good .0 .1 .0 .1 in
-    filled-outside (s .args .base + s .args .fluents) (s .args .high - s .args .fluents) (s .args .values) (omega (arith, size, c .if1 .taken))
+    filled-outside (s .args .base + s .args .fluents) (s .args .high - s .args .fluents) (s .args .values)
+    (omega (arith, size, c .if1 .taken))
 
 loop-holds : tie.Need-loop-holds Inv-loop μ-loop
 loop-holds c = (omega (arith, c .if1 .left), c .before .good .0 .1 .0 .1, refl)
@@ -33,7 +34,8 @@ returns-2 : tie.Need-returns-2 Inv-loop μ-loop
 returns-2 c =
     let l = c .before .before in
     let a = l .before .before .args in
-    filled-outside (a .base + l .loop .i) (a .high - l .loop .i) (l .loop .next) (omega (arith, l .loop .inv .1, c .if2 .taken)) ∙ l .loop .inv .2
+    filled-outside (a .base + l .loop .i) (a .high - l .loop .i) (l .loop .next) (omega (arith, l .loop .inv .1, c .if2 .taken))
+    ∙ l .loop .inv .2
 
 add-place : tie.Need-add-place Inv-loop μ-loop
 add-place c = search needs

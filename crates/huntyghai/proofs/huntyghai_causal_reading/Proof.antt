@@ -54,7 +54,8 @@ returns-2 c =
     let e = i .read-input .ensures in
     let is = c .of-reading .ensures
     ∙ ap (replyCode causalCode) (cr .causal-reading .ensures)
-    ∙ reading-read input (replicate (i .read-input .result .atoms) 0) (e .1 .0) (e .1 .1 .0) (e .1 .1 .1 .1 .0) (sym (ap historyReplyOf (told .enum-told .given .1)) ∙ e .0) in
+    ∙ reading-read input (replicate (i .read-input .result .atoms) 0) (e .1 .0) (e .1 .1 .0) (e .1 .1 .1 .1 .0)
+    (sym (ap historyReplyOf (told .enum-told .given .1)) ∙ e .0) in
     (is, as-listed causalCodes is (causal-codes input))
 
 pub huntyghai-causal-reading-spec : {M : Type 1} → statement M

@@ -23,8 +23,13 @@ returns c =
     let vs = a .values .now in
     let ws = a .table .now in
     let ls = a .levels .now in
-    let is = c .of-completion .ensures ∙ ap (replyCode formulaCode) (s .ensures .0) in
-    (is, (levels-numbered vs ws ls _ is (subst (SaysLevels vs ws ls) (s .ensures .0) (s .ensures .1)), as-listed levelCodes is (level-codes vs ws ls)))
+    let is = c .of-completion .ensures ∙ ap (replyCode formulaCode) (s .ensures .0) in (
+      is,
+      (
+        levels-numbered vs ws ls _ is (subst (SaysLevels vs ws ls) (s .ensures .0) (s .ensures .1)),
+        as-listed levelCodes is (level-codes vs ws ls),
+      ),
+    )
 
 pub huntyghai-check-by-levels-spec : {M : Type 1} → statement M
 huntyghai-check-by-levels-spec = tie.close (tie.spec check-by-levels-requires of-completion-requires returns)

@@ -22,8 +22,13 @@ returns c =
     let a = c .before .before .before .before .args in
     let vs = a .values .now in
     let ws = a .table .now in
-    let is = c .of-completion .ensures ∙ ap (replyCode formulaCode) (s .ensures .0) in
-    (is, (completion-numbered vs ws _ is (subst (SaysFormulas vs ws) (s .ensures .0) (s .ensures .1)), as-listed completionCodes is (completion-codes vs ws)))
+    let is = c .of-completion .ensures ∙ ap (replyCode formulaCode) (s .ensures .0) in (
+      is,
+      (
+        completion-numbered vs ws _ is (subst (SaysFormulas vs ws) (s .ensures .0) (s .ensures .1)),
+        as-listed completionCodes is (completion-codes vs ws),
+      ),
+    )
 
 pub huntyghai-check-completion-spec : {M : Type 1} → statement M
 huntyghai-check-completion-spec = tie.close (tie.spec check-completion-requires of-completion-requires returns)

@@ -40,8 +40,13 @@ returns c =
     let text = a .text .now in
     let e = sym (rd .read-run .ensures .0) ∙ ap replyOf (told .answer .given .1) in
     let is = c .number .ensures ∙ check-refused text e (a .values .now) (length (a .table .now)) in
-    let listed = as-listed checkCodes is (check-codes text (a .values .now) (length (a .table .now))) in
-    (is, (check-table-refused text e (a .values .now) (a .table .now), (listed, text-checks text (a .values .now) (length (a .table .now)) _ is)))
+    let listed = as-listed checkCodes is (check-codes text (a .values .now) (length (a .table .now))) in (
+      is,
+      (
+        check-table-refused text e (a .values .now) (a .table .now),
+        (listed, text-checks text (a .values .now) (length (a .table .now)) _ is),
+      ),
+    )
 
 same-length : tie.Need-same-length
 same-length c = search needs
@@ -57,7 +62,9 @@ returns-2 c =
     let e = sym (rd .read-run .ensures .0) ∙ ap replyOf (told .answer2 .given .1) in
     let dis = rd .read-run .ensures .1 .0 in
     let lis = rd .read-run .ensures .1 .1 .0 in
-    let is = c .of-checked .ensures ∙ ap (replyCode findingCode) (t .check-history .ensures .0) ∙ check-read text old e dis lis (a .values .now) (length (a .table .now)) in
+    let is =
+    c .of-checked .ensures ∙ ap (replyCode findingCode) (t .check-history .ensures .0)
+    ∙ check-read text old e dis lis (a .values .now) (length (a .table .now)) in
     let left = t .check-history .ensures .1 ∙ check-table-read text old e dis lis (a .values .now) (a .table .now) in
     let listed = as-listed checkCodes is (check-codes text (a .values .now) (length (a .table .now))) in
     (is, (left, (listed, text-checks text (a .values .now) (length (a .table .now)) _ is)))

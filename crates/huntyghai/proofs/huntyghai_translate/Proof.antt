@@ -57,7 +57,9 @@ returns-2 c =
     let e = sym (rd .read-run .ensures .0) ∙ ap replyOf (told .answer2 .given .1) in
     let dis = rd .read-run .ensures .1 .0 in
     let lis = rd .read-run .ensures .1 .1 .0 in
-    let is = c .of-translated .ensures ∙ ap (replyCode writtenCode) (t .translate .ensures .0) ∙ translate-read text old e dis lis (length (a .table .now)) in
+    let is =
+    c .of-translated .ensures ∙ ap (replyCode writtenCode) (t .translate .ensures .0)
+    ∙ translate-read text old e dis lis (length (a .table .now)) in
     let left = t .translate .ensures .1 ∙ table-read text old e dis lis (a .table .now) in
     (is, (left, (as-listed translateCodes is (translate-codes text (length (a .table .now))), text-translates text (a .table .now) _ left)))
 

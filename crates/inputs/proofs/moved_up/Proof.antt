@@ -20,7 +20,8 @@ returns-2 c = rw (c .before .before .before .said .given .1, ne-eqb _ 1 (c .befo
 
 add-t7 : tie.Need-add-t7
 add-t7 c = let s = c .before .before .before in
-    let fits = subst (λ said. CanMove (s .before .before .args .lines) (historyReplyOf said)) (s .said .given .1) (s .before .before .pre) in
+    let fits =
+    subst (λ said. CanMove (s .before .before .args .lines) (historyReplyOf said)) (s .said .given .1) (s .before .before .pre) in
     omega arith
 
 enum-told : tie.Need-enum-told

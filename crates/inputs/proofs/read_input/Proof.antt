@@ -20,7 +20,8 @@ use Rattle.inputs.proofs.read_input.Tie as tie
 size : {m : ℕ} {zs : List ℕ} → zs ≡ replicate 1024 0 → m ≤ 1024 → length (take m zs) ≡ m
 size {m} {zs} clear few = omega (arith, length-take m zs, ap length clear)
 
-lent : {m : ℕ} {zs : List ℕ} {d e : Description} → zs ≡ replicate 1024 0 → m ≤ 1024 → m ≡ atomCount (d .fluents) (d .actions) (d .horizon) → d ≡ e
+lent : {m : ℕ} {zs : List ℕ} {d e : Description} → zs ≡ replicate 1024 0 → m ≤ 1024
+    → m ≡ atomCount (d .fluents) (d .actions) (d .horizon) → d ≡ e
     → length (take m zs) ≡ atomCount (e .fluents) (e .actions) (e .horizon)
 lent clear few is same = size clear few ∙ is ∙ ap (λ (x : Description). atomCount (x .fluents) (x .actions) (x .horizon)) same
 
@@ -92,7 +93,8 @@ moved-up-requires c κs =
     let input = rd .before .before .before .args .input .now in
     let k = known input (sym (rd .read-run .ensures .0) ∙ ap replyOf (n .answer2 .given .1)) in
     let dis = rd .read-run .ensures .1 .0 ∙ ap recordOf (k .is) in
-    can-move input k (k .part) (lent (n .before .before .no-values .ensures) (count .atom-count .ensures .1) (count .atom-count .ensures .0) dis)
+    can-move input k (k .part)
+    (lent (n .before .before .no-values .ensures) (count .atom-count .ensures .1) (count .atom-count .ensures .0) dis)
     (historyReplyOf (rh .read-history .result)) (rh .read-history .ensures .0)
 
 returns : tie.Need-returns
@@ -136,7 +138,8 @@ returns-2 c =
     let enough = lent (v .no-values .ensures) few (count .atom-count .ensures .0) (rd .read-run .ensures .1 .0 ∙ ap recordOf (k .is)) in
     let last = rh .read-history .last .1 .1 .0 in
     let whole : length last ≡ m = omega (arith, rh .read-history .kept .1 .1 .0, size (v .no-values .ensures) few) in
-    let filled : length (last ++ drop m zs) ≡ 1024 = omega (arith, length-append last (drop m zs), length-drop m zs, whole, few, ap length (v .no-values .ensures)) in
+    let filled : length (last ++ drop m zs) ≡ 1024 =
+    omega (arith, length-append last (drop m zs), length-drop m zs, whole, few, ap length (v .no-values .ensures)) in
     let vs = values-read input k (k .part) enough m zs last few (v .no-values .ensures) whole (rh .read-history .ensures .1 .0) in (
       c .moved-up .ensures ∙ says input k (k .part) enough (historyReplyOf (rh .read-history .result)) (rh .read-history .ensures .0),
       (
@@ -144,7 +147,8 @@ returns-2 c =
         (
           rd .read-run .ensures .1 .1 .0 ∙ ap (lawsLeft (described 64 input)) (rd .before .no-laws .ensures),
           (
-            count .atom-count .ensures .0 ∙ ap (λ (x : Description). atomCount (x .fluents) (x .actions) (x .horizon)) (rd .read-run .ensures .1 .0),
+            count .atom-count .ensures .0
+                ∙ ap (λ (x : Description). atomCount (x .fluents) (x .actions) (x .horizon)) (rd .read-run .ensures .1 .0),
             (vs .0, (vs .1, (few, filled))),
           ),
         ),

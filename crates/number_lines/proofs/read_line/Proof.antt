@@ -45,7 +45,8 @@ returns c =
     let c4 = c .before .before .before .before in
     let c6 = c4 .before .before in
     let l = c6 .before .loop in
-    line-end _ (l .next) (l .value) (l .count) (l .numbers) (c6 .loop-test .taken) (l .inv .1) (c4 .if1 .taken) (c .before .before .store .ensures)
+    line-end _ (l .next) (l .value) (l .count) (l .numbers) (c6 .loop-test .taken) (l .inv .1) (c4 .if1 .taken)
+    (c .before .before .store .ensures)
 
 store-requires-2 : tie.Need-store-requires-2 Inv-loop μ-loop
 store-requires-2 c κs = search needs
@@ -62,7 +63,8 @@ loop-again c =
     let c7 = c4 .before .before .before in
     let l = c7 .before .loop in (
       search needs,
-      number-end _ (l .next) (l .value) (l .count) (l .numbers) (c7 .loop-test .taken) (l .inv .1) (c4 .if2 .taken) (c .before .before .store2 .ensures),
+      number-end _ (l .next) (l .value) (l .count) (l .numbers) (c7 .loop-test .taken) (l .inv .1) (c4 .if2 .taken)
+          (c .before .before .store2 .ensures),
     )
 
 with-digit-requires : tie.Need-with-digit-requires Inv-loop μ-loop
@@ -76,7 +78,8 @@ loop-again-2 c =
     let c4 = c .before .before .before .before in
     let l = c4 .before .loop in (
       search needs,
-      digit-read _ (l .next) (l .value) (l .count) (l .numbers) (c4 .loop-test .taken) (l .inv .1) (c .before .before .if1 .left) (c .before .if2 .left)
+      digit-read _ (l .next) (l .value) (l .count) (l .numbers) (c4 .loop-test .taken) (l .inv .1)
+          (c .before .before .if1 .left) (c .before .if2 .left)
           (c .with-digit .ensures),
     )
 

@@ -39,10 +39,19 @@ returns c =
     let v = a .verdict in
     let k = a .causal in (
       both l (a .at) (verdictBytes i v) (causalBytes i k)
-          (both l (a .at) (outputLine (wordAt 4) (valueBytes i (v .answer))) (outputLine (wordAt 5) (valueBytes i (v .at))) (w₁ .put-value .ensures .0) (w₂ .put-value2 .ensures .0))
-          (three _ _ (outputLine (wordAt 6) (valueBytes i (k .causal))) (outputLine (wordAt 7) (valueBytes i (k .time))) (outputLine (wordAt 8) (valueBytes i (k .item)))
+          (both l (a .at) (outputLine (wordAt 4) (valueBytes i (v .answer)))
+          (outputLine (wordAt 5) (valueBytes i (v .at))) (w₁ .put-value .ensures .0) (w₂ .put-value2 .ensures .0))
+          (three _ _ (outputLine (wordAt 6) (valueBytes i (k .causal))) (outputLine (wordAt 7) (valueBytes i (k .time)))
+          (outputLine (wordAt 8) (valueBytes i (k .item)))
           (w₃ .put-value3 .ensures .0) (w₄ .put-value4 .ensures .0) (w₅ .put-value5 .ensures .0)),
-      omega (arith, w₁ .put-value .ensures .1, w₂ .put-value2 .ensures .1, w₃ .put-value3 .ensures .1, w₄ .put-value4 .ensures .1, w₅ .put-value5 .ensures .1),
+      omega (
+        arith,
+        w₁ .put-value .ensures .1,
+        w₂ .put-value2 .ensures .1,
+        w₃ .put-value3 .ensures .1,
+        w₄ .put-value4 .ensures .1,
+        w₅ .put-value5 .ensures .1,
+      ),
     )
 
 pub put-answer-spec : {M : Type 1} → statement M

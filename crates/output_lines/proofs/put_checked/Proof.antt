@@ -57,7 +57,8 @@ returns-2 c =
     let counts = countLines (n .horizon) (n .atoms) (n .rules) (n .words) in
     let said = rw (found .verdict-of .ensures, after .causal-after .ensures) at (w₂ .put-answer .ensures .0) in (
       rw (checked-shown i counts (a .checked) r (m .match .keys2))
-          (both (a .out .now) 0 counts (verdictBytes i (verdictShown f) ++ causalBytes i (causalShownAfter f r)) (w₁ .put-counts .ensures .0) said),
+          (both (a .out .now) 0 counts (verdictBytes i (verdictShown f) ++ causalBytes i (causalShownAfter f r))
+          (w₁ .put-counts .ensures .0) said),
       omega (arith, w₁ .put-counts .ensures .1, w₂ .put-answer .ensures .1),
     )
 

@@ -43,7 +43,9 @@ returns c =
     let word = wordAt (a .word) in
     let bytes = a .bytes .now in (
       line-stores (a .out .now) (a .at) (wordAt (a .key)) (word ++ bytes)
-          (w₁ .put-word .ensures .0) (omega arith, w₂ .put-byte .ensures) (both _ _ word bytes (w₃ .put-word2 .ensures .0) (w₄ .put-bytes .ensures)) (omega arith, w₅ .put-byte2 .ensures),
+          (w₁ .put-word .ensures .0) (omega arith, w₂ .put-byte .ensures)
+          (both _ _ word bytes (w₃ .put-word2 .ensures .0) (w₄ .put-bytes .ensures))
+          (omega arith, w₅ .put-byte2 .ensures),
       omega (arith, w₁ .put-word .ensures .1, w₃ .put-word2 .ensures .0 .0, w₄ .put-bytes .ensures .0),
     )
 

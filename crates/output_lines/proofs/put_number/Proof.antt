@@ -20,8 +20,14 @@ slice-aggregate-put-line c = search needs
 put-line-requires : tie.Need-put-line-requires
 put-line-requires c κs =
     let d = c .before .before in
-    let a = d .before .before .before in
-    (a .pre, omega (arith, d .decimal .ensures .0 .1, few-digits (a .args .number) (d .decimal .result) (a .fits .number .fits) (d .decimal .ensures .1 .0)))
+    let a = d .before .before .before in (
+      a .pre,
+      omega (
+        arith,
+        d .decimal .ensures .0 .1,
+        few-digits (a .args .number) (d .decimal .result) (a .fits .number .fits) (d .decimal .ensures .1 .0),
+      ),
+    )
 
 same-length : tie.Need-same-length
 same-length c = search needs

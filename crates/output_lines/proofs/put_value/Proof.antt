@@ -34,8 +34,14 @@ fluent-name-requires c κs = search needs
 
 put-line-requires-2 : tie.Need-put-line-requires-2
 put-line-requires-2 c κs =
-    let a = c .before .before .before .before .before .before .before in
-    (a .pre, omega (arith, ap length (c .fluent-name .ensures .0), shown-short (a .args .input .now) (c .before .before .before .value3 .given .0 .0)))
+    let a = c .before .before .before .before .before .before .before in (
+      a .pre,
+      omega (
+        arith,
+        ap length (c .fluent-name .ensures .0),
+        shown-short (a .args .input .now) (c .before .before .before .value3 .given .0 .0),
+      ),
+    )
 
 same-length : tie.Need-same-length
 same-length c = search needs
@@ -45,7 +51,8 @@ returns c =
     let l = c .before .before in
     let e = l .before .before .before .before in
     let word = e .value .given .0 .0 in
-    rw (e .value .given .1) (rw (append-nil (wordAt word)) at (l .put-line .ensures .0), omega (arith, l .put-line .ensures .1, word-short word))
+    rw (e .value .given .1)
+    (rw (append-nil (wordAt word)) at (l .put-line .ensures .0), omega (arith, l .put-line .ensures .1, word-short word))
 
 same-length-2 : tie.Need-same-length-2
 same-length-2 c = search needs
@@ -67,7 +74,10 @@ returns-3 c =
     let e = n .before .before .before in
     let a = e .before .before .before .before in
     let name = n .fluent-name .ensures .0 in
-    rw (e .value3 .given .1) (rw name at (l .put-line2 .ensures .0), omega (arith, l .put-line2 .ensures .1, ap length name, shown-short (a .args .input .now) (e .value3 .given .0 .0)))
+    rw (e .value3 .given .1) (
+      rw name at (l .put-line2 .ensures .0),
+      omega (arith, l .put-line2 .ensures .1, ap length name, shown-short (a .args .input .now) (e .value3 .given .0 .0)),
+    )
 
 pub put-value-spec : {M : Type 1} → statement M
 put-value-spec =

@@ -1,6 +1,6 @@
 -- `report` meets its contract. What the input holds settles which part of the output's definition applies.
 -- Assumes nothing.
-use mathlib.Core.Path.{_≡_, sym, ap, _∙_}
+use mathlib.Core.Path.{sym, ap, _∙_}
 use native.Mathlib.Omega.{arith}
 use lib.ListN.{length, take, replicate, length-take}
 use Rattle.history_reader.specs.Histories.{historyReplyOf}
@@ -45,8 +45,12 @@ returns c =
     let told = w .before .before .before in
     let i = told .before .before in
     let a = i .before .before .before .args in
-    let input = a .input .now in
-    (from-first (a .out .now) (output input) (rw (says-refused input (sym (ap historyReplyOf (told .answer .given .1)) ∙ i .read-input .ensures .0)) (w .put-refusal .ensures .0)), (w .put-refusal .ensures .1, program input))
+    let input = a .input .now in (
+      from-first (a .out .now) (output input)
+          (rw (says-refused input (sym (ap historyReplyOf (told .answer .given .1)) ∙ i .read-input .ensures .0))
+          (w .put-refusal .ensures .0)),
+      (w .put-refusal .ensures .1, program input),
+    )
 
 same-length-2 : tie.Need-same-length-2
 same-length-2 c = search needs

@@ -3,8 +3,8 @@
 use mathlib.Core.Logic.{inl, inr}
 use Prim.Native.Nat.{_+_, _≤_}
 use native.Mathlib.Omega.{arith}
-use Rattle.rule_words.specs.Internal.{byKind}
-use Rattle.rule_words.proofs.RuleWords.{rule-within, rule-beyond, by-kind-bound, head-at, negated-count-at, plain-count-at, negated-at, plain-at, none-at}
+use Rattle.rule_words.proofs.RuleWords.{rule-within, rule-beyond, by-kind-bound, head-at, negated-count-at}
+use Rattle.rule_words.proofs.RuleWords.{plain-count-at, negated-at, plain-at, none-at}
 use Rattle.rule_words.proofs.rule_word.Statement.{statement}
 use Rattle.rule_words.proofs.rule_word.Tie as tie
 
@@ -39,7 +39,8 @@ returns-3 : tie.Need-returns-3
 returns-3 c =
     let b = c .before .before .before .before in
     let a = b .before .before .before .args in
-    rule-within (a .N) (a .t) (omega arith) (omega arith) (head-at (a .N) (a .law) (a .t) (c .before .if3 .taken) (b .by-kind .ensures) (c .head-word .ensures))
+    rule-within (a .N) (a .t) (omega arith) (omega arith)
+    (head-at (a .N) (a .law) (a .t) (c .before .if3 .taken) (b .by-kind .ensures) (c .head-word .ensures))
 
 cast-result : tie.Need-cast-result
 cast-result c = omega arith
@@ -48,7 +49,8 @@ returns-4 : tie.Need-returns-4
 returns-4 c =
     let n = c .before .before .before in
     let a = n .before .before .before .before .args in
-    rule-within (a .N) (a .t) (omega arith) (omega arith) (negated-count-at (a .N) (a .law) (a .t) (c .if4 .taken) (n .negated-count .ensures .0))
+    rule-within (a .N) (a .t) (omega arith) (omega arith)
+    (negated-count-at (a .N) (a .law) (a .t) (c .if4 .taken) (n .negated-count .ensures .0))
 
 cast-result-2 : tie.Need-cast-result-2
 cast-result-2 c = omega arith
@@ -57,7 +59,8 @@ returns-5 : tie.Need-returns-5
 returns-5 c =
     let p = c .before .before .before in
     let a = p .before .before .before .before .before .args in
-    rule-within (a .N) (a .t) (omega arith) (omega arith) (plain-count-at (a .N) (a .law) (a .t) (c .if5 .taken) (p .plain-count .ensures .0))
+    rule-within (a .N) (a .t) (omega arith) (omega arith)
+    (plain-count-at (a .N) (a .law) (a .t) (c .if5 .taken) (p .plain-count .ensures .0))
 
 sub-part : tie.Need-sub-part
 sub-part c = omega arith
@@ -74,7 +77,8 @@ returns-6 c =
     let b = n .before in
     let a = b .before .before .before .args in
     rule-within (a .N) (a .t) (omega arith) (omega arith)
-    (negated-at (a .N) (a .law) (a .t) (omega arith) (omega arith) (b .by-kind .ensures) (c .before .shift .ensures .0) (c .negated-word .ensures))
+    (negated-at (a .N) (a .law) (a .t) (omega arith) (omega arith) (b .by-kind .ensures) (c .before .shift .ensures .0)
+    (c .negated-word .ensures))
 
 shift-requires-2 : tie.Need-shift-requires-2
 shift-requires-2 c κs = omega (arith, new-bound (c .before .before .before .before .before .before .before))
@@ -87,7 +91,8 @@ returns-7 c =
     let n = c .before .before .before .before .before .before .before .before in
     let a = n .before .before .before .before .args in
     rule-within (a .N) (a .t) (omega arith) (omega arith)
-    (plain-at (a .N) (a .law) (a .t) (omega arith) (n .negated-count .ensures .0) (omega arith) (omega arith) (c .before .shift2 .ensures .0) (c .plain-word .ensures))
+    (plain-at (a .N) (a .law) (a .t) (omega arith) (n .negated-count .ensures .0) (omega arith) (omega arith)
+    (c .before .shift2 .ensures .0) (c .plain-word .ensures))
 
 returns-8 : tie.Need-returns-8
 returns-8 c =

@@ -26,7 +26,12 @@ returns-3 : tie.Need-returns-3
 returns-3 c =
     let h = c .before .before .before .before in
     let l = c .before .before in
-    rw (name-tests _ (h .if1 .left), ← l .is-letter .ensures, not-false (l .is-letter .result) (c .before .if2 .left), lt-leb (length (h .before .before .args .name .now)) 16 (omega arith))
+    rw (
+      name-tests _ (h .if1 .left),
+      ← l .is-letter .ensures,
+      not-false (l .is-letter .result) (c .before .if2 .left),
+      lt-leb (length (h .before .before .args .name .now)) 16 (omega arith),
+    )
 
 all-name-bytes-requires : tie.Need-all-name-bytes-requires
 all-name-bytes-requires c κs = search needs
@@ -36,7 +41,14 @@ returns-4 c =
     let l = c .before .before .before .before in
     let h = l .before .before in
     let a = c .before in
-    rw (name-tests _ (h .if1 .left), ← l .is-letter .ensures, not-false (l .is-letter .result) (c .before .before .before .if2 .left), le-leb (length (h .before .before .args .name .now)) 16 (omega arith), ← a .all-name-bytes .ensures, not-true (a .all-name-bytes .result) (c .if4 .taken))
+    rw (
+      name-tests _ (h .if1 .left),
+      ← l .is-letter .ensures,
+      not-false (l .is-letter .result) (c .before .before .before .if2 .left),
+      le-leb (length (h .before .before .args .name .now)) 16 (omega arith),
+      ← a .all-name-bytes .ensures,
+      not-true (a .all-name-bytes .result) (c .if4 .taken),
+    )
 
 is-false-requires : tie.Need-is-false-requires
 is-false-requires c κs = search needs
@@ -46,7 +58,15 @@ returns-5 c =
     let l = c .before .before .before .before .before in
     let h = l .before .before in
     let a = c .before .before in
-    rw (name-tests _ (h .if1 .left), ← l .is-letter .ensures, not-false (l .is-letter .result) (c .before .before .before .before .if2 .left), le-leb (length (h .before .before .args .name .now)) 16 (omega arith), ← a .all-name-bytes .ensures, not-false (a .all-name-bytes .result) (c .before .if4 .left), c .is-false .ensures)
+    rw (
+      name-tests _ (h .if1 .left),
+      ← l .is-letter .ensures,
+      not-false (l .is-letter .result) (c .before .before .before .before .if2 .left),
+      le-leb (length (h .before .before .args .name .now)) 16 (omega arith),
+      ← a .all-name-bytes .ensures,
+      not-false (a .all-name-bytes .result) (c .before .if4 .left),
+      c .is-false .ensures,
+    )
 
 pub is-name-spec : {M : Type 1} → statement M
 is-name-spec =

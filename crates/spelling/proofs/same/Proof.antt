@@ -15,7 +15,9 @@ use Rattle.spelling.proofs.same.Tie as tie
 
 abbrev Inv-loop : tie.InvT-loop
 Inv-loop a b lower i₀ i =
-    (i ≤ length a) × (i ≤ length b) × (same (map (compared lower) (drop i a)) (map (compared lower) (drop i b)) ≡ same (map (compared lower) a) (map (compared lower) b))
+    (i ≤ length a) × (i ≤ length b)
+    × (same (map (compared lower) (drop i a)) (map (compared lower) (drop i b))
+    ≡ same (map (compared lower) a) (map (compared lower) b))
 
 abbrev μ-loop : tie.MeasureT-loop
 μ-loop a b lower i₀ i = length a - i
@@ -27,7 +29,8 @@ returns : tie.Need-returns Inv-loop μ-loop
 returns c =
     let h = c .before .before in
     let a = h .before .before .before .args in
-    sym (same-short (compared (a .lower)) (a .a .now) (a .b .now) (h .loop .i) (c .before .loop-test .taken) (c .if1 .taken)) ∙ h .loop .inv .2
+    sym (same-short (compared (a .lower)) (a .a .now) (a .b .now) (h .loop .i) (c .before .loop-test .taken) (c .if1 .taken))
+    ∙ h .loop .inv .2
 
 shared-slice-read-same-byte : tie.Need-shared-slice-read-same-byte Inv-loop μ-loop
 shared-slice-read-same-byte c = omega arith

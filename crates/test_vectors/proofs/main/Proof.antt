@@ -1,7 +1,6 @@
 -- `main` is safe and ends: one byte value a turn.
 -- Assumes nothing.
 use Prim.Native.Nat.{_-_}
-use native.Mathlib.Omega.{arith}
 use borrow.Author.Needs.{needs}
 use Rattle.test_vectors.proofs.main.Statement.{statement}
 use Rattle.test_vectors.proofs.main.Tie as tie

@@ -1,7 +1,6 @@
 -- `run_arguments` is safe and ends: one argument a turn.
 -- Assumes nothing.
 use Prim.Native.Nat.{_-_}
-use native.Mathlib.Omega.{arith}
 use borrow.Author.Needs.{needs}
 use Rattle.test_vectors.proofs.run_arguments.Statement.{statement}
 use Rattle.test_vectors.proofs.run_arguments.Tie as tie

@@ -9,7 +9,7 @@ use borrow.Author.Tests.{lt-ltb, le-ltb}
 use Rattle.action_language.proofs.Laws.{accepted-counts, accepted-horizon}
 use Rattle.basics.proofs.Loops.{refused-at, not-refused}
 use Rattle.action_language.specs.Acceptance.{badRecord, badHorizon}
-use Rattle.translation.specs.Translated.{outcome, tableAfter}
+use Rattle.translation.specs.Translated.{outcome}
 use Rattle.translation.proofs.Writing.{product-bound}
 use Rattle.translation.proofs.measure.Statement.{statement}
 use Rattle.translation.proofs.measure.Tie as tie
@@ -21,12 +21,15 @@ record-taken c = not-refused 8 (c .before .before .bad-record .ensures) (c .enum
 horizon-taken : (c : tie.After-enum-told2) → badHorizon (c .before .before .before .before .before .before .args .d .horizon) ≡ none
 horizon-taken c = not-refused 3 (c .before .before .bad-horizon .ensures) (c .enum-told2 .given .1)
 
-limits : (c : tie.After-enum-told2) → let d = c .before .before .before .before .before .before .args .d in (d .fluents ≤ 24) × (d .actions ≤ 8) × (d .laws ≤ 64) × (d .horizon ≤ 30)
+limits : (c : tie.After-enum-told2)
+    → let d = c .before .before .before .before .before .before .args .d in
+    (d .fluents ≤ 24) × (d .actions ≤ 8) × (d .laws ≤ 64) × (d .horizon ≤ 30)
 limits c =
     let counts = accepted-counts _ _ _ (record-taken (c .before .before .before)) in
     (counts .1, counts .2, counts .3, accepted-horizon _ (horizon-taken c) .1)
 
-atoms-bound : (c : tie.After-enum-told2) → let d = c .before .before .before .before .before .before .args .d in d .horizon * (d .fluents + d .actions) ≤ 30 * 32
+atoms-bound : (c : tie.After-enum-told2)
+    → let d = c .before .before .before .before .before .before .args .d in d .horizon * (d .fluents + d .actions) ≤ 30 * 32
 atoms-bound c =
     let d = c .before .before .before .before .before .before .args .d in
     let l = limits c in

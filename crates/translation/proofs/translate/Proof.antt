@@ -1,9 +1,9 @@
 -- `translate` meets its contract. What `measure` says is the answer; the words are written only where it is no refusal.
 -- Assumes nothing.
-use mathlib.Core.Path.{_≡_, refl, sym, ap, _∙_}
+use mathlib.Core.Path.{sym, ap, _∙_}
 use borrow.Author.Needs.{needs}
 use lib.ListN.{length}
-use Rattle.translation.specs.Translated.{outcomeOf, outcome}
+use Rattle.translation.specs.Translated.{outcomeOf}
 use Rattle.translation.proofs.Outcomes.{written-accepted, refused-left, written-left, written-limits}
 use Rattle.translation.proofs.translate.Statement.{statement}
 use Rattle.translation.proofs.translate.Tie as tie

@@ -21,8 +21,13 @@ slice-aggregate-derive-in-2 c = search needs
 
 derive-in-requires : tie.Need-derive-in-requires
 derive-in-requires c κs =
-    let c7 = c .before .before .before .before .before .before .before in
-    (c7 .pre .0, (c7 .pre .1, (inr (omega arith), as-many 256 _ _ (c .before .before .before .few-starts .ensures) (c .before .before .few-waits .ensures))))
+    let c7 = c .before .before .before .before .before .before .before in (
+      c7 .pre .0,
+      (
+        c7 .pre .1,
+        (inr (omega arith), as-many 256 _ _ (c .before .before .before .few-starts .ensures) (c .before .before .few-waits .ensures)),
+      ),
+    )
 
 returns : tie.Need-returns
 returns c = search needs
@@ -41,8 +46,13 @@ slice-aggregate-derive-in-4 c = search needs
 
 derive-in-requires-2 : tie.Need-derive-in-requires-2
 derive-in-requires-2 c κs =
-    let c7 = c .before .before .before .before .before .before .before in
-    (c7 .pre .0, (c7 .pre .1, (inl (omega arith), as-many 4096 _ _ (c .before .before .before .all-starts .ensures) (c .before .before .all-waits .ensures))))
+    let c7 = c .before .before .before .before .before .before .before in (
+      c7 .pre .0,
+      (
+        c7 .pre .1,
+        (inl (omega arith), as-many 4096 _ _ (c .before .before .before .all-starts .ensures) (c .before .before .all-waits .ensures)),
+      ),
+    )
 
 returns-2 : tie.Need-returns-2
 returns-2 c = search needs

@@ -44,8 +44,13 @@ same-length c = omega arith
 
 returns : tie.Need-returns Inv-loop μ-loop
 returns c =
-    let found = at-place (c .before .before .before .before .before .scan .ensures .0) (c .before .broken .given .1) in
-    (sym found, record { least-marked = λ e. absurd (let z : _≡_ {A = ℕ} 0 1 = cc in omega arith); last-round = λ e. absurd (let z : _≡_ {A = ℕ} 0 1 = cc in omega arith) })
+    let found = at-place (c .before .before .before .before .before .scan .ensures .0) (c .before .broken .given .1) in (
+      sym found,
+      record {
+        least-marked = λ e. absurd (let z : _≡_ {A = ℕ} 0 1 = cc in omega arith);
+        last-round = λ e. absurd (let z : _≡_ {A = ℕ} 0 1 = cc in omega arith);
+      },
+    )
 
 enum-told : tie.Need-enum-told Inv-loop μ-loop
 enum-told c = search needs
@@ -54,8 +59,13 @@ loop-holds : tie.Need-loop-holds Inv-loop μ-loop
 loop-holds c =
     let c4 = c .before .before .before .before in
     let c11 = c4 .before .before .before .before .before .before .before in
-    let begun = c4 .scan .ensures .1 (no-place (c4 .scan .ensures .0) (c .enum-told .given .1)) in
-    (omega arith, refl, refl, reach-start _ _ _ _ _ _ begun (length (c11 .args .starts .now)) (c11 .pre .1 .1 .1) (omega (arith, begun .few)) (c4 .before .before .clear .ensures))
+    let begun = c4 .scan .ensures .1 (no-place (c4 .scan .ensures .0) (c .enum-told .given .1)) in (
+      omega arith,
+      refl,
+      refl,
+      reach-start _ _ _ _ _ _ begun (length (c11 .args .starts .now)) (c11 .pre .1 .1 .1) (omega (arith, begun .few))
+          (c4 .before .before .clear .ensures),
+    )
 
 round-requires : tie.Need-round-requires Inv-loop μ-loop
 round-requires c κs =
@@ -86,7 +96,9 @@ returns-2 c =
     let c25 = c18 .before .before .before .before .before .before .before in
     let inv = c13 .loop .inv .3 in
     let next = round-whole _ _ _ _ _ _ (c13 .loop .k) inv _ _ (c9 .round .ensures .1 .1) in
-    let is = round-last _ _ _ (c13 .loop .k) (inv .is) _ (2 * c25 .args .atoms) next (ap marked (c .before .same .ensures .0 (c .if1 .taken))) (omega arith) in
+    let is =
+    round-last _ _ _ (c13 .loop .k) (inv .is) _ (2 * c25 .args .atoms) next
+    (ap marked (c .before .same .ensures .0 (c .if1 .taken))) (omega arith) in
     let low = codes-heads (2 * c25 .args .atoms) (rulesOf (c25 .args .table .now)) (accepted-below _ _ (c25 .pre .1 .0)) in
     (sym (no-place (c18 .scan .ensures .0) (c14 .enum-told .given .1)), derived _ _ _ _ low (inv .marks-size) is)
 
@@ -104,7 +116,8 @@ loop-again c =
       omega arith,
       omega arith,
       omega arith,
-      reach-next _ _ _ _ _ _ (c13 .loop .k) (c13 .loop .inv .3) _ _ (said .1 .1) _ _ _ refl (said .0) (omega arith) (omega arith) (said .1 .0),
+      reach-next _ _ _ _ _ _ (c13 .loop .k) (c13 .loop .inv .3) _ _ (said .1 .1) _ _ _ refl (said .0) (omega arith)
+          (omega arith) (said .1 .0),
     )
 
 same-length-4 : tie.Need-same-length-4 Inv-loop μ-loop

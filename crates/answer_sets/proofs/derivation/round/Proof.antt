@@ -30,25 +30,37 @@ cast-rest : tie.Need-cast-rest Inv-loop μ-loop
 cast-rest c =
     let c2 = c .before .before in
     let c6 = c2 .before .before .before .before in
-    omega (arith, start-within _ _ _ (next _ _ _ _ _ _ _ _ _ _ _ (c2 .loop .inv) (c6 .pre .0) (c6 .pre .1 .0) (c .before .loop-test .taken)))
+    omega (
+      arith,
+      start-within _ _ _ (next _ _ _ _ _ _ _ _ _ _ _ (c2 .loop .inv) (c6 .pre .0) (c6 .pre .1 .0) (c .before .loop-test .taken)),
+    )
 
 mul-rest : tie.Need-mul-rest Inv-loop μ-loop
 mul-rest c =
     let c2 = c .before .before in
     let c6 = c2 .before .before .before .before in
-    omega (arith, start-within _ _ _ (next _ _ _ _ _ _ _ _ _ _ _ (c2 .loop .inv) (c6 .pre .0) (c6 .pre .1 .0) (c .before .loop-test .taken)))
+    omega (
+      arith,
+      start-within _ _ _ (next _ _ _ _ _ _ _ _ _ _ _ (c2 .loop .inv) (c6 .pre .0) (c6 .pre .1 .0) (c .before .loop-test .taken)),
+    )
 
 sub-rest : tie.Need-sub-rest Inv-loop μ-loop
 sub-rest c =
     let c2 = c .before .before in
     let c6 = c2 .before .before .before .before in
-    omega (arith, start-within _ _ _ (next _ _ _ _ _ _ _ _ _ _ _ (c2 .loop .inv) (c6 .pre .0) (c6 .pre .1 .0) (c .before .loop-test .taken)))
+    omega (
+      arith,
+      start-within _ _ _ (next _ _ _ _ _ _ _ _ _ _ _ (c2 .loop .inv) (c6 .pre .0) (c6 .pre .1 .0) (c .before .loop-test .taken)),
+    )
 
 part-rest-start : tie.Need-part-rest-start Inv-loop μ-loop
 part-rest-start c =
     let c2 = c .before .before in
     let c6 = c2 .before .before .before .before in
-    omega (arith, start-within _ _ _ (next _ _ _ _ _ _ _ _ _ _ _ (c2 .loop .inv) (c6 .pre .0) (c6 .pre .1 .0) (c .before .loop-test .taken)))
+    omega (
+      arith,
+      start-within _ _ _ (next _ _ _ _ _ _ _ _ _ _ _ (c2 .loop .inv) (c6 .pre .0) (c6 .pre .1 .0) (c .before .loop-test .taken)),
+    )
 
 part-rest-end : tie.Need-part-rest-end Inv-loop μ-loop
 part-rest-end c = omega arith
@@ -91,21 +103,33 @@ mul-new c =
     let c7 = c .before .before .before .before .before .before .before in
     let c8 = c7 .before in
     let c12 = c8 .before .before .before .before in
-    omega (arith, c8 .loop .inv .marks-size, from-head _ _ _ (next _ _ _ _ _ _ _ _ _ _ _ (c8 .loop .inv) (c12 .pre .0) (c12 .pre .1 .0) (c7 .loop-test .taken)))
+    omega (
+      arith,
+      c8 .loop .inv .marks-size,
+      from-head _ _ _ (next _ _ _ _ _ _ _ _ _ _ _ (c8 .loop .inv) (c12 .pre .0) (c12 .pre .1 .0) (c7 .loop-test .taken)),
+    )
 
 array-read-new : tie.Need-array-read-new Inv-loop μ-loop
 array-read-new c =
     let c7 = c .before .before .before .before .before .before .before in
     let c8 = c7 .before in
     let c12 = c8 .before .before .before .before in
-    omega (arith, c8 .loop .inv .marks-size, from-head _ _ _ (next _ _ _ _ _ _ _ _ _ _ _ (c8 .loop .inv) (c12 .pre .0) (c12 .pre .1 .0) (c7 .loop-test .taken)))
+    omega (
+      arith,
+      c8 .loop .inv .marks-size,
+      from-head _ _ _ (next _ _ _ _ _ _ _ _ _ _ _ (c8 .loop .inv) (c12 .pre .0) (c12 .pre .1 .0) (c7 .loop-test .taken)),
+    )
 
 array-write-new : tie.Need-array-write-new Inv-loop μ-loop
 array-write-new c =
     let c7 = c .before .before .before .before .before .before .before in
     let c8 = c7 .before in
     let c12 = c8 .before .before .before .before in
-    omega (arith, c8 .loop .inv .marks-size, from-head _ _ _ (next _ _ _ _ _ _ _ _ _ _ _ (c8 .loop .inv) (c12 .pre .0) (c12 .pre .1 .0) (c7 .loop-test .taken)))
+    omega (
+      arith,
+      c8 .loop .inv .marks-size,
+      from-head _ _ _ (next _ _ _ _ _ _ _ _ _ _ _ (c8 .loop .inv) (c12 .pre .0) (c12 .pre .1 .0) (c7 .loop-test .taken)),
+    )
 
 mul-starts : tie.Need-mul-starts Inv-loop μ-loop
 mul-starts c = omega arith
@@ -133,7 +157,8 @@ loop-again c =
     let c6 = c .before .before .before .before .before .before in
     let c7 = c6 .before in
     let c11 = c7 .before .before .before .before in
-    turn _ _ _ _ _ _ (c7 .loop .new) (c7 .loop .starts) (c7 .loop .waits) (c7 .loop .left) (c7 .loop .i) (c7 .loop .inv) (c11 .pre .0) (c11 .pre .1 .0)
+    turn _ _ _ _ _ _ (c7 .loop .new) (c7 .loop .starts) (c7 .loop .waits) (c7 .loop .left) (c7 .loop .i) (c7 .loop .inv)
+    (c11 .pre .0) (c11 .pre .1 .0)
     (c6 .loop-test .taken) _ (c .before .waits-for .ensures) _ _ _ _
     (⊎-elim (λ w. inl (w .0 .taken, w .4, w .2, w .3, w .5)) (λ w. inr (w .0 .left, w .3, w .1, w .2, w .4)) (c .if1 .came))
 

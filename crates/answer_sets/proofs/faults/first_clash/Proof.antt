@@ -16,7 +16,9 @@ use Rattle.answer_sets.proofs.faults.first_clash.Tie as tie
 
 abbrev Inv-loop : tie.InvT-loop
 Inv-loop values atoms atom₀ atom =
-    (atom ≤ atoms) × (first (bothValues (setOf values)) atom (range atom (atoms - atom)) ≡ first (bothValues (setOf values)) 0 (range 0 (length values)))
+    (atom ≤ atoms)
+    × (first (bothValues (setOf values)) atom (range atom (atoms - atom))
+    ≡ first (bothValues (setOf values)) 0 (range 0 (length values)))
 
 abbrev μ-loop : tie.MeasureT-loop
 μ-loop values atoms atom₀ atom = atoms - atom

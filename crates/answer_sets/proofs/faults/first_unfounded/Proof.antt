@@ -13,7 +13,10 @@ use Rattle.answer_sets.proofs.faults.first_unfounded.Statement.{stateme
 use Rattle.answer_sets.proofs.faults.first_unfounded.Tie as tie
 
 abbrev Inv-loop : tie.InvT-loop
-Inv-loop x least codes code₀ code = (code ≤ codes) × (first (isUnfounded (marked x) (marked least)) code (range code (codes - code)) ≡ first (isUnfounded (marked x) (marked least)) 0 (range 0 codes))
+Inv-loop x least codes code₀ code =
+    (code ≤ codes)
+    × (first (isUnfounded (marked x) (marked least)) code (range code (codes - code))
+    ≡ first (isUnfounded (marked x) (marked least)) 0 (range 0 codes))
 
 abbrev μ-loop : tie.MeasureT-loop
 μ-loop x least codes code₀ code = codes - code

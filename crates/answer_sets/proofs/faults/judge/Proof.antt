@@ -40,7 +40,8 @@ returns-2 c =
     let c5 = c3 .before .before in
     let c6 = c5 .before in
     ap answered
-    (says-broken _ _ _ (no-place (c6 .before .before .first-clash .ensures) (c6 .enum-told .given .1)) (marked (c5 .marks-of .result)) (c5 .marks-of .ensures)
+    (says-broken _ _ _ (no-place (c6 .before .before .first-clash .ensures) (c6 .enum-told .given .1))
+    (marked (c5 .marks-of .result)) (c5 .marks-of .ensures)
     (at-place (c3 .derive .ensures .0) (c .before .broken .given .1)))
 
 enum-told-2 : tie.Need-enum-told-2
@@ -56,7 +57,8 @@ slice-aggregate-first-unfounded-2 c =
     omega (arith, said .1 .least-marked (no-place (said .0) (c3 .enum-told2 .given .1)) .size)
 
 mul-first-unfounded : tie.Need-mul-first-unfounded
-mul-first-unfounded c = omega (arith, c .before .before .before .before .before .before .before .before .before .before .before .before .before .pre .0)
+mul-first-unfounded c =
+    omega (arith, c .before .before .before .before .before .before .before .before .before .before .before .before .before .pre .0)
 
 first-unfounded-requires : tie.Need-first-unfounded-requires
 first-unfounded-requires c κs = tt
@@ -73,8 +75,10 @@ returns-3 c =
     let c12 = c11 .before in
     let unbroken = no-place (c9 .derive .ensures .0) (c7 .enum-told2 .given .1) in
     ap answered
-    (says-unfounded _ _ _ (no-place (c12 .before .before .first-clash .ensures) (c12 .enum-told .given .1)) (marked (c11 .marks-of .result)) (c11 .marks-of .ensures)
-    unbroken (marked (c9 .derive .result .marks)) (c9 .derive .ensures .1 .last-round unbroken) (at-place (c3 .first-unfounded .ensures) (c .before .code .given .1)))
+    (says-unfounded _ _ _ (no-place (c12 .before .before .first-clash .ensures) (c12 .enum-told .given .1))
+    (marked (c11 .marks-of .result)) (c11 .marks-of .ensures)
+    unbroken (marked (c9 .derive .result .marks)) (c9 .derive .ensures .1 .last-round unbroken)
+    (at-place (c3 .first-unfounded .ensures) (c .before .code .given .1)))
 
 enum-told-3 : tie.Need-enum-told-3
 enum-told-3 c = search needs
@@ -88,8 +92,10 @@ returns-4 c =
     let c11 = c10 .before in
     let unbroken = no-place (c8 .derive .ensures .0) (c6 .enum-told2 .given .1) in
     ap answered
-    (says-passes _ _ _ (no-place (c11 .before .before .first-clash .ensures) (c11 .enum-told .given .1)) (marked (c10 .marks-of .result)) (c10 .marks-of .ensures)
-    unbroken (marked (c8 .derive .result .marks)) (c8 .derive .ensures .1 .last-round unbroken) (no-place (c2 .first-unfounded .ensures) (c .enum-told3 .given .1)))
+    (says-passes _ _ _ (no-place (c11 .before .before .first-clash .ensures) (c11 .enum-told .given .1))
+    (marked (c10 .marks-of .result)) (c10 .marks-of .ensures)
+    unbroken (marked (c8 .derive .result .marks)) (c8 .derive .ensures .1 .last-round unbroken)
+    (no-place (c2 .first-unfounded .ensures) (c .enum-told3 .given .1)))
 
 pub judge-spec : {M : Type 1} → statement M
 judge-spec =

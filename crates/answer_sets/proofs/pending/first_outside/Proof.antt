@@ -47,8 +47,10 @@ loop-less c = omega arith
 loop-again : tie.Need-loop-again Inv-loop μ-loop
 loop-again c =
     let c3 = c .before .before .before in
-    let c4 = c3 .before in
-    (omega arith, outside-go _ _ (c4 .loop .i) (c3 .loop-test .taken) (c4 .loop .inv .1) (sym (c .before .has .ensures) ∙ not-false _ (c .if1 .left)))
+    let c4 = c3 .before in (
+      omega arith,
+      outside-go _ _ (c4 .loop .i) (c3 .loop-test .taken) (c4 .loop .inv .1) (sym (c .before .has .ensures) ∙ not-false _ (c .if1 .left)),
+    )
 
 returns-2 : tie.Need-returns-2 Inv-loop μ-loop
 returns-2 c = outside-done _ _ (c .before .loop .i) (c .loop-test .left) (c .before .loop .inv .1)

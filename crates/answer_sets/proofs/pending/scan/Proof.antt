@@ -12,7 +12,8 @@ use Rattle.answer_sets.proofs.pending.scan.Statement.{statement}
 use Rattle.answer_sets.proofs.pending.scan.Tie as tie
 
 abbrev Inv-loop : tie.InvT-loop
-Inv-loop table x starts₀ rest₀ at₀ rule₀ count₀ starts rest at rule count = Scanned table (marked x) (length starts₀) starts rest at rule count
+Inv-loop table x starts₀ rest₀ at₀ rule₀ count₀ starts rest at rule count =
+    Scanned table (marked x) (length starts₀) starts rest at rule count
 
 abbrev μ-loop : tie.MeasureT-loop
 μ-loop table x starts₀ rest₀ at₀ rule₀ count₀ starts rest at rule count = length rest
@@ -40,32 +41,62 @@ returns c =
     let c4 = c .before .before .before .before in
     let c5 = c4 .before in
     let c6 = c5 .before in
-    let found = scan-stop _ _ _ _ _ _ _ _ (c6 .loop .inv) (c5 .loop-test .taken) _ _ (c4 .rule-applies .ensures) (c .before .before .before .if1 .taken) (c .before .head-in .ensures) (c .if2 .taken) in
+    let found =
+    scan-stop _ _ _ _ _ _ _ _ (c6 .loop .inv) (c5 .loop-test .taken) _ _ (c4 .rule-applies .ensures)
+    (c .before .before .before .if1 .taken) (c .before .head-in .ensures) (c .if2 .taken) in
     (found, λ e. absurd (let z : _≡_ {A = ℕ} 0 1 = cc in omega arith))
 
 cast-starts : tie.Need-cast-starts Inv-loop μ-loop
 cast-starts c =
     let c5 = c .before .before .before .before .before in
     let inv = c5 .before .loop .inv in
-    omega (arith, inv .size, inv .few, inv .low, below _ _ _ _ _ _ _ _ inv (c5 .loop-test .taken), room _ _ _ _ _ _ _ _ inv (c5 .loop-test .taken))
+    omega (
+      arith,
+      inv .size,
+      inv .few,
+      inv .low,
+      below _ _ _ _ _ _ _ _ inv (c5 .loop-test .taken),
+      room _ _ _ _ _ _ _ _ inv (c5 .loop-test .taken),
+    )
 
 mul-starts : tie.Need-mul-starts Inv-loop μ-loop
 mul-starts c =
     let c5 = c .before .before .before .before .before in
     let inv = c5 .before .loop .inv in
-    omega (arith, inv .size, inv .few, inv .low, below _ _ _ _ _ _ _ _ inv (c5 .loop-test .taken), room _ _ _ _ _ _ _ _ inv (c5 .loop-test .taken))
+    omega (
+      arith,
+      inv .size,
+      inv .few,
+      inv .low,
+      below _ _ _ _ _ _ _ _ inv (c5 .loop-test .taken),
+      room _ _ _ _ _ _ _ _ inv (c5 .loop-test .taken),
+    )
 
 slice-write-starts : tie.Need-slice-write-starts Inv-loop μ-loop
 slice-write-starts c =
     let c5 = c .before .before .before .before .before in
     let inv = c5 .before .loop .inv in
-    omega (arith, inv .size, inv .few, inv .low, below _ _ _ _ _ _ _ _ inv (c5 .loop-test .taken), room _ _ _ _ _ _ _ _ inv (c5 .loop-test .taken))
+    omega (
+      arith,
+      inv .size,
+      inv .few,
+      inv .low,
+      below _ _ _ _ _ _ _ _ inv (c5 .loop-test .taken),
+      room _ _ _ _ _ _ _ _ inv (c5 .loop-test .taken),
+    )
 
 add-count : tie.Need-add-count Inv-loop μ-loop
 add-count c =
     let c5 = c .before .before .before .before .before in
     let inv = c5 .before .loop .inv in
-    omega (arith, inv .size, inv .few, inv .low, below _ _ _ _ _ _ _ _ inv (c5 .loop-test .taken), room _ _ _ _ _ _ _ _ inv (c5 .loop-test .taken))
+    omega (
+      arith,
+      inv .size,
+      inv .few,
+      inv .low,
+      below _ _ _ _ _ _ _ _ inv (c5 .loop-test .taken),
+      room _ _ _ _ _ _ _ _ inv (c5 .loop-test .taken),
+    )
 
 rule-size-requires : tie.Need-rule-size-requires Inv-loop μ-loop
 rule-size-requires c κs = tt
@@ -95,13 +126,25 @@ add-at : tie.Need-add-at Inv-loop μ-loop
 add-at c =
     let c4 = c .before .before .before .before in
     let inv = c4 .before .loop .inv in
-    omega (arith, here _ _ _ _ _ _ _ _ inv (c4 .loop-test .taken), up-to _ _ _ _ _ _ _ _ inv (c4 .loop-test .taken), below _ _ _ _ _ _ _ _ inv (c4 .loop-test .taken), c .before .rule-size .ensures)
+    omega (
+      arith,
+      here _ _ _ _ _ _ _ _ inv (c4 .loop-test .taken),
+      up-to _ _ _ _ _ _ _ _ inv (c4 .loop-test .taken),
+      below _ _ _ _ _ _ _ _ inv (c4 .loop-test .taken),
+      c .before .rule-size .ensures,
+    )
 
 add-rule : tie.Need-add-rule Inv-loop μ-loop
 add-rule c =
     let c4 = c .before .before .before .before in
     let inv = c4 .before .loop .inv in
-    omega (arith, here _ _ _ _ _ _ _ _ inv (c4 .loop-test .taken), up-to _ _ _ _ _ _ _ _ inv (c4 .loop-test .taken), below _ _ _ _ _ _ _ _ inv (c4 .loop-test .taken), c .before .rule-size .ensures)
+    omega (
+      arith,
+      here _ _ _ _ _ _ _ _ inv (c4 .loop-test .taken),
+      up-to _ _ _ _ _ _ _ _ inv (c4 .loop-test .taken),
+      below _ _ _ _ _ _ _ _ inv (c4 .loop-test .taken),
+      c .before .rule-size .ensures,
+    )
 
 loop-less : tie.Need-loop-less Inv-loop μ-loop
 loop-less c =
@@ -120,7 +163,8 @@ loop-again c =
     let turn =
     scan-turn _ _ _ _ ws (c5 .loop .at) (c5 .loop .rule) (c5 .loop .count) (c5 .loop .inv) (c4 .loop-test .taken)
     (λ k. omega (arith, c8 .shared-slice-known .given k)) (c3 .rule-applies .ensures) (c2 .if1 .starts) (c2 .if1 .count)
-    (⊎-elim (λ w. inl (w .0 .taken, (w .2 .result, w .2 .ensures, w .3 .left), w .4, w .5)) (λ w. inr (w .0 .left, w .1, w .2)) (c2 .if1 .came)) in
+    (⊎-elim (λ w. inl (w .0 .taken, (w .2 .result, w .2 .ensures, w .3 .left), w .4, w .5))
+    (λ w. inr (w .0 .left, w .1, w .2)) (c2 .if1 .came)) in
     rw (left-behind ws _ (c .before .rule-size .ensures), c .before .rule-size .ensures) turn
 
 same-length-2 : tie.Need-same-length-2 Inv-loop μ-loop

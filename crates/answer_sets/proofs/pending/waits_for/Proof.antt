@@ -63,7 +63,8 @@ returns-3 : tie.Need-returns-3
 returns-3 c =
     let c4 = c .before .before .before .before in
     let c7 = c4 .before .before .before in
-    waits-part _ _ _ _ _ (c7 .before .still-waits .ensures) (c7 .if1 .left) (c4 .before .has .ensures) (c4 .if2 .left) _ (c .first-outside .ensures)
+    waits-part _ _ _ _ _ (c7 .before .still-waits .ensures) (c7 .if1 .left) (c4 .before .has .ensures) (c4 .if2 .left) _
+    (c .first-outside .ensures)
 
 pub waits-for-spec : {M : Type 1} → statement M
 waits-for-spec =

@@ -15,7 +15,8 @@ use Rattle.answer_sets.proofs.values.marks_of.Statement.{statement}
 use Rattle.answer_sets.proofs.values.marks_of.Tie as tie
 
 abbrev Inv-loop : tie.InvT-loop
-Inv-loop values marks₀ atoms atom₀ marks atom = (atom ≤ atoms) × (length marks ≡ 32) × ((k : ℕ) → marked marks k ≡ (ltb k (2 * atom) && setOf values k))
+Inv-loop values marks₀ atoms atom₀ marks atom =
+    (atom ≤ atoms) × (length marks ≡ 32) × ((k : ℕ) → marked marks k ≡ (ltb k (2 * atom) && setOf values k))
 
 abbrev μ-loop : tie.MeasureT-loop
 μ-loop values marks₀ atoms atom₀ marks atom = atoms - atom
@@ -58,7 +59,8 @@ loop-again c =
     let c2 = c .before .before in
     let c5 = c2 .before .before .before in
     let values = c5 .args .values .now in
-    let small = ltb-false 3 (getD values (c2 .loop .atom) 0) (first-none (ltb 3) 0 0 values (c5 .pre .1) (c2 .loop .atom) (omega arith)) in (
+    let small =
+    ltb-false 3 (getD values (c2 .loop .atom) 0) (first-none (ltb 3) 0 0 values (c5 .pre .1) (c2 .loop .atom) (omega arith)) in (
       omega arith,
       simp length-set (c2 .loop .inv .1),
       fill-step values (c2 .loop .marks) (c2 .loop .atom) (omega (arith, small)) (omega arith) (c2 .loop .inv .2),

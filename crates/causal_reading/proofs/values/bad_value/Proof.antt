@@ -29,7 +29,8 @@ one-value-requires c κs = tt
 returns : tie.Need-returns Inv-loop μ-loop
 returns c =
     let h = c .before .before .before .before in
-    first-stop notOneValue (h .before .before .args .values .now) (h .loop .i) 0 (c .before .before .before .loop-test .taken) (h .loop .inv)
+    first-stop notOneValue (h .before .before .args .values .now) (h .loop .i) 0
+    (c .before .before .before .loop-test .taken) (h .loop .inv)
     (ap not (sym (c .before .one-value .ensures)) ∙ c .if1 .taken)
 
 add-i : tie.Need-add-i Inv-loop μ-loop
@@ -45,7 +46,8 @@ loop-again c =
     (ap not (sym (c .before .one-value .ensures)) ∙ c .if1 .left)
 
 returns-2 : tie.Need-returns-2 Inv-loop μ-loop
-returns-2 c = first-done notOneValue (c .before .before .before .args .values .now) (c .before .loop .i) 0 (c .loop-test .left) (c .before .loop .inv)
+returns-2 c =
+    first-done notOneValue (c .before .before .before .args .values .now) (c .before .loop .i) 0 (c .loop-test .left) (c .before .loop .inv)
 
 pub bad-value-spec : {M : Type 1} → statement M
 bad-value-spec =

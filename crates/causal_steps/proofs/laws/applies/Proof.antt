@@ -39,7 +39,9 @@ holds-requires-2 : tie.Need-holds-requires-2
 holds-requires-2 c κs = search needs
 
 returns-2 : tie.Need-returns-2
-returns-2 c = and-go (c .before .before .before .holds .result) _ (listed (c .before .before .before)) (c .before .before .if1 .left) (rw (c .enum-told .given .1) refl)
+returns-2 c =
+    and-go (c .before .before .before .holds .result) _ (listed (c .before .before .before))
+    (c .before .before .if1 .left) (rw (c .enum-told .given .1) refl)
 
 returns-3 : tie.Need-returns-3
 returns-3 c =

@@ -34,7 +34,8 @@ holds-requires : tie.Need-holds-requires
 holds-requires c κs = search needs
 
 returns-2 : tie.Need-returns-2
-returns-2 c = rw (c .before .before .before .enum-told2 .given .1) (and-stop (c .before .holds .result) _ (listed (c .before)) (c .if1 .taken))
+returns-2 c =
+    rw (c .before .before .before .enum-told2 .given .1) (and-stop (c .before .holds .result) _ (listed (c .before)) (c .if1 .taken))
 
 head-holds-requires : tie.Need-head-holds-requires
 head-holds-requires c κs = search needs

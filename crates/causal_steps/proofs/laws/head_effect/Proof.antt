@@ -10,9 +10,13 @@ use Rattle.causal_steps.proofs.laws.head_effect.Statement.{statement}
 use Rattle.causal_steps.proofs.laws.head_effect.Tie as tie
 
 -- the answer on the head's literal
-held : (c : tie.After-satisfies) → c .satisfies .result ≡ satisfies (read (c .before .before .before .before .before .before .args .new .now)) (c .before .before .head .given .0 .0)
+held : (c : tie.After-satisfies)
+    → c .satisfies .result
+    ≡ satisfies (read (c .before .before .before .before .before .before .args .new .now)) (c .before .before .head .given .0 .0)
 held c =
-    c .satisfies .ensures ∙ ap (λ s. satisfies s (c .before .before .head .given .0 .0)) (alone (read (c .before .before .before .before .before .before .args .new .now)))
+    c .satisfies .ensures
+    ∙ ap (λ s. satisfies s (c .before .before .head .given .0 .0))
+    (alone (read (c .before .before .before .before .before .before .args .new .now)))
 
 returns : tie.Need-returns
 returns c = rw (not-true (c .before .before .args .applied) (c .if1 .taken))
@@ -26,7 +30,8 @@ satisfies-requires c κs = search needs
 returns-2 : tie.Need-returns-2
 returns-2 c =
     rw (
-      not-false (c .before .before .before .before .before .before .before .args .applied) (c .before .before .before .before .before .if1 .left),
+      not-false (c .before .before .before .before .before .before .before .args .applied)
+          (c .before .before .before .before .before .if1 .left),
       c .before .before .before .head .given .1,
       sym (held (c .before)) ∙ c .if2 .taken,
     )
@@ -37,7 +42,8 @@ enum-told c = search needs
 returns-3 : tie.Need-returns-3
 returns-3 c =
     rw (
-      not-false (c .before .before .before .before .before .before .before .args .applied) (c .before .before .before .before .before .if1 .left),
+      not-false (c .before .before .before .before .before .before .before .args .applied)
+          (c .before .before .before .before .before .if1 .left),
       c .before .before .before .head .given .1,
       sym (held (c .before)) ∙ c .if2 .left,
     )

@@ -18,7 +18,11 @@ enum-told : tie.Need-enum-told
 enum-told c = search needs
 
 returns : tie.Need-returns
-returns c = rw (c .before .before .head .given .1) (c .satisfies .ensures ∙ ap (λ s. satisfies s (c .before .before .head .given .0 .0)) (alone (read (c .before .before .before .before .before .args .state .now))))
+returns c =
+    rw (c .before .before .head .given .1)
+    (c .satisfies .ensures
+    ∙ ap (λ s. satisfies s (c .before .before .head .given .0 .0))
+    (alone (read (c .before .before .before .before .before .args .state .now))))
 
 returns-2 : tie.Need-returns-2
 returns-2 c = search needs

@@ -15,7 +15,9 @@ literal-holds-requires : tie.Need-literal-holds-requires
 literal-holds-requires c κs = search needs
 
 returns : tie.Need-returns
-returns c = rw (← c .before .before .before .wide .ensures .0, lt-ltb _ _ (c .before .before .if1 .taken), ← c .before .is-true .ensures) (c .literal-holds .ensures)
+returns c =
+    rw (← c .before .before .before .wide .ensures .0, lt-ltb _ _ (c .before .before .if1 .taken), ← c .before .is-true .ensures)
+    (c .literal-holds .ensures)
 
 is-true-requires-2 : tie.Need-is-true-requires-2
 is-true-requires-2 c κs = search needs
@@ -24,7 +26,9 @@ literal-holds-requires-2 : tie.Need-literal-holds-requires-2
 literal-holds-requires-2 c κs = search needs
 
 returns-2 : tie.Need-returns-2
-returns-2 c = rw (← c .before .before .before .wide .ensures .0, le-ltb _ _ (c .before .before .if1 .left), ← c .before .is-true2 .ensures) (c .literal-holds2 .ensures)
+returns-2 c =
+    rw (← c .before .before .before .wide .ensures .0, le-ltb _ _ (c .before .before .if1 .left), ← c .before .is-true2 .ensures)
+    (c .literal-holds2 .ensures)
 
 pub satisfies-spec : {M : Type 1} → statement M
 satisfies-spec =

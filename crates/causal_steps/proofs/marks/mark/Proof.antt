@@ -30,7 +30,8 @@ returns c =
     let code = c .wide .result in (
       length-set marks code true,
       λ k. rw (c .before .before .effect .given .1)
-          (stored marks code (omega (arith, c .wide .ensures .1, a .pre)) k ∙ ap (λ d. eqb d k || markedCaused marks k) (c .wide .ensures .0)),
+          (stored marks code (omega (arith, c .wide .ensures .1, a .pre)) k
+          ∙ ap (λ d. eqb d k || markedCaused marks k) (c .wide .ensures .0)),
     )
 
 returns-2 : tie.Need-returns-2

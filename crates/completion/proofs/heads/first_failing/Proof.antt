@@ -46,8 +46,11 @@ loop-less c = omega arith
 loop-again : tie.Need-loop-again Inv-loop μ-loop
 loop-again c =
     let c2 = c .before .before in
-    let c3 = c2 .before in
-    (c3 .loop .inv .0, omega arith, range-go _ _ _ (c2 .loop-test .taken) (c3 .loop .inv .2) (sym (c .before .literal-fails .ensures) ∙ c .if1 .left))
+    let c3 = c2 .before in (
+      c3 .loop .inv .0,
+      omega arith,
+      range-go _ _ _ (c2 .loop-test .taken) (c3 .loop .inv .2) (sym (c .before .literal-fails .ensures) ∙ c .if1 .left),
+    )
 
 returns-2 : tie.Need-returns-2 Inv-loop μ-loop
 returns-2 c = range-done _ _ _ (c .loop-test .left) (c .before .loop .inv .2)

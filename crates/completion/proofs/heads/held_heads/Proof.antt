@@ -30,8 +30,12 @@ no-heads-requires c κs = tt
 
 loop-holds : tie.Need-loop-holds Inv-loop μ-loop
 loop-holds c =
-    let c3 = c .before .before .before in
-    (omega arith, c3 .pre, rw (c .no-heads .ensures) (length-replicate 2049 false), λ k. rw (c .no-heads .ensures, getD-replicate 2049 k false))
+    let c3 = c .before .before .before in (
+      omega arith,
+      c3 .pre,
+      rw (c .no-heads .ensures) (length-replicate 2049 false),
+      λ k. rw (c .no-heads .ensures, getD-replicate 2049 k false),
+    )
 
 shared-slice-read-mark-of : tie.Need-shared-slice-read-mark-of Inv-loop μ-loop
 shared-slice-read-mark-of c = c .before .loop-test .taken
@@ -98,7 +102,8 @@ loop-again c =
     (omega (arith, shorter ws h), sound-rest ws h (c7 .loop .inv .1), turn .0, turn .1)
 
 returns : tie.Need-returns Inv-loop μ-loop
-returns c = fun-ext (λ k. sym (or-false _) ∙ (rw (rules-end (c .before .loop .rest .now) (c .loop-test .left)) at (c .before .loop .inv .3 k)))
+returns c =
+    fun-ext (λ k. sym (or-false _) ∙ (rw (rules-end (c .before .loop .rest .now) (c .loop-test .left)) at (c .before .loop .inv .3 k)))
 
 pub held-heads-spec : {M : Type 1} → statement M
 held-heads-spec =

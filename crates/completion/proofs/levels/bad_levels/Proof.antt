@@ -22,7 +22,9 @@ first-not-above-requires : tie.Need-first-not-above-requires
 first-not-above-requires c κs = search needs
 
 returns-2 : tie.Need-returns-2
-returns-2 c = says-rules _ _ _ (no-place (c .before .before .before .wrong-count .ensures) (c .before .enum-told .given .1)) (c .first-not-above .ensures)
+returns-2 c =
+    says-rules _ _ _ (no-place (c .before .before .before .wrong-count .ensures) (c .before .enum-told .given .1))
+    (c .first-not-above .ensures)
 
 pub bad-levels-spec : {M : Type 1} → statement M
 bad-levels-spec =

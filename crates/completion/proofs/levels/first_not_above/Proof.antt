@@ -16,7 +16,8 @@ use Rattle.completion.proofs.levels.first_not_above.Tie as tie
 
 abbrev Inv-loop : tie.InvT-loop
 Inv-loop table levels rest₀ rule₀ rest rule =
-    (length rest ≤ length table) × Sound rest × (first (λ r. not (standsAbove levels r)) rule (rulesOf rest) ≡ first (λ r. not (standsAbove levels r)) 0 (rulesOf table)) ×
+    (length rest ≤ length table) × Sound rest
+    × (first (λ r. not (standsAbove levels r)) rule (rulesOf rest) ≡ first (λ r. not (standsAbove levels r)) 0 (rulesOf table)) ×
     (rule + length rest ≤ length table)
 
 abbrev μ-loop : tie.MeasureT-loop
@@ -32,7 +33,8 @@ returns : tie.Need-returns Inv-loop μ-loop
 returns c =
     let c2 = c .before .before in
     let c3 = c2 .before in
-    rule-stop _ _ (c3 .loop .rest .now) (c2 .loop-test .taken) (c3 .loop .inv .2) (ap not (sym (c .before .stands-above .ensures)) ∙ c .if1 .taken)
+    rule-stop _ _ (c3 .loop .rest .now) (c2 .loop-test .taken) (c3 .loop .inv .2)
+    (ap not (sym (c .before .stands-above .ensures)) ∙ c .if1 .taken)
 
 rule-size-requires : tie.Need-rule-size-requires Inv-loop μ-loop
 rule-size-requires c κs = tt
@@ -44,7 +46,8 @@ sub-rest : tie.Need-sub-rest Inv-loop μ-loop
 sub-rest c = omega (arith, sound-size _ (c .before .before .before .loop-test .taken) (c .before .before .before .before .loop .inv .1))
 
 part-rest-start : tie.Need-part-rest-start Inv-loop μ-loop
-part-rest-start c = omega (arith, sound-size _ (c .before .before .before .loop-test .taken) (c .before .before .before .before .loop .inv .1))
+part-rest-start c =
+    omega (arith, sound-size _ (c .before .before .before .loop-test .taken) (c .before .before .before .before .loop .inv .1))
 
 part-rest-end : tie.Need-part-rest-end Inv-loop μ-loop
 part-rest-end c = omega arith

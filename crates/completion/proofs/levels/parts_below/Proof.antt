@@ -39,7 +39,8 @@ returns c =
     let c4 = c3 .before in
     let a = c4 .before .before .before .args in
     all-stop _ _ (c4 .loop .i) 0 (c3 .loop-test .taken) (c4 .loop .inv .1)
-    (not-below (a .levels .now) (a .top) (c .before .word .result) (getD (a .parts .now) (c4 .loop .i) 0) (c .before .word .ensures .0) (omega arith))
+    (not-below (a .levels .now) (a .top) (c .before .word .result) (getD (a .parts .now) (c4 .loop .i) 0)
+    (c .before .word .ensures .0) (omega arith))
 
 add-i : tie.Need-add-i Inv-loop μ-loop
 add-i c = omega arith
@@ -54,7 +55,8 @@ loop-again c =
     let a = c4 .before .before .before .args in (
       omega arith,
       all-go _ _ (c4 .loop .i) 0 (c3 .loop-test .taken) (c4 .loop .inv .1)
-          (below (a .levels .now) (a .top) (c .before .word .result) (getD (a .parts .now) (c4 .loop .i) 0) (c .before .word .ensures .0) (omega arith)),
+          (below (a .levels .now) (a .top) (c .before .word .result) (getD (a .parts .now) (c4 .loop .i) 0)
+          (c .before .word .ensures .0) (omega arith)),
     )
 
 returns-2 : tie.Need-returns-2 Inv-loop μ-loop

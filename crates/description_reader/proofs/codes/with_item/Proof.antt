@@ -45,8 +45,11 @@ returns-2 : tie.Need-returns-2
 returns-2 c =
     let f = c .before .before .before .before .before in
     let a = f .before .before in
-    let r = c .before .refusal2 in
-    (item-seventh (a .args .list .codes) (a .args .list .count) (places a) (r .result) (rw (f .list-is-full .ensures) at (r .ensures)) (c .if1 .taken) _, λ e. absurd (omega arith))
+    let r = c .before .refusal2 in (
+      item-seventh (a .args .list .codes) (a .args .list .count) (places a) (r .result)
+          (rw (f .list-is-full .ensures) at (r .ensures)) (c .if1 .taken) _,
+      λ e. absurd (omega arith),
+    )
 
 cast-codes : tie.Need-cast-codes
 cast-codes c =
@@ -59,7 +62,8 @@ room c =
     let f = c .before .before .before .before .before in
     let a = f .before .before in
     let r = c .before .refusal2 in
-    item-room (a .args .list .codes) (a .args .list .count) (places a) (r .result) (rw (f .list-is-full .ensures) at (r .ensures)) (c .if1 .left)
+    item-room (a .args .list .codes) (a .args .list .count) (places a) (r .result)
+    (rw (f .list-is-full .ensures) at (r .ensures)) (c .if1 .left)
 
 array-write-codes : tie.Need-array-write-codes
 array-write-codes c = omega (arith, room c, places (c .before .before .before .before .before .before .before))

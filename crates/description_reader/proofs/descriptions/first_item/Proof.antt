@@ -24,7 +24,11 @@ returns-2 : tie.Need-returns-2
 unfolding itemsFrom
 returns-2 c =
     let d = c .before in
-    λ law. rw (lt-ltb 0 (d .before .before .args .size) (omega (arith, d .before .if1 .left)), ← d .is-allowed .ensures law, not-true (d .is-allowed .result) (c .if2 .taken))
+    λ law. rw (
+      lt-ltb 0 (d .before .before .args .size) (omega (arith, d .before .if1 .left)),
+      ← d .is-allowed .ensures law,
+      not-true (d .is-allowed .result) (c .if2 .taken),
+    )
 
 has-list-requires : tie.Need-has-list-requires
 has-list-requires c κs = search needs
@@ -36,13 +40,25 @@ returns-3 : tie.Need-returns-3
 unfolding itemsFrom
 returns-3 c =
     let d = c .before .before .before in
-    λ law. rw (lt-ltb 0 (d .before .before .args .size) (omega (arith, d .before .if1 .left)), ← d .is-allowed .ensures law, not-false (d .is-allowed .result) (c .before .before .if2 .left), ← c .before .has-list .ensures, not-true (c .before .has-list .result) (c .if3 .taken))
+    λ law. rw (
+      lt-ltb 0 (d .before .before .args .size) (omega (arith, d .before .if1 .left)),
+      ← d .is-allowed .ensures law,
+      not-false (d .is-allowed .result) (c .before .before .if2 .left),
+      ← c .before .has-list .ensures,
+      not-true (c .before .has-list .result) (c .if3 .taken),
+    )
 
 returns-4 : tie.Need-returns-4
 unfolding itemsFrom
 returns-4 c =
     let d = c .before .before .before in
-    λ law. rw (lt-ltb 0 (d .before .before .args .size) (omega (arith, d .before .if1 .left)), ← d .is-allowed .ensures law, not-false (d .is-allowed .result) (c .before .before .if2 .left), ← c .before .has-list .ensures, not-false (c .before .has-list .result) (c .if3 .left))
+    λ law. rw (
+      lt-ltb 0 (d .before .before .args .size) (omega (arith, d .before .if1 .left)),
+      ← d .is-allowed .ensures law,
+      not-false (d .is-allowed .result) (c .before .before .if2 .left),
+      ← c .before .has-list .ensures,
+      not-false (c .before .has-list .result) (c .if3 .left),
+    )
 
 pub first-item-spec : {M : Type 1} → statement M
 first-item-spec =

@@ -20,7 +20,12 @@ has-room-requires c κs = search needs
 returns-4 : tie.Need-returns-4
 returns-4 c =
     let b = c .before .before in
-    rw (ne-eqb _ _ (b .before .before .if1 .left), ne-eqb _ _ (b .before .if2 .left), ne-eqb _ _ (b .if3 .left), eq-eqb _ _ (c .before .if4 .taken)) (c .has-room .ensures)
+    rw (
+      ne-eqb _ _ (b .before .before .if1 .left),
+      ne-eqb _ _ (b .before .if2 .left),
+      ne-eqb _ _ (b .if3 .left),
+      eq-eqb _ _ (c .before .if4 .taken),
+    ) (c .has-room .ensures)
 
 returns-5 : tie.Need-returns-5
 returns-5 c =

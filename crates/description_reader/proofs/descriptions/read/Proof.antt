@@ -24,8 +24,13 @@ returns : tie.Need-returns
 unfolding described
 returns c =
     let a = c .before .before .before .before in (
-      outcome-refused (a .args .text .now) (c .refused .result) 0 0 1 (c .refused .ensures .0 (a .args .text .now)) ∙ rw (lt-ltb 65535 (length (a .args .text .now)) (omega arith)),
-      record { sound = c .refused .ensures .1 .sound; follows = c .refused .ensures .1 .follows (a .args .laws) (rw (c .before .begun .ensures)); within = omega arith },
+      outcome-refused (a .args .text .now) (c .refused .result) 0 0 1 (c .refused .ensures .0 (a .args .text .now))
+          ∙ rw (lt-ltb 65535 (length (a .args .text .now)) (omega arith)),
+      record {
+        sound = c .refused .ensures .1 .sound;
+        follows = c .refused .ensures .1 .follows (a .args .laws) (rw (c .before .begun .ensures));
+        within = omega arith;
+      },
     )
 
 read-lines-requires : tie.Need-read-lines-requires

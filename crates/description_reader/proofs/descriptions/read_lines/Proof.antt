@@ -17,20 +17,26 @@ use Rattle.text.specs.Internal.{spelled, itemsAt}
 use Rattle.text.proofs.Spelling.{literal-small}
 use Rattle.text.proofs.Items.{next-later}
 use Rattle.description_reader.proofs.Gathering.{turn-on, turn-off, turn-done}
-use Rattle.description_reader.proofs.Walking.{leftAt, left-start, listHere, refused-left, stepped, stepped-left, stop-outcome, goes-key, goes-left, outcome-refused, list-here, part-stands, high-32, from-bound, blank-sound}
+use Rattle.description_reader.proofs.Walking.{leftAt, left-start, listHere, refused-left, stepped, stepped-left}
+use Rattle.description_reader.proofs.Walking.{stop-outcome, goes-key, goes-left, outcome-refused, list-here}
+use Rattle.description_reader.proofs.Walking.{part-stands, high-32, from-bound, blank-sound}
 use Rattle.description_reader.proofs.descriptions.read_lines.Statement.{statement}
 use Rattle.description_reader.proofs.descriptions.read_lines.Tie as tie
 
 abbrev Inv-loop : tie.InvT-loop
 Inv-loop text lent state₀ at line l from to list names high codes₀ i₀ state codes i =
-    (state ≡ state₀) × (i ≤ length list + 1) × Padded codes × (listFrom (spelled text names) 0 high 6 (take (codes .count) (codes .codes)) (itemsAt list i) ≡ listFrom (spelled text names) 0 high 6 [] (itemsAt list i₀))
+    (state ≡ state₀) × (i ≤ length list + 1) × Padded codes
+    × (listFrom (spelled text names) 0 high 6 (take (codes .count) (codes .codes)) (itemsAt list i)
+    ≡ listFrom (spelled text names) 0 high 6 [] (itemsAt list i₀))
 
 abbrev μ-loop : tie.MeasureT-loop
 μ-loop text lent state₀ at line l from to list names high codes₀ i₀ state codes i = length list + 1 - i
 
 abbrev Inv-lines : tie.InvT-lines
 Inv-lines text lent state₀ at₀ line₀ state at line =
-    (at ≤ length text) × (line ≤ at + 1) × Sound (dueAt state) (state .draft) × Follows (state₀ .draft .run .laws) (state .draft .run) × (leftAt text lent state at line ≡ leftAt text lent state₀ 0 1)
+    (at ≤ length text) × (line ≤ at + 1) × Sound (dueAt state) (state .draft)
+    × Follows (state₀ .draft .run .laws) (state .draft .run)
+    × (leftAt text lent state at line ≡ leftAt text lent state₀ 0 1)
 
 abbrev μ-lines : tie.MeasureT-lines
 μ-lines text lent state₀ at₀ line₀ state at line = length text - at
@@ -97,9 +103,12 @@ sound h = h .before .before .before .before .before .before .before .before .bef
 
 -- what the items come to is the line's list
 here : (h : tie.At-loop Inv-loop μ-loop Inv-lines μ-lines)
-    → listFrom (spelled (text-at h) (state-at h .draft .names)) 0 (h .before .before .before .sort-end .result) 6 [] (itemsAt (list-at h) (h .before .first-item .result))
+    → listFrom (spelled (text-at h) (state-at h .draft .names)) 0 (h .before .before .before .sort-end .result) 6 []
+    (itemsAt (list-at h) (h .before .first-item .result))
     ≡ listHere (text-at h) (lent-at h) (state-at h) (line-at h)
-here h = list-here (text-at h) (lent-at h) (state-at h) (line-at h) _ _ (sound h) (h .before .before .before .sort-end .ensures) (h .before .first-item .ensures (state-at h .law))
+here h =
+    list-here (text-at h) (lent-at h) (state-at h) (line-at h) _ _ (sound h)
+    (h .before .before .before .sort-end .ensures) (h .before .first-item .ensures (state-at h .law))
 
 few : (h : tie.At-loop Inv-loop μ-loop Inv-lines μ-lines) → h .before .before .before .sort-end .result ≤ 32
 few h = rw (h .before .before .before .sort-end .ensures) (high-32 _ _ (sound h))
@@ -131,7 +140,8 @@ loop-again c =
       h .loop .inv .0,
       omega (arith, i .next-item .ensures .1, next-later (list-at h) (h .loop .i) (i .before .loop-test .taken)),
       w .with-item .ensures .1 (omega arith),
-      turn-on _ _ (list-at h) (h .loop .i) (i .before .loop-test .taken) _ _ (w .with-item .result) (h .loop .inv .3) (i .next-item .ensures .0) (w .with-item .ensures .0) _ (i .next-item .ensures .1) (c .if1 .left),
+      turn-on _ _ (list-at h) (h .loop .i) (i .before .loop-test .taken) _ _ (w .with-item .result) (h .loop .inv .3)
+          (i .next-item .ensures .0) (w .with-item .ensures .0) _ (i .next-item .ensures .1) (c .if1 .left),
     )
 
 line-step-requires : tie.Need-line-step-requires Inv-loop μ-loop Inv-lines μ-lines
@@ -150,11 +160,14 @@ add-line c =
 -- the line's step
 made : (c : tie.After-line-step Inv-loop μ-loop Inv-lines μ-lines) → let h = c .before .before in
     stepOf (text-at h) (c .line-step .result)
-    ≡ stepWith (lent-at h) (dueAt (state-at h)) (draftOf (text-at h) (state-at h .draft)) (line-at h .key) (list-at h) (lists.codes (take (h .loop .gathered .count) (h .loop .gathered .codes)))
+    ≡ stepWith (lent-at h) (dueAt (state-at h)) (draftOf (text-at h) (state-at h .draft)) (line-at h .key) (list-at h)
+    (lists.codes (take (h .loop .gathered .count) (h .loop .gathered .codes)))
 made c =
     let h = c .before .before in
     let cs = lists.codes (take (h .loop .gathered .count) (h .loop .gathered .codes)) in
-    _∙_ {b = stepWith (lent-at h) (dueAt (h .loop .state)) (draftOf (text-at h) (h .loop .state .draft)) (line-at h .key) (list-at h) cs} (c .line-step .ensures .0)
+    _∙_
+    {b = stepWith (lent-at h) (dueAt (h .loop .state)) (draftOf (text-at h) (h .loop .state .draft)) (line-at h .key) (list-at h) cs}
+    (c .line-step .ensures .0)
     (ap (λ s. stepWith (lent-at h) (dueAt s) (draftOf (text-at h) (s .draft)) (line-at h .key) (list-at h) cs) (h .loop .inv .0))
 
 read-list : (c : tie.After-line-step Inv-loop μ-loop Inv-lines μ-lines) → let h = c .before .before in
@@ -162,7 +175,8 @@ read-list : (c : tie.After-line-step Inv-loop μ-loop Inv-lines μ-lines) → le
 read-list c = let h = c .before .before in turn-done _ _ (list-at h) (h .loop .i) _ (c .before .loop-test .left) (h .loop .inv .3) ∙ here h
 
 -- the lines left come to what the text comes to
-before : (h : tie.At-loop Inv-loop μ-loop Inv-lines μ-lines) → let n = h .before .before .before .before .before .before .before .before .before in
+before : (h : tie.At-loop Inv-loop μ-loop Inv-lines μ-lines)
+    → let n = h .before .before .before .before .before .before .before .before .before in
     leftAt (text-at h) (lent-at h) (state-at h) (n .lines .at) (n .lines .line) ≡ described (lent-at h) (text-at h)
 before h =
     let b = h .before .before .before .before .before .before .before .before .before .before in
@@ -171,7 +185,10 @@ before h =
     ∙ left-start (text-at h) (lent-at h) (b .before .before .args .laws) (b .before .before .pre)
 
 -- the old laws are behind those read
-old-laws : (h : tie.At-loop Inv-loop μ-loop Inv-lines μ-lines) → Follows (h .before .before .before .before .before .before .before .before .before .before .before .before .args .laws) (h .loop .state .draft .run)
+old-laws : (h : tie.At-loop Inv-loop μ-loop Inv-lines μ-lines)
+    → Follows
+    (h .before .before .before .before .before .before .before .before .before .before .before .before .args .laws)
+    (h .loop .state .draft .run)
 old-laws h =
     let n = h .before .before .before .before .before .before .before .before .before in
     rw (h .loop .inv .0) (rw (n .before .begun .ensures) at (n .lines .inv .3))
@@ -183,13 +200,19 @@ later c =
     let m = c .before .before in
     let h = m .before .before in
     let l = h .before .before .before .before .before .before .before .before in
-    let step = stepped (text-at h) (lent-at h) (state-at h) (l .before .lines .at) 0 (line-at h) (l .line-at .ensures .0) (m .line-step .result) _ (made m) (read-list m) in
-    l .line-at .ensures .1 .later (goes-key (text-at h) (m .line-step .result) (sym (c .before .stops .ensures) ∙ c .if2 .left) _ _ _ _ _ step)
+    let step =
+    stepped (text-at h) (lent-at h) (state-at h) (l .before .lines .at) 0 (line-at h) (l .line-at .ensures .0)
+    (m .line-step .result) _ (made m) (read-list m) in
+    l .line-at .ensures .1 .later
+    (goes-key (text-at h) (m .line-step .result) (sym (c .before .stops .ensures) ∙ c .if2 .left) _ _ _ _ _ step)
 
 lines-less : tie.Need-lines-less Inv-loop μ-loop Inv-lines μ-lines
 lines-less c =
     let e = later c in
-    omega (arith, c .before .before .before .before .before .before .before .before .before .before .before .before .line-at .ensures .1 .within)
+    omega (
+      arith,
+      c .before .before .before .before .before .before .before .before .before .before .before .before .line-at .ensures .1 .within,
+    )
 
 lines-again : tie.Need-lines-again Inv-loop μ-loop Inv-lines μ-lines
 lines-again c =
@@ -205,7 +228,8 @@ lines-again c =
       m .line-step .ensures .1 .sound,
       m .line-step .ensures .1 .follows _ (rw (h .loop .inv .0) (n .lines .inv .3)),
       sym (goes-left (text-at h) s on (lent-at h) (n .lines .at) (n .lines .line) (line-at h .next) e (l .line-at .ensures .1 .within))
-          ∙ sym (stepped-left (text-at h) (lent-at h) (state-at h) (n .lines .at) (n .lines .line) (line-at h) (l .line-at .ensures .0) s _ (made m) (read-list m))
+          ∙ sym (stepped-left (text-at h) (lent-at h) (state-at h) (n .lines .at) (n .lines .line) (line-at h)
+          (l .line-at .ensures .0) s _ (made m) (read-list m))
           ∙ n .lines .inv .4,
     )
 
@@ -217,9 +241,12 @@ returns c =
     let l = h .before .before .before .before .before .before .before .before in
     let n = l .before in
     let k = w .with-item .result .refused in
-    let fails = turn-off _ _ (list-at h) (h .loop .i) (i .before .loop-test .taken) _ _ (w .with-item .result) (h .loop .inv .3 ∙ here h) (i .next-item .ensures .0) (w .with-item .ensures .0) (c .before .if1 .taken) in (
+    let fails =
+    turn-off _ _ (list-at h) (h .loop .i) (i .before .loop-test .taken) _ _ (w .with-item .result)
+    (h .loop .inv .3 ∙ here h) (i .next-item .ensures .0) (w .with-item .ensures .0) (c .before .if1 .taken) in (
       outcome-refused (text-at h) (c .refused .result) (n .lines .line) (n .lines .at) k (c .refused .ensures .0 (text-at h))
-          ∙ sym (refused-left (text-at h) (lent-at h) (state-at h) (n .lines .at) (n .lines .line) (line-at h) (l .line-at .ensures .0) k fails)
+          ∙ sym (refused-left (text-at h) (lent-at h) (state-at h) (n .lines .at) (n .lines .line) (line-at h)
+          (l .line-at .ensures .0) k fails)
           ∙ before h,
       record { sound = c .refused .ensures .1 .sound; follows = c .refused .ensures .1 .follows _ (old-laws h); within = n .lines .inv .0 },
     )
@@ -231,10 +258,16 @@ returns-2 c =
     let l = h .before .before .before .before .before .before .before .before in
     let n = l .before in
     let s = m .line-step .result in (
-      sym (stop-outcome (text-at h) (lent-at h) (n .lines .at) (n .lines .line) s (line-at h .next) (sym (c .before .stops .ensures) ∙ c .if2 .taken))
-          ∙ sym (stepped-left (text-at h) (lent-at h) (state-at h) (n .lines .at) (n .lines .line) (line-at h) (l .line-at .ensures .0) s _ (made m) (read-list m))
+      sym (stop-outcome (text-at h) (lent-at h) (n .lines .at) (n .lines .line) s (line-at h .next)
+          (sym (c .before .stops .ensures) ∙ c .if2 .taken))
+          ∙ sym (stepped-left (text-at h) (lent-at h) (state-at h) (n .lines .at) (n .lines .line) (line-at h)
+          (l .line-at .ensures .0) s _ (made m) (read-list m))
           ∙ before h,
-      record { sound = m .line-step .ensures .1 .sound; follows = m .line-step .ensures .1 .follows _ (old-laws h); within = l .line-at .ensures .1 .within },
+      record {
+        sound = m .line-step .ensures .1 .sound;
+        follows = m .line-step .ensures .1 .follows _ (old-laws h);
+        within = l .line-at .ensures .1 .within;
+      },
     )
 
 pub read-lines-spec : {M : Type 1} → statement M

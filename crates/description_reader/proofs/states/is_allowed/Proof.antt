@@ -57,7 +57,12 @@ returns-5 c = λ law. rw (c .enum-told2 .given .1)
 
 returns-6 : tie.Need-returns-6
 returns-6 c =
-    λ law. rw (c .before .before .before .enum-told3 .given .1, allowed-fluent, ne-eqb _ _ (c .before .before .if1 .left), ne-eqb _ _ (c .before .if2 .left)) (c .is-law-or-end .ensures)
+    λ law. rw (
+      c .before .before .before .enum-told3 .given .1,
+      allowed-fluent,
+      ne-eqb _ _ (c .before .before .if1 .left),
+      ne-eqb _ _ (c .before .if2 .left),
+    ) (c .is-law-or-end .ensures)
 
 returns-7 : tie.Need-returns-7
 returns-7 c =

@@ -17,7 +17,9 @@ whole-law-requires c κs = search needs
 returns : tie.Need-returns
 returns c =
     let a = c .before .before .before .before in (
-      λ text. c .whole-law .ensures .0 text ∙ ap (λ l. next lawDue (whole (draftOf text (a .args .state .draft)) l)) (law-after (a .args .list) (a .pre .2) (a .args .state .law)),
+      λ text. c .whole-law .ensures .0 text
+          ∙ ap (λ l. next lawDue (whole (draftOf text (a .args .state .draft)) l))
+          (law-after (a .args .list) (a .pre .2) (a .args .state .law)),
       c .whole-law .ensures .1,
     )
 

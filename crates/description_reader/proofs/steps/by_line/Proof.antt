@@ -22,7 +22,9 @@ returns : tie.Need-returns
 returns c =
     let a = c .before .before .before .before in (
       λ text. c .whole-law .ensures .0 text
-          ∙ ap (λ l. next lawDue (whole (draftOf text (a .args .state .draft)) l)) (c .before .causes-law .ensures ∙ ap (lawWith Dynamic (a .args .state .law .head) noPlaces) (c .before .before .places .ensures)),
+          ∙ ap (λ l. next lawDue (whole (draftOf text (a .args .state .draft)) l))
+          (c .before .causes-law .ensures
+          ∙ ap (lawWith Dynamic (a .args .state .law .head) noPlaces) (c .before .before .places .ensures)),
       c .whole-law .ensures .1,
     )
 

@@ -21,8 +21,10 @@ refused-requires : tie.Need-refused-requires
 refused-requires c κs = search needs
 
 returns : tie.Need-returns
-returns c =
-    (λ text. rw (no-place (c .before .before .before .horizon-of .ensures) (c .before .enum-told .given .1)) (c .refused .ensures .0 text), c .refused .ensures .1)
+returns c = (
+  λ text. rw (no-place (c .before .before .before .horizon-of .ensures) (c .before .enum-told .given .1)) (c .refused .ensures .0 text),
+  c .refused .ensures .1,
+)
 
 returns-2 : tie.Need-returns-2
 unfolding stepOf
@@ -30,7 +32,17 @@ returns-2 c =
     let h = c .before .before .before .before .before in
     let s = h .before .before .pre in (
       λ text. rw (at-place (h .horizon-of .ensures) (c .before .before .before .t .given .1)),
-      record { sound = record { time = horizon-30 _ _ (at-place (h .horizon-of .ensures) (c .before .before .before .t .given .1)); few = s .few; declared = s .declared; actions = s .actions; room = sound-64 s; held = s .held }; follows = λ old f. f },
+      record {
+        sound = record {
+          time = horizon-30 _ _ (at-place (h .horizon-of .ensures) (c .before .before .before .t .given .1));
+          few = s .few;
+          declared = s .declared;
+          actions = s .actions;
+          room = sound-64 s;
+          held = s .held;
+        };
+        follows = λ old f. f;
+      },
     )
 
 pub horizon-line-spec : {M : Type 1} → statement M

@@ -43,8 +43,12 @@ returns-2 c =
     let l = a .args .list in
     let h = a .pre .1 in
     let e = c .enum-told2 .given .1 in (
-      λ text. ap (λ v. next (afterDue v) (draftOf text s)) (law-if l (a .pre .2) w Dynamic e) ∙ if-dynamic (draftOf text s) w (take (l .count) (l .codes)) e,
-      record { sound = record { time = h .time; few = h .few; declared = h .declared; actions = h .actions; room = a .pre .0; held = h .held }; follows = λ old f. f },
+      λ text. ap (λ v. next (afterDue v) (draftOf text s)) (law-if l (a .pre .2) w Dynamic e)
+          ∙ if-dynamic (draftOf text s) w (take (l .count) (l .codes)) e,
+      record {
+        sound = record { time = h .time; few = h .few; declared = h .declared; actions = h .actions; room = a .pre .0; held = h .held };
+        follows = λ old f. f;
+      },
     )
 
 pub if-line-spec : {M : Type 1} → statement M

@@ -48,13 +48,22 @@ enum-told c = search needs
 
 -- what the definition says of the head
 abbrev literal-at : tie.After-literal → Option ℕ
-literal-at l = let a = l .before .before .before .before .before .before .before .args in literal (spelled (a .text .now) (a .names)) 0 (a .fluents) (a .value .now)
+literal-at l =
+    let a = l .before .before .before .before .before .before .before .args in
+    literal (spelled (a .text .now) (a .names)) 0 (a .fluents) (a .value .now)
 
 returns-3 : tie.Need-returns-3
 unfolding readHead
 returns-3 c =
-    let l = c .before .before in
-    (λ due d kind. rw (place (l .before .before .before), ← l .before .before .is-false .ensures, l .before .if2 .left, no-place {found = literal-at l} (l .literal .ensures) (c .enum-told .given .1)), omega arith)
+    let l = c .before .before in (
+      λ due d kind. rw (
+        place (l .before .before .before),
+        ← l .before .before .is-false .ensures,
+        l .before .if2 .left,
+        no-place {found = literal-at l} (l .literal .ensures) (c .enum-told .given .1),
+      ),
+      omega arith,
+    )
 
 cast-t13 : tie.Need-cast-t13
 cast-t13 c =
@@ -67,7 +76,12 @@ returns-4 : tie.Need-returns-4
 unfolding readHead
 returns-4 c =
     let l = c .before .before .before in (
-      λ due d kind. rw (place (l .before .before .before), ← l .before .before .is-false .ensures, l .before .if2 .left, at-place {found = literal-at l} (l .literal .ensures) (c .before .code .given .1)),
+      λ due d kind. rw (
+        place (l .before .before .before),
+        ← l .before .before .is-false .ensures,
+        l .before .if2 .left,
+        at-place {found = literal-at l} (l .literal .ensures) (c .before .code .given .1),
+      ),
       count-64 (l .before .before .before),
     )
 

@@ -19,7 +19,8 @@ decides : (c : tie.After-law-head) → let a = c .before .before .before .before
 decides c =
     let a = c .before .before .before .before .before .before in
     let r = a .args .state .draft in
-    rw (counted (r .run .laws) (r .run .count) (a .pre .held) (sound-64 (a .pre))) (c .law-head .ensures .0 (cond (a .args .short) byDue ifDue) (draftOf (a .args .text .now) r) (a .args .kind))
+    rw (counted (r .run .laws) (r .run .count) (a .pre .held) (sound-64 (a .pre)))
+    (c .law-head .ensures .0 (cond (a .args .short) byDue ifDue) (draftOf (a .args .text .now) r) (a .args .kind))
 
 enum-known-head-at : tie.Need-enum-known-head-at
 enum-known-head-at c = search needs
@@ -43,7 +44,9 @@ returns c =
     let h = c .before .before .before .before in
     let a = h .before .before .before .before .before .before .args in (
       c .refused .ensures .0 (a .text .now)
-          ∙ ap (begunWith (cond (a .short) byDue ifDue) (draftOf (a .text .now) (a .state .draft)) (a .kind)) (sym (c .before .before .head-at .given .1)) ∙ decides h,
+          ∙ ap (begunWith (cond (a .short) byDue ifDue) (draftOf (a .text .now) (a .state .draft)) (a .kind))
+          (sym (c .before .before .head-at .given .1))
+          ∙ decides h,
       c .refused .ensures .1,
     )
 
@@ -55,9 +58,23 @@ returns-2 c =
     let s = a .pre in
     let known = c .before .before .before .head-at2 .given .1 in
     let room = rw known at (h .law-head .ensures .1) in (
-      ap (λ w. next w (draftOf (a .args .text .now) (a .args .state .draft))) (c .before .list-due .ensures (c .new-law .result) ∙ ap (cond (a .args .short) byDue ifDue) (c .new-law .ensures))
-          ∙ ap (begunWith (cond (a .args .short) byDue ifDue) (draftOf (a .args .text .now) (a .args .state .draft)) (a .args .kind)) (sym known) ∙ decides h,
-      record { sound = record { time = s .time; few = s .few; declared = s .declared; actions = s .actions; room = room-any (dueOf (c .before .list-due .result) (c .new-law .result)) _ room; held = s .held }; follows = λ old f. f },
+      ap (λ w. next w (draftOf (a .args .text .now) (a .args .state .draft)))
+          (c .before .list-due .ensures (c .new-law .result) ∙ ap (cond (a .args .short) byDue ifDue) (c .new-law .ensures))
+          ∙ ap
+          (begunWith (cond (a .args .short) byDue ifDue) (draftOf (a .args .text .now) (a .args .state .draft)) (a .args .kind))
+          (sym known)
+          ∙ decides h,
+      record {
+        sound = record {
+          time = s .time;
+          few = s .few;
+          declared = s .declared;
+          actions = s .actions;
+          room = room-any (dueOf (c .before .list-due .result) (c .new-law .result)) _ room;
+          held = s .held;
+        };
+        follows = λ old f. f;
+      },
     )
 
 pub law-line-spec : {M : Type 1} → statement M

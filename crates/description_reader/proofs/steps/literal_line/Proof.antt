@@ -12,7 +12,8 @@ use Rattle.text.proofs.Spelling.{literal-small}
 use Rattle.line_values.specs.ShortLaws.{defaultLaw, inertialLaw}
 use Rattle.description_reader.specs.LineSteps.{Draft, roomFor}
 use Rattle.description_reader.specs.Internal.{draftOf}
-use Rattle.description_reader.proofs.Stepping.{room-here, room-64, refused-some, literal-unknown, literal-full, literal-room, literal-whole}
+use Rattle.description_reader.proofs.Stepping.{room-here, room-64, refused-some, literal-unknown, literal-full}
+use Rattle.description_reader.proofs.Stepping.{literal-room, literal-whole}
 use borrow.Author.Needs.{needs}
 use Rattle.description_reader.proofs.steps.literal_line.Statement.{statement}
 use Rattle.description_reader.proofs.steps.literal_line.Tie as tie
@@ -48,8 +49,10 @@ refusal-requires c κs = search needs
 
 refused-requires : tie.Need-refused-requires
 refused-requires c κs =
-    let h = c .before .before .before .before in
-    (refused-some (draft-at h) (start h .args .lent) (h .has-room .result) (room h) (c .refusal .result) (c .refusal .ensures), start h .pre)
+    let h = c .before .before .before .before in (
+      refused-some (draft-at h) (start h .args .lent) (h .has-room .result) (room h) (c .refusal .result) (c .refusal .ensures),
+      start h .pre,
+    )
 
 returns : tie.Need-returns
 returns c =
@@ -57,7 +60,8 @@ returns c =
     let h = l .before in
     let a = start h .args in (
       c .refused .ensures .0 (a .text .now)
-          ∙ literal-unknown (draft-at h) (a .lent) (h .has-room .result) (room h) (cond (a .inertial) inertialLaw defaultLaw) (a .value .now) _
+          ∙ literal-unknown (draft-at h) (a .lent) (h .has-room .result) (room h)
+          (cond (a .inertial) inertialLaw defaultLaw) (a .value .now) _
           (no-place {found = literal-at h} (l .literal .ensures) (c .before .before .enum-told .given .1)) (c .before .refusal .ensures),
       c .refused .ensures .1,
     )
@@ -73,7 +77,9 @@ returns-2 c =
     let h = c .before .before .before .before .before .before .before in
     let a = start h .args in (
       c .refused2 .ensures .0 (a .text .now)
-          ∙ literal-full (draft-at h) (a .lent) (h .has-room .result) (room h) (cond (a .inertial) inertialLaw defaultLaw) (a .value .now) _ (c .before .before .refusal2 .ensures) (c .before .if1 .taken),
+          ∙ literal-full (draft-at h) (a .lent) (h .has-room .result) (room h)
+          (cond (a .inertial) inertialLaw defaultLaw) (a .value .now) _ (c .before .before .refusal2 .ensures)
+          (c .before .if1 .taken),
       c .refused2 .ensures .1,
     )
 
@@ -82,7 +88,9 @@ cast-literal-law c =
     let l = c .before .before .before .before .before in
     let h = l .before in
     let a = start h in
-    let small = literal-small (spelled (a .args .text .now) (a .args .state .draft .names)) 0 (a .args .state .draft .fluents) (a .args .value .now) (omega (arith, a .pre .few)) in
+    let small =
+    literal-small (spelled (a .args .text .now) (a .args .state .draft .names)) 0 (a .args .state .draft .fluents)
+    (a .args .value .now) (omega (arith, a .pre .few)) in
     omega (arith, rw (at-place {found = literal-at h} (l .literal .ensures) (c .before .before .before .code .given .1)) at small)
 
 literal-law-requires : tie.Need-literal-law-requires
@@ -92,7 +100,8 @@ literal-law-requires c κs = search needs
 has : (c : tie.Else1) → let h = c .before .before .before .before .before .before in h .has-room .result ≡ true
 has c =
     let h = c .before .before .before .before .before .before in
-    literal-room (draft-at h) (start h .args .lent) (h .has-room .result) (room h) (c .before .refusal2 .result) (c .before .refusal2 .ensures) (c .if1 .left)
+    literal-room (draft-at h) (start h .args .lent) (h .has-room .result) (room h) (c .before .refusal2 .result)
+    (c .before .refusal2 .ensures) (c .if1 .left)
 
 whole-law-requires : tie.Need-whole-law-requires
 whole-law-requires c κs =
@@ -108,8 +117,10 @@ returns-3 c =
     let h = l .before in
     let a = start h .args in (
       c .whole-law .ensures .0 (a .text .now)
-          ∙ literal-whole (draft-at h) (a .lent) (h .has-room .result) (room h) (cond (a .inertial) inertialLaw defaultLaw) (a .value .now) _ _ (has e)
-          (at-place {found = literal-at h} (l .literal .ensures) (e .before .before .before .code .given .1)) (c .before .literal-law .ensures),
+          ∙ literal-whole (draft-at h) (a .lent) (h .has-room .result) (room h)
+          (cond (a .inertial) inertialLaw defaultLaw) (a .value .now) _ _ (has e)
+          (at-place {found = literal-at h} (l .literal .ensures) (e .before .before .before .code .given .1))
+          (c .before .literal-law .ensures),
       c .whole-law .ensures .1,
     )
 

@@ -29,8 +29,10 @@ refused-requires c κs = search needs
 
 returns : tie.Need-returns
 returns c =
-    let p = c .before .before in
-    (rw (← p .has-place .ensures, not-true (p .has-place .result) (c .before .if1 .taken)) (c .refused .ensures .0 _), c .refused .ensures .1)
+    let p = c .before .before in (
+      rw (← p .has-place .ensures, not-true (p .has-place .result) (c .before .if1 .taken)) (c .refused .ensures .0 _),
+      c .refused .ensures .1,
+    )
 
 is-new-requires : tie.Need-is-new-requires
 is-new-requires c κs = search needs
@@ -40,8 +42,10 @@ refused-requires-2 c κs = search needs
 
 returns-2 : tie.Need-returns-2
 returns-2 c =
-    let n = c .before .before in
-    (rw (place (n .before), ← n .is-new .ensures, not-true (n .is-new .result) (c .before .if2 .taken)) (c .refused2 .ensures .0 _), c .refused2 .ensures .1)
+    let n = c .before .before in (
+      rw (place (n .before), ← n .is-new .ensures, not-true (n .is-new .result) (c .before .if2 .taken)) (c .refused2 .ensures .0 _),
+      c .refused2 .ensures .1,
+    )
 
 with-name-requires : tie.Need-with-name-requires
 with-name-requires c κs =
@@ -61,8 +65,26 @@ returns-3 c =
     let s = a .pre .1 in
     let fluent = not-true (a .args .action) (c .before .if3 .taken) in
     let left = ltb-true (a .args .state .draft .fluents) 24 (rw fluent at (place (n .before))) in (
-      rw (place (n .before), ← n .is-new .ensures, not-false (n .is-new .result) (w .before .if2 .left), w .with-name .ensures .1 _, ← a .pre .0, fluent, add-one),
-      record { sound = record { time = s .time; few = omega arith; declared = omega (arith, w .with-name .ensures .0, s .declared); actions = omega (arith, w .with-name .ensures .0, s .actions); room = sound-64 s; held = s .held }; follows = λ old f. f },
+      rw (
+        place (n .before),
+        ← n .is-new .ensures,
+        not-false (n .is-new .result) (w .before .if2 .left),
+        w .with-name .ensures .1 _,
+        ← a .pre .0,
+        fluent,
+        add-one,
+      ),
+      record {
+        sound = record {
+          time = s .time;
+          few = omega arith;
+          declared = omega (arith, w .with-name .ensures .0, s .declared);
+          actions = omega (arith, w .with-name .ensures .0, s .actions);
+          room = sound-64 s;
+          held = s .held;
+        };
+        follows = λ old f. f;
+      },
     )
 
 returns-4 : tie.Need-returns-4
@@ -74,8 +96,25 @@ returns-4 c =
     let s = a .pre .1 in
     let action = not-false (a .args .action) (c .if3 .left) in
     let left = ltb-true (a .args .state .draft .names .count) (a .args .state .draft .fluents + 8) (rw action at (place (n .before))) in (
-      rw (place (n .before), ← n .is-new .ensures, not-false (n .is-new .result) (w .before .if2 .left), w .with-name .ensures .1 _, ← a .pre .0, action),
-      record { sound = record { time = s .time; few = s .few; declared = omega (arith, w .with-name .ensures .0, s .declared); actions = omega (arith, w .with-name .ensures .0); room = sound-64 s; held = s .held }; follows = λ old f. f },
+      rw (
+        place (n .before),
+        ← n .is-new .ensures,
+        not-false (n .is-new .result) (w .before .if2 .left),
+        w .with-name .ensures .1 _,
+        ← a .pre .0,
+        action,
+      ),
+      record {
+        sound = record {
+          time = s .time;
+          few = s .few;
+          declared = omega (arith, w .with-name .ensures .0, s .declared);
+          actions = omega (arith, w .with-name .ensures .0);
+          room = sound-64 s;
+          held = s .held;
+        };
+        follows = λ old f. f;
+      },
     )
 
 pub name-line-spec : {M : Type 1} → statement M

@@ -21,7 +21,8 @@ has-room-requires : tie.Need-has-room-requires
 has-room-requires c κs = search needs
 
 -- the test is the draft's
-room : (c : tie.After-has-room) (text : List ℕ) → let a = c .before .before .before .args in c .has-room .result ≡ roomFor (a .lent) (draftOf text (a .state .draft))
+room : (c : tie.After-has-room) (text : List ℕ)
+    → let a = c .before .before .before .args in c .has-room .result ≡ roomFor (a .lent) (draftOf text (a .state .draft))
 room c text = let a = c .before .before .before in c .has-room .ensures ∙ room-here text (a .args .lent) (a .args .state .draft) (a .pre .0)
 
 refused-requires : tie.Need-refused-requires
@@ -31,7 +32,9 @@ returns : tie.Need-returns
 returns c =
     let h = c .before .before in
     let a = h .before .before .before .args in (
-      λ text. c .refused .ensures .0 text ∙ list-full (draftOf text (a .state .draft)) (a .lent) (h .has-room .result) (room h text) (codes (take (a .list .count) (a .list .codes))) (not-true (h .has-room .result) (c .before .if1 .taken)),
+      λ text. c .refused .ensures .0 text
+          ∙ list-full (draftOf text (a .state .draft)) (a .lent) (h .has-room .result) (room h text)
+          (codes (take (a .list .count) (a .list .codes))) (not-true (h .has-room .result) (c .before .if1 .taken)),
       c .refused .ensures .1,
     )
 
@@ -57,7 +60,8 @@ returns-2 c =
     let h = e .before in
     let a = h .before .before .before in (
       λ text. c .whole-law .ensures .0 text
-          ∙ list-whole (draftOf text (a .args .state .draft)) (a .args .lent) (h .has-room .result) (room h text) (take (a .args .list .count) (a .args .list .codes)) _ (has e)
+          ∙ list-whole (draftOf text (a .args .state .draft)) (a .args .lent) (h .has-room .result) (room h text)
+          (take (a .args .list .count) (a .args .list .codes)) _ (has e)
           (c .before .nonexecutable-law .ensures ∙ ap (lawWith Dynamic False noPlaces) (c .before .before .places .ensures)),
       c .whole-law .ensures .1,
     )

@@ -17,24 +17,36 @@ name-line-requires : tie.Need-name-line-requires
 name-line-requires c κs = search needs
 
 returns-2 : tie.Need-returns-2
-returns-2 c =
-    (rw (ne-eqb _ _ (c .before .before .if1 .left), eq-eqb _ _ (c .before .if2 .taken)) (c .name-line .ensures .0), c .name-line .ensures .1)
+returns-2 c = (
+  rw (ne-eqb _ _ (c .before .before .if1 .left), eq-eqb _ _ (c .before .if2 .taken)) (c .name-line .ensures .0),
+  c .name-line .ensures .1,
+)
 
 name-line-requires-2 : tie.Need-name-line-requires-2
 name-line-requires-2 c κs = search needs
 
 returns-3 : tie.Need-returns-3
 returns-3 c =
-    let d = c .before .before in
-    (rw (ne-eqb _ _ (d .before .if1 .left), ne-eqb _ _ (d .if2 .left), eq-eqb _ _ (c .before .if3 .taken), spelled-length) (c .name-line2 .ensures .0), c .name-line2 .ensures .1)
+    let d = c .before .before in (
+      rw (ne-eqb _ _ (d .before .if1 .left), ne-eqb _ _ (d .if2 .left), eq-eqb _ _ (c .before .if3 .taken), spelled-length)
+          (c .name-line2 .ensures .0),
+      c .name-line2 .ensures .1,
+    )
 
 law-line-requires : tie.Need-law-line-requires
 law-line-requires c κs = search needs
 
 returns-4 : tie.Need-returns-4
 returns-4 c =
-    let d = c .before .before .before in
-    (rw (ne-eqb _ _ (d .before .if1 .left), ne-eqb _ _ (d .if2 .left), ne-eqb _ _ (c .before .before .if3 .left), eq-eqb _ _ (c .before .if4 .taken)) (c .law-line .ensures .0), c .law-line .ensures .1)
+    let d = c .before .before .before in (
+      rw (
+        ne-eqb _ _ (d .before .if1 .left),
+        ne-eqb _ _ (d .if2 .left),
+        ne-eqb _ _ (c .before .before .if3 .left),
+        eq-eqb _ _ (c .before .if4 .taken),
+      ) (c .law-line .ensures .0),
+      c .law-line .ensures .1,
+    )
 
 law-line-requires-2 : tie.Need-law-line-requires-2
 law-line-requires-2 c κs = search needs
@@ -42,8 +54,16 @@ law-line-requires-2 c κs = search needs
 returns-5 : tie.Need-returns-5
 returns-5 c =
     let e = c .before .before in
-    let d = e .before .before in
-    (rw (ne-eqb _ _ (d .before .if1 .left), ne-eqb _ _ (d .if2 .left), ne-eqb _ _ (e .before .if3 .left), ne-eqb _ _ (e .if4 .left), eq-eqb _ _ (c .before .if5 .taken)) (c .law-line2 .ensures .0), c .law-line2 .ensures .1)
+    let d = e .before .before in (
+      rw (
+        ne-eqb _ _ (d .before .if1 .left),
+        ne-eqb _ _ (d .if2 .left),
+        ne-eqb _ _ (e .before .if3 .left),
+        ne-eqb _ _ (e .if4 .left),
+        eq-eqb _ _ (c .before .if5 .taken),
+      ) (c .law-line2 .ensures .0),
+      c .law-line2 .ensures .1,
+    )
 
 short-line-requires : tie.Need-short-line-requires
 short-line-requires c κs = search needs
@@ -51,8 +71,16 @@ short-line-requires c κs = search needs
 returns-6 : tie.Need-returns-6
 returns-6 c =
     let e = c .before .before in
-    let d = e .before .before in
-    (rw (ne-eqb _ _ (d .before .if1 .left), ne-eqb _ _ (d .if2 .left), ne-eqb _ _ (e .before .if3 .left), ne-eqb _ _ (e .if4 .left), ne-eqb _ _ (c .before .if5 .left)) (c .short-line .ensures .0), c .short-line .ensures .1)
+    let d = e .before .before in (
+      rw (
+        ne-eqb _ _ (d .before .if1 .left),
+        ne-eqb _ _ (d .if2 .left),
+        ne-eqb _ _ (e .before .if3 .left),
+        ne-eqb _ _ (e .if4 .left),
+        ne-eqb _ _ (c .before .if5 .left),
+      ) (c .short-line .ensures .0),
+      c .short-line .ensures .1,
+    )
 
 pub other-line-spec : {M : Type 1} → statement M
 other-line-spec =

@@ -16,7 +16,10 @@ unfolding stepOf
 returns c =
     let a = c .before .before in (
       λ text. ap (next lawDue) (c .with-law .ensures .0 text),
-      record { sound = pushed-sound (a .args .state .draft) _ (a .pre .1) (a .pre .0) (c .with-law .ensures .1); follows = c .with-law .ensures .1 .follows },
+      record {
+        sound = pushed-sound (a .args .state .draft) _ (a .pre .1) (a .pre .0) (c .with-law .ensures .1);
+        follows = c .with-law .ensures .1 .follows;
+      },
     )
 
 pub whole-law-spec : {M : Type 1} → statement M

@@ -26,7 +26,14 @@ returns c =
     let r = a .args .draft .run in
     let inside : r .count < length (r .laws) = omega arith in (
       λ text. rw (add-one (r .count), take-suc-set (r .laws) (r .count) (a .args .law) inside),
-      record { horizon = refl; fluents = refl; names = refl; count = refl; held = length-set (r .laws) (r .count) (a .args .law) ∙ a .pre .1; follows = pushed-follows r (a .args .law) },
+      record {
+        horizon = refl;
+        fluents = refl;
+        names = refl;
+        count = refl;
+        held = length-set (r .laws) (r .count) (a .args .law) ∙ a .pre .1;
+        follows = pushed-follows r (a .args .law);
+      },
     )
 
 pub with-law-spec : {M : Type 1} → statement M

@@ -13,7 +13,8 @@ use Rattle.history_reader.proofs.histories.copy_out.Tie as tie
 
 abbrev Inv-loop : tie.InvT-loop
 Inv-loop values₀ found i₀ values i =
-    (i ≤ length values₀) × (length values ≡ length values₀) × (length values₀ ≤ 1024) × (length found ≡ 1024) × (values ≡ take i found ++ drop i values₀)
+    (i ≤ length values₀) × (length values ≡ length values₀) × (length values₀ ≤ 1024) × (length found ≡ 1024)
+    × (values ≡ take i found ++ drop i values₀)
 
 abbrev μ-loop : tie.MeasureT-loop
 μ-loop values₀ found i₀ values i = length values₀ - i

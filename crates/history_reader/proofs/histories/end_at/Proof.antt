@@ -23,7 +23,8 @@ returns c =
     let l = c .before .before in
     let a = l .before .before .args in
     let r = l .line-at .result in
-    λ vs. end-other (a .line) vs (r .key) (take (r .to - r .from) (drop (r .from) (a .text .now))) (drop (r .next) (a .text .now)) (c .if1 .taken)
+    λ vs. end-other (a .line) vs (r .key) (take (r .to - r .from) (drop (r .from) (a .text .now)))
+    (drop (r .next) (a .text .now)) (c .if1 .taken)
     ∙ ap (λ o. historyEnd o (a .line) vs) (l .line-at .ensures .0)
 
 returns-2 : tie.Need-returns-2
@@ -34,7 +35,13 @@ returns-2 c =
     let r = l .line-at .result in
     let value = take (r .to - r .from) (drop (r .from) (a .text .now)) in
     let rest = drop (r .next) (a .text .now) in
-    let long : 0 < length value = omega (arith, length-take (r .to - r .from) (drop (r .from) (a .text .now)), length-drop (r .from) (a .text .now), l .line-at .ensures .1 .inside) in
+    let long : 0 < length value =
+    omega (
+      arith,
+      length-take (r .to - r .from) (drop (r .from) (a .text .now)),
+      length-drop (r .from) (a .text .now),
+      l .line-at .ensures .1 .inside,
+    ) in
     λ vs. end-valued (a .line) vs value rest long
     ∙ ap (λ k. historyEnd (keyed (keyIn k) value rest) (a .line) vs) (sym (c .before .before .if1 .left))
     ∙ ap (λ o. historyEnd o (a .line) vs) (l .line-at .ensures .0)

@@ -13,7 +13,10 @@ sub-base c = search needs
 mul-base : tie.Need-mul-base
 mul-base c =
     let a = c .before .before in
-    omega (arith, base-bound (a .args .draft .names .count) (a .args .line) 50 (omega arith) (omega (arith, a .pre .0 .few, a .pre .0 .actions)))
+    omega (
+      arith,
+      base-bound (a .args .draft .names .count) (a .args .line) 50 (omega arith) (omega (arith, a .pre .0 .few, a .pre .0 .actions)),
+    )
 
 returns : tie.Need-returns
 returns c = rw (eq-eqb _ _ (c .if1 .taken))

@@ -18,7 +18,8 @@ use Rattle.text.specs.Internal.{spelled, itemAt}
 use Rattle.description_reader.specs.Internal.{draftOf}
 use Rattle.history_reader.specs.Internal.{recordFrom, leftOf}
 use Rattle.text.proofs.Items.{next-later}
-use Rattle.history_reader.proofs.Recording.{Marked, marked-none, marked-one, line-wrong, line-read, line-refused, place-bound, record-starts, left-done}
+use Rattle.history_reader.proofs.Recording.{Marked, marked-none, marked-one, line-wrong, line-read, line-refused}
+use Rattle.history_reader.proofs.Recording.{place-bound, record-starts, left-done}
 use Rattle.history_reader.proofs.histories.read_lines.Statement.{statement}
 use Rattle.history_reader.proofs.histories.read_lines.Tie as tie
 
@@ -31,7 +32,10 @@ abbrev μ-loop : tie.MeasureT-loop
 
 abbrev Inv-lines : tie.InvT-lines
 Inv-lines description text draft names last values₀ refused₀ at₀ line₀ values refused at line =
-    (refused ≡ 0) × (1 ≤ line) × (line ≤ last + 1) × (at ≤ length text) × ((n : ℕ) → n ≤ 1024 → recordFrom (last + 1 - line) (draftOf description draft) line (take n values) (drop at text) ≡ statesFrom (draft .horizon) (draftOf description draft) 0 1 (replicate n 0) text)
+    (refused ≡ 0) × (1 ≤ line) × (line ≤ last + 1) × (at ≤ length text)
+    × ((n : ℕ) → n ≤ 1024
+    → recordFrom (last + 1 - line) (draftOf description draft) line (take n values) (drop at text)
+    ≡ statesFrom (draft .horizon) (draftOf description draft) 0 1 (replicate n 0) text)
 
 abbrev μ-lines : tie.MeasureT-lines
 μ-lines description text draft names last values₀ refused₀ at₀ line₀ values refused at line = last + 1 - line
@@ -47,8 +51,14 @@ no-values-requires c κs = tt
 
 lines-holds : tie.Need-lines-holds Inv-loop μ-loop Inv-lines μ-lines
 lines-holds c =
-    let a = c .before .before .before .before .before in
-    (refl, omega arith, omega arith, omega arith, λ n h. record-starts (a .args .draft .horizon) (draftOf (a .args .description .now) (a .args .draft)) n (a .args .text .now) _ (c .no-values .ensures) h)
+    let a = c .before .before .before .before .before in (
+      refl,
+      omega arith,
+      omega arith,
+      omega arith,
+      λ n h. record-starts (a .args .draft .horizon) (draftOf (a .args .description .now) (a .args .draft)) n
+          (a .args .text .now) _ (c .no-values .ensures) h,
+    )
 
 line-at-requires : tie.Need-line-at-requires Inv-loop μ-loop Inv-lines μ-lines
 line-at-requires c κs = tt
@@ -73,7 +83,12 @@ first-place-requires c κs =
     let l = c .before .before .before .before .before in
     let a = l .before .before .before .before .before .before .before .before in
     let r = l .line-at .result in
-    omega (arith, a .pre .0, length-take (r .to - r .from) (drop (r .from) (a .args .text .now)), length-drop (r .from) (a .args .text .now))
+    omega (
+      arith,
+      a .pre .0,
+      length-take (r .to - r .from) (drop (r .from) (a .args .text .now)),
+      length-drop (r .from) (a .args .text .now),
+    )
 
 loop-holds : tie.Need-loop-holds Inv-loop μ-loop Inv-lines μ-lines
 loop-holds c =
@@ -100,7 +115,12 @@ list-at h = take (line-at h .to - line-at h .from) (drop (line-at h .from) (entr
 short : (h : tie.At-loop Inv-loop μ-loop Inv-lines μ-lines) → length (list-at h) ≤ 65535
 short h =
     let text = entry (start-at h) .args .text .now in
-    omega (arith, entry (start-at h) .pre .0, length-take (line-at h .to - line-at h .from) (drop (line-at h .from) text), length-drop (line-at h .from) text)
+    omega (
+      arith,
+      entry (start-at h) .pre .0,
+      length-take (line-at h .to - line-at h .from) (drop (line-at h .from) text),
+      length-drop (line-at h .from) text,
+    )
 
 -- what the definition says of the item
 abbrev item-at : tie.At-loop Inv-loop μ-loop Inv-lines μ-lines → Option ℕ
@@ -133,18 +153,24 @@ loop-again c =
     let t = i .before .loop-test .taken in (
       h .loop .inv .0,
       omega (arith, i .next-item .ensures .1, next-later (list-at h) (h .loop .i) t),
-      marked-one _ _ (list-at h) _ (h .loop .i) _ (h .loop .values) (h .loop .inv .2) t (short h) _ _ (at-place {found = item-at h} (i .next-item .ensures .0) (c .before .before .code .given .1)) (i .next-item .ensures .1) _ (c .with-code .ensures),
+      marked-one _ _ (list-at h) _ (h .loop .i) _ (h .loop .values) (h .loop .inv .2) t (short h) _ _
+          (at-place {found = item-at h} (i .next-item .ensures .0) (c .before .before .code .given .1))
+          (i .next-item .ensures .1) _ (c .with-code .ensures),
     )
 
 -- the lines left at the start of the line, one of them this one
 one-left : (n : tie.At-lines Inv-loop μ-loop Inv-lines μ-lines) → let a = entry n .args in let last = 2 * a .draft .horizon + 1 in
     n .lines .line ≤ last → (k : ℕ) → k ≤ 1024
-    → recordFrom (suc (last + 1 - suc (n .lines .line))) (draftOf (a .description .now) (a .draft)) (n .lines .line) (take k (n .lines .values)) (drop (n .lines .at) (a .text .now))
+    → recordFrom (suc (last + 1 - suc (n .lines .line))) (draftOf (a .description .now) (a .draft)) (n .lines .line)
+    (take k (n .lines .values)) (drop (n .lines .at) (a .text .now))
     ≡ statesFrom (a .draft .horizon) (draftOf (a .description .now) (a .draft)) 0 1 (replicate k 0) (a .text .now)
 one-left n more k few =
     let a = entry n .args in
-    let e : suc (2 * a .draft .horizon + 1 + 1 - suc (n .lines .line)) ≡ 2 * a .draft .horizon + 1 + 1 - n .lines .line = omega (arith, more) in
-    ap (λ m. recordFrom m (draftOf (a .description .now) (a .draft)) (n .lines .line) (take k (n .lines .values)) (drop (n .lines .at) (a .text .now))) e ∙ n .lines .inv .4 k few
+    let e : suc (2 * a .draft .horizon + 1 + 1 - suc (n .lines .line))
+    ≡ 2 * a .draft .horizon + 1 + 1 - n .lines .line = omega (arith, more) in
+    ap (λ m. recordFrom m (draftOf (a .description .now) (a .draft)) (n .lines .line) (take k (n .lines .values))
+    (drop (n .lines .at) (a .text .now))) e
+    ∙ n .lines .inv .4 k few
 
 fill-absent-requires : tie.Need-fill-absent-requires Inv-loop μ-loop Inv-lines μ-lines
 fill-absent-requires c κs = search needs
@@ -172,9 +198,15 @@ lines-again c =
       omega arith,
       omega (arith, t),
       l .line-at .ensures .1 .within,
-      λ k few. ap (λ q. recordFrom (2 * a .draft .horizon + 1 + 1 - q) (draftOf (a .description .now) (a .draft)) q (take k full) (drop (line-at h .next) (a .text .now))) (add-one (n .lines .line))
-          ∙ sym (line-read (a .description .now) (a .text .now) (a .draft) (2 * a .draft .horizon + 1 + 1 - suc (n .lines .line)) (n .lines .line) (n .lines .at) (n .lines .values) (line-at h) (l .line-at .ensures .0) (due-at h)
-          (h .before .before .before .before .before .before .line-due .ensures) (h .before .before .before .if1 .left) _ (h .loop .i) (h .loop .values) (h .before .first-place .ensures) (h .loop .inv .2) (c .before .loop-test .left)
+      λ k few. ap (λ q. recordFrom (2 * a .draft .horizon + 1 + 1 - q) (draftOf (a .description .now) (a .draft)) q
+          (take k full) (drop (line-at h .next) (a .text .now)))
+          (add-one (n .lines .line))
+          ∙ sym (line-read (a .description .now) (a .text .now) (a .draft)
+          (2 * a .draft .horizon + 1 + 1 - suc (n .lines .line)) (n .lines .line) (n .lines .at) (n .lines .values)
+          (line-at h) (l .line-at .ensures .0) (due-at h)
+          (h .before .before .before .before .before .before .line-due .ensures) (h .before .before .before .if1 .left)
+          _ (h .loop .i) (h .loop .values) (h .before .first-place .ensures) (h .loop .inv .2)
+          (c .before .loop-test .left)
           full (c .fill-absent .ensures) k)
           ∙ one-left n t k few,
     )
@@ -185,7 +217,9 @@ returns c =
     let a = entry n .args in
     let zero-left : 2 * a .draft .horizon + 1 + 1 - n .lines .line ≡ 0 = omega (arith, c .lines-test .left) in (
       λ k few. left-done (a .text .now) k _ (draftOf (a .description .now) (a .draft)) (n .lines .inv .0)
-          ∙ ap (λ m. recordFrom m (draftOf (a .description .now) (a .draft)) (n .lines .line) (take k (n .lines .values)) (drop (n .lines .at) (a .text .now))) (sym zero-left)
+          ∙ ap (λ m. recordFrom m (draftOf (a .description .now) (a .draft)) (n .lines .line)
+          (take k (n .lines .values)) (drop (n .lines .at) (a .text .now)))
+          (sym zero-left)
           ∙ n .lines .inv .4 k few,
       record { within = n .lines .inv .3; few = omega (arith, n .lines .inv .2, entry n .pre .1 .time) },
     )
@@ -197,7 +231,9 @@ returns-2 c =
     let n = l .before .before in
     let a = entry n .args in
     let t = l .before .lines-test .taken in (
-      λ k few. sym (line-wrong (a .description .now) (a .text .now) (a .draft) (2 * a .draft .horizon + 1 + 1 - suc (n .lines .line)) (n .lines .line) (n .lines .at) (n .lines .values) (l .line-at .result) (l .line-at .ensures .0) (c .before .before .before .line-due .result)
+      λ k few. sym (line-wrong (a .description .now) (a .text .now) (a .draft)
+          (2 * a .draft .horizon + 1 + 1 - suc (n .lines .line)) (n .lines .line) (n .lines .at) (n .lines .values)
+          (l .line-at .result) (l .line-at .ensures .0) (c .before .before .before .line-due .result)
           (c .before .before .before .line-due .ensures) (c .if1 .taken) k)
           ∙ one-left n t k few,
       record { within = n .lines .inv .3; few = omega (arith, t, entry n .pre .1 .time) },
@@ -212,8 +248,11 @@ returns-3 c =
     let n = start-at h in
     let a = entry n .args in
     let t = l .before .lines-test .taken in (
-      λ k few. sym (line-refused (a .description .now) (a .text .now) (a .draft) (2 * a .draft .horizon + 1 + 1 - suc (n .lines .line)) (n .lines .line) (n .lines .at) (n .lines .values) (line-at h) (l .line-at .ensures .0) (due-at h)
-          (h .before .before .before .before .before .before .line-due .ensures) (h .before .before .before .if1 .left) _ (h .loop .i) (h .loop .values) (h .before .first-place .ensures) (h .loop .inv .2)
+      λ k few. sym (line-refused (a .description .now) (a .text .now) (a .draft)
+          (2 * a .draft .horizon + 1 + 1 - suc (n .lines .line)) (n .lines .line) (n .lines .at) (n .lines .values)
+          (line-at h) (l .line-at .ensures .0) (due-at h)
+          (h .before .before .before .before .before .before .line-due .ensures) (h .before .before .before .if1 .left)
+          _ (h .loop .i) (h .loop .values) (h .before .first-place .ensures) (h .loop .inv .2)
           (i .before .loop-test .taken) (short h) (no-place {found = item-at h} (i .next-item .ensures .0) (c .enum-told .given .1)) k)
           ∙ one-left n t k few,
       record { within = n .lines .inv .3; few = omega (arith, t, entry n .pre .1 .time) },

@@ -27,7 +27,12 @@ in-horizon-requires c κs = search needs
 returns-2 : tie.Need-returns-2
 returns-2 c =
     let d = c .before .before .before in
-    rw (horizon-one _ (d .before .before .if1 .taken), ← d .is-digit .ensures, not-false (d .is-digit .result) (c .before .before .if2 .left), ← c .before .digit .ensures .0) (c .in-horizon .ensures)
+    rw (
+      horizon-one _ (d .before .before .if1 .taken),
+      ← d .is-digit .ensures,
+      not-false (d .is-digit .result) (c .before .before .if2 .left),
+      ← c .before .digit .ensures .0,
+    ) (c .in-horizon .ensures)
 
 shared-slice-read-two-digits : tie.Need-shared-slice-read-two-digits
 shared-slice-read-two-digits c = search needs

@@ -15,7 +15,8 @@ use Rattle.rule_tables.proofs.marks.all_are.Statement.{statement}
 use Rattle.rule_tables.proofs.marks.all_are.Tie as tie
 
 abbrev Inv-loop : tie.InvT-loop
-Inv-loop parts marks want i₀ i = (i ≤ length parts) × (all (λ c. is want (marked marks c)) (drop i parts) ≡ all (λ c. is want (marked marks c)) parts)
+Inv-loop parts marks want i₀ i =
+    (i ≤ length parts) × (all (λ c. is want (marked marks c)) (drop i parts) ≡ all (λ c. is want (marked marks c)) parts)
 
 abbrev μ-loop : tie.MeasureT-loop
 μ-loop parts marks want i₀ i = length parts - i
@@ -50,8 +51,10 @@ loop-less c = omega arith
 loop-again : tie.Need-loop-again Inv-loop μ-loop
 loop-again c =
     let c3 = c .before .before .before in
-    let c4 = c3 .before in
-    (omega arith, all-go _ _ (c4 .loop .i) 0 (c3 .loop-test .taken) (c4 .loop .inv .1) (differs _ _ _ false (c .before .has .ensures) (c .if1 .left)))
+    let c4 = c3 .before in (
+      omega arith,
+      all-go _ _ (c4 .loop .i) 0 (c3 .loop-test .taken) (c4 .loop .inv .1) (differs _ _ _ false (c .before .has .ensures) (c .if1 .left)),
+    )
 
 returns-2 : tie.Need-returns-2 Inv-loop μ-loop
 returns-2 c = all-done {A = ℕ} _ _ (c .before .loop .i) 0 (c .loop-test .left) (c .before .loop .inv .1)

@@ -11,7 +11,8 @@ use Rattle.rule_tables.proofs.table.bad_rule.Statement.{statement}
 use Rattle.rule_tables.proofs.table.bad_rule.Tie as tie
 
 abbrev Inv-loop : tie.InvT-loop
-Inv-loop table atoms rest₀ at₀ rules₀ rest at rules = (at + length rest ≡ length table) × (rules ≤ at) × (badRuleFrom atoms rules at rest ≡ badRule atoms table)
+Inv-loop table atoms rest₀ at₀ rules₀ rest at rules =
+    (at + length rest ≡ length table) × (rules ≤ at) × (badRuleFrom atoms rules at rest ≡ badRule atoms table)
 
 abbrev μ-loop : tie.MeasureT-loop
 μ-loop table atoms rest₀ at₀ rules₀ rest at rules = length rest
@@ -20,7 +21,8 @@ loop-holds : tie.Need-loop-holds Inv-loop μ-loop
 loop-holds c = (omega arith, omega arith, sym (badRule-from _ _))
 
 returns : tie.Need-returns Inv-loop μ-loop
-returns c = bad-many _ _ _ (c .before .before .loop .rest .now) (c .before .loop-test .taken) (c .before .before .loop .inv .2) (c .if1 .taken)
+returns c =
+    bad-many _ _ _ (c .before .before .loop .rest .now) (c .before .loop-test .taken) (c .before .before .loop .inv .2) (c .if1 .taken)
 
 rule-fits-requires : tie.Need-rule-fits-requires Inv-loop μ-loop
 rule-fits-requires c κs = tt

@@ -44,7 +44,8 @@ returns-3 c =
     let w = h .before in
     let s = w .before .before in
     let a = s .before .before .args in
-    fits-parts (a .atoms) (a .rest .now) _ _ _ (s .rule-size .ensures) (omega arith) (rw (w .word .ensures .0) at (h .head-fits .ensures)) (i .if2 .left)
+    fits-parts (a .atoms) (a .rest .now) _ _ _ (s .rule-size .ensures) (omega arith)
+    (rw (w .word .ensures .0) at (h .head-fits .ensures)) (i .if2 .left)
     (c .parts-fit .ensures)
 
 pub rule-fits-spec : {M : Type 1} → statement M

@@ -1,6 +1,5 @@
 -- `negated_count` meets its contract.
 -- Assumes nothing.
-use mathlib.Core.Path.{_≡_}
 use borrow.Author.Needs.{needs}
 use Rattle.rule_words.proofs.lists.negated_count.Statement.{statement}
 use Rattle.rule_words.proofs.lists.negated_count.Tie as tie

@@ -12,7 +12,8 @@ use Rattle.description_reader.specs.Descriptions.{read, described}
 use Rattle.description_reader.specs.Internal.{draftOf}
 use Rattle.description_reader.specs.declared.descriptions.Ending.{Ending}
 use Rattle.description_reader.proofs.Answering.{ends-refused, ends-read}
-use Rattle.shown_names.proofs.Showing.{part-refused, part-no-action, part-action, part-no-fluent, part-fluent, value-shown, shown-part}
+use Rattle.shown_names.proofs.Showing.{part-refused, part-no-action, part-action, part-no-fluent, part-fluent}
+use Rattle.shown_names.proofs.Showing.{value-shown, shown-part}
 use borrow.Author.Needs.{needs}
 use Rattle.shown_names.proofs.shown.name.Statement.{statement}
 use Rattle.shown_names.proofs.shown.name.Tie as tie
@@ -32,7 +33,8 @@ rest-at n = drop (end-at n .at) (text-at n)
 
 is-read : (n : tie.After-names) → described 64 (text-at n) ≡ answered (read (draft-at n) (rest-at n) (end-at n .line))
 is-read n =
-    sym (n .before .before .before .before .before .read-alone .ensures .0) ∙ ends-read (text-at n) (end-at n) (n .before .before .if1 .left)
+    sym (n .before .before .before .before .before .read-alone .ensures .0)
+    ∙ ends-read (text-at n) (end-at n) (n .before .before .if1 .left)
 
 -- how many names there are
 counted : (n : tie.After-names) → length (draft-at n .names) ≡ end-at n .state .draft .names .count
@@ -78,7 +80,8 @@ returns-3 c =
     let r = n .before .before .before .before .before in
     let a = r .before .before .args in
     shown-part (a .text) (c .no-part3 .result) (a .action) (a .number) _ (is-read n) [] 0
-    (part-no-action (text-at n) (a .action) (draft-at n) (rest-at n) (end-at n .line) (a .number) (c .before .before .before .before .before .if2 .taken)
+    (part-no-action (text-at n) (a .action) (draft-at n) (rest-at n) (end-at n .line) (a .number)
+    (c .before .before .before .before .before .if2 .taken)
     (omega (arith, counted n, c .before .if4 .taken)))
     (c .no-part3 .ensures)
 
@@ -96,8 +99,10 @@ returns-4 c =
     let i = end-at n .state .draft .fluents + a .number in
     let below : i < length (draft-at n .names) = omega (arith, counted n, c .before .if4 .left) in
     shown-part (a .text) (c .value-of-line .result) (a .action) (a .number) _ (is-read n) (getD (draft-at n .names) i []) _
-    (part-action (text-at n) (a .action) (draft-at n) (rest-at n) (end-at n .line) (a .number) (c .before .before .before .before .before .if2 .taken) below)
-    (value-shown (a .text) (c .value-of-line .result) (draft-at n) (rest-at n) (end-at n .line) (is-read n) i below (c .value-of-line .ensures))
+    (part-action (text-at n) (a .action) (draft-at n) (rest-at n) (end-at n .line) (a .number)
+    (c .before .before .before .before .before .if2 .taken) below)
+    (value-shown (a .text) (c .value-of-line .result) (draft-at n) (rest-at n) (end-at n .line) (is-read n) i below
+    (c .value-of-line .ensures))
 
 no-part-requires-4 : tie.Need-no-part-requires-4
 no-part-requires-4 c κs = tt
@@ -108,7 +113,8 @@ returns-5 c =
     let r = n .before .before .before .before .before in
     let a = r .before .before .args in
     shown-part (a .text) (c .no-part4 .result) (a .action) (a .number) _ (is-read n) [] 0
-    (part-no-fluent (text-at n) (a .action) (draft-at n) (rest-at n) (end-at n .line) (a .number) (c .before .before .before .if2 .left) (c .before .if5 .taken))
+    (part-no-fluent (text-at n) (a .action) (draft-at n) (rest-at n) (end-at n .line) (a .number)
+    (c .before .before .before .if2 .left) (c .before .if5 .taken))
     (c .no-part4 .ensures)
 
 add-value-of-line-2 : tie.Need-add-value-of-line-2
@@ -124,10 +130,13 @@ returns-6 c =
     let n = c .before .before .before .before in
     let r = n .before .before .before .before .before in
     let a = r .before .before .args in
-    let below : a .number < length (draft-at n .names) = omega (arith, counted n, r .read-alone .ensures .1 .declared, c .before .if5 .left) in
+    let below : a .number < length (draft-at n .names) =
+    omega (arith, counted n, r .read-alone .ensures .1 .declared, c .before .if5 .left) in
     shown-part (a .text) (c .value-of-line2 .result) (a .action) (a .number) _ (is-read n) (getD (draft-at n .names) (a .number) []) _
-    (part-fluent (text-at n) (a .action) (draft-at n) (rest-at n) (end-at n .line) (a .number) (c .before .before .before .if2 .left) (c .before .if5 .left))
-    (value-shown (a .text) (c .value-of-line2 .result) (draft-at n) (rest-at n) (end-at n .line) (is-read n) (a .number) below (c .value-of-line2 .ensures))
+    (part-fluent (text-at n) (a .action) (draft-at n) (rest-at n) (end-at n .line) (a .number)
+    (c .before .before .before .if2 .left) (c .before .if5 .left))
+    (value-shown (a .text) (c .value-of-line2 .result) (draft-at n) (rest-at n) (end-at n .line) (is-read n) (a .number)
+    below (c .value-of-line2 .ensures))
 
 pub name-spec : {M : Type 1} → statement M
 name-spec =

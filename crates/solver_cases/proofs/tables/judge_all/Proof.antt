@@ -43,7 +43,11 @@ loop-less : tie.Need-loop-less Inv-loop μ-loop
 loop-less c =
     let c4 = c .before .before .before .before in
     let t = c4 .before .before .before in
-    omega (arith, c4 .read-line .ensures .1 .0, line-within (t .before .before .before .args .text .now) (t .before .loop .from) (t .loop-test .taken) .0)
+    omega (
+      arith,
+      c4 .read-line .ensures .1 .0,
+      line-within (t .before .before .before .args .text .now) (t .before .loop .from) (t .loop-test .taken) .0,
+    )
 
 loop-again : tie.Need-loop-again Inv-loop μ-loop
 loop-again c = search needs
@@ -52,7 +56,11 @@ loop-less-2 : tie.Need-loop-less-2 Inv-loop μ-loop
 loop-less-2 c =
     let c2 = c .before .before in
     let t = c2 .before .before .before in
-    omega (arith, c2 .read-line .ensures .1 .0, line-within (t .before .before .before .args .text .now) (t .before .loop .from) (t .loop-test .taken) .0)
+    omega (
+      arith,
+      c2 .read-line .ensures .1 .0,
+      line-within (t .before .before .before .args .text .now) (t .before .loop .from) (t .loop-test .taken) .0,
+    )
 
 loop-again-2 : tie.Need-loop-again-2 Inv-loop μ-loop
 loop-again-2 c = search needs

@@ -26,7 +26,8 @@ shared-slice-read-if1 c = omega arith
 returns : tie.Need-returns Inv-loop μ-loop
 returns c =
     let h = c .before .before .before in
-    first-stop _ (h .before .args .bytes .now) (h .loop .i) 0 (c .before .before .loop-test .taken) (h .loop .inv .1) (eq-eqb _ _ (c .if1 .taken))
+    first-stop _ (h .before .args .bytes .now) (h .loop .i) 0 (c .before .before .loop-test .taken) (h .loop .inv .1)
+    (eq-eqb _ _ (c .if1 .taken))
 
 add-i : tie.Need-add-i Inv-loop μ-loop
 add-i c = omega arith
@@ -36,8 +37,11 @@ loop-less c = omega arith
 
 loop-again : tie.Need-loop-again Inv-loop μ-loop
 loop-again c =
-    let h = c .before .before .before in
-    (omega arith, first-go _ (h .before .args .bytes .now) (h .loop .i) 0 (c .before .before .loop-test .taken) (h .loop .inv .1) (ne-eqb _ _ (c .if1 .left)))
+    let h = c .before .before .before in (
+      omega arith,
+      first-go _ (h .before .args .bytes .now) (h .loop .i) 0 (c .before .before .loop-test .taken) (h .loop .inv .1)
+          (ne-eqb _ _ (c .if1 .left)),
+    )
 
 returns-2 : tie.Need-returns-2 Inv-loop μ-loop
 returns-2 c =

@@ -30,7 +30,8 @@ returns : tie.Need-returns Inv-loop μ-loop
 returns c =
     let h = c .before .before .before in
     rw (lt-ltb _ _ (c .before .before .loop-test .taken))
-    (first-stop _ keys (h .loop .k) [] (c .before .before .loop-test .taken) (h .loop .inv .1) (sym (c .before .is-key .ensures) ∙ c .if1 .taken))
+    (first-stop _ keys (h .loop .k) [] (c .before .before .loop-test .taken) (h .loop .inv .1)
+    (sym (c .before .is-key .ensures) ∙ c .if1 .taken))
 
 add-k : tie.Need-add-k Inv-loop μ-loop
 add-k c = omega arith
@@ -40,8 +41,11 @@ loop-less c = omega arith
 
 loop-again : tie.Need-loop-again Inv-loop μ-loop
 loop-again c =
-    let h = c .before .before .before in
-    (omega arith, first-go _ keys (h .loop .k) [] (c .before .before .loop-test .taken) (h .loop .inv .1) (sym (c .before .is-key .ensures) ∙ c .if1 .left))
+    let h = c .before .before .before in (
+      omega arith,
+      first-go _ keys (h .loop .k) [] (c .before .before .loop-test .taken) (h .loop .inv .1)
+          (sym (c .before .is-key .ensures) ∙ c .if1 .left),
+    )
 
 returns-2 : tie.Need-returns-2 Inv-loop μ-loop
 returns-2 c = first-done _ keys (c .before .loop .k) [] (c .loop-test .left) (c .before .loop .inv .1)

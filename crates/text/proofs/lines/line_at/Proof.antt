@@ -36,7 +36,10 @@ unfolding lineOf
 returns c =
     let h = c .before .before .before in
     let a = h .before .before .before .args in
-    rw (c .no-line .ensures) (line-none (a .text .now) (a .at) _ (rest (h .before)) (no-place (h .find .ensures) (c .before .enum-told .given .1)), none-fits (a .text .now) (a .at))
+    rw (c .no-line .ensures) (
+      line-none (a .text .now) (a .at) _ (rest (h .before)) (no-place (h .find .ensures) (c .before .enum-told .given .1)),
+      none-fits (a .text .now) (a .at),
+    )
 
 slice-aggregate-line : tie.Need-slice-aggregate-line
 slice-aggregate-line c =
@@ -61,7 +64,8 @@ returns-2 c =
     let s = c .before .before .before .before .before .before in
     let a = s .before .before .before .before .before .args in
     rw (c .no-line2 .ensures) (
-      line-bare (a .text .now) (a .at) _ (rest (s .before .before .before)) _ (at-place (s .before .before .find .ensures) (s .size .given .1))
+      line-bare (a .text .now) (a .at) _ (rest (s .before .before .before)) _
+          (at-place (s .before .before .find .ensures) (s .size .given .1))
           (no-place (c .before .before .before .find2 .ensures) (c .before .enum-told2 .given .1)),
       none-fits (a .text .now) (a .at),
     )
@@ -75,7 +79,8 @@ key-number-requires : tie.Need-key-number-requires
 key-number-requires c κs = search needs
 
 -- the line's end stands inside the text, and its equals sign inside the line
-inside : (c : tie.After-equals) → let s = c .before .before .before .before .before in let a = s .before .before .before .before .before .args in
+inside : (c : tie.After-equals)
+    → let s = c .before .before .before .before .before in let a = s .before .before .before .before .before .args in
     (a .at + s .size .given .0 .0 < length (a .text .now)) × (c .equals .given .0 .0 < s .size .given .0 .0)
 inside c =
     let s = c .before .before .before .before .before in

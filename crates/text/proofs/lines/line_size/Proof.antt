@@ -23,11 +23,15 @@ returns c =
 
 add-result : tie.Need-add-result
 add-result c =
-    let e = size-cut (c .before .before .before .before .before .args .rest .now) _ (at-place (c .before .before .before .find .ensures) (c .before .end .given .1)) in
+    let e =
+    size-cut (c .before .before .before .before .before .args .rest .now) _
+    (at-place (c .before .before .before .find .ensures) (c .before .end .given .1)) in
     omega arith
 
 returns-2 : tie.Need-returns-2
-returns-2 c = size-cut (c .before .before .before .before .before .args .rest .now) _ (at-place (c .before .before .before .find .ensures) (c .before .end .given .1))
+returns-2 c =
+    size-cut (c .before .before .before .before .before .args .rest .now) _
+    (at-place (c .before .before .before .find .ensures) (c .before .end .given .1))
 
 pub line-size-spec : {M : Type 1} → statement M
 line-size-spec =

@@ -34,7 +34,8 @@ abbrev text-at : tie.At-loop Inv-loop μ-loop → List ℕ
 text-at h = h .before .before .args .text .now
 
 -- the line that begins there is a part of the text
-stays : (c : tie.After-line-size Inv-loop μ-loop) → let h = c .before .before .before in h .loop .at + c .line-size .result ≤ length (text-at h)
+stays : (c : tie.After-line-size Inv-loop μ-loop)
+    → let h = c .before .before .before in h .loop .at + c .line-size .result ≤ length (text-at h)
 stays c =
     let h = c .before .before .before in
     let small = rw (to-the-end (h .loop .at) (text-at h)) at (c .line-size .ensures .1) in
@@ -55,7 +56,8 @@ loop-less c = omega arith
 loop-again : tie.Need-loop-again Inv-loop μ-loop
 loop-again c =
     let h = c .before .before .before in
-    let size : c .line-size .result ≡ lineSize (drop (h .loop .at) (text-at h)) = c .line-size .ensures .0 ∙ ap lineSize (to-the-end (h .loop .at) (text-at h)) in
+    let size : c .line-size .result ≡ lineSize (drop (h .loop .at) (text-at h)) =
+    c .line-size .ensures .0 ∙ ap lineSize (to-the-end (h .loop .at) (text-at h)) in
     (omega arith, stays c, rw (add-one (h .loop .i), size) (ap (λ k. k + lineSize (drop k (text-at h))) (h .loop .inv .2)))
 
 returns : tie.Need-returns Inv-loop μ-loop

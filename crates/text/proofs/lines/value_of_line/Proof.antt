@@ -36,7 +36,8 @@ returns c = λ l e.
     let there : firstLine (drop at text) ≡ some l = ap (λ k. firstLine (drop k text)) (s .line-start .ensures .0) ∙ e in
     let from = f .line-at .ensures .1 .starts (line-key text at (f .line-at .result) (f .line-at .ensures .0) l there) in (
       line-value text at (f .line-at .result) (f .line-at .ensures .0) l there,
-      ap {B = ℕ × ℕ} (λ k. (a .text .ptr .0, k + a .text .ptr .1)) (from ∙ ap (λ k. k + valueFrom (drop k text)) (s .line-start .ensures .0)),
+      ap {B = ℕ × ℕ} (λ k. (a .text .ptr .0, k + a .text .ptr .1))
+          (from ∙ ap (λ k. k + valueFrom (drop k text)) (s .line-start .ensures .0)),
     )
 
 pub value-of-line-spec : {M : Type 1} → statement M

@@ -37,7 +37,8 @@ inside : (c : tie.After-size) → let a = c .before .before .before .before .bef
     a .from + c .size .given .0 .0 < length (a .list .now)
 inside c =
     let a = c .before .before .before .before .before .before .args in
-    item-inside (a .list .now) (a .from) _ (rest (c .before .before .before)) _ (at-place (c .before .before .find .ensures) (c .size .given .1))
+    item-inside (a .list .now) (a .from) _ (rest (c .before .before .before)) _
+    (at-place (c .before .before .find .ensures) (c .size .given .1))
 
 add-t14 : tie.Need-add-t14
 add-t14 c = let e = inside (c .before .before .before) in omega arith
@@ -49,7 +50,9 @@ returns : tie.Need-returns
 returns c =
     let h = c .before .before .before in
     let a = h .before .before .before .before .before .before .args in
-    let e = item-cut (a .list .now) (a .from) _ (rest (h .before .before .before)) _ (at-place (h .before .before .find .ensures) (h .size .given .1)) in
+    let e =
+    item-cut (a .list .now) (a .from) _ (rest (h .before .before .before)) _
+    (at-place (h .before .before .find .ensures) (h .size .given .1)) in
     (rw (← e .0) (c .literal .ensures), e .1)
 
 enum-told : tie.Need-enum-told

@@ -15,7 +15,8 @@ use Rattle.text.proofs.names.find_name.Tie as tie
 
 abbrev Inv-loop : tie.InvT-loop
 Inv-loop text names name starts lengths i₀ i =
-    (i ≤ names .count) × (first (λ j. sameName name (nameAt text names j)) i (range i (names .count - i)) ≡ declaredAt (spelled text names) name)
+    (i ≤ names .count)
+    × (first (λ j. sameName name (nameAt text names j)) i (range i (names .count - i)) ≡ declaredAt (spelled text names) name)
 
 abbrev μ-loop : tie.MeasureT-loop
 μ-loop text names name starts lengths i₀ i = names .count - i
@@ -46,7 +47,8 @@ same-requires c κs = tt
 
 -- what was compared is the name at the place
 compared : (c : tie.After-same Inv-loop μ-loop) → let h = c .before .before .before .before .before .before .before .before in
-    let a = h .before .before .before .before .before .before .args in c .same .result ≡ sameName (a .name .now) (nameAt (a .text .now) (a .names) (h .loop .i))
+    let a = h .before .before .before .before .before .before .args in
+    c .same .result ≡ sameName (a .name .now) (nameAt (a .text .now) (a .names) (h .loop .i))
 compared c =
     let n = c .before .before in
     rw (← n .before .before .number-at .ensures, ← n .number-at2 .ensures, ← c .before .part .ensures) (c .same .ensures)

@@ -21,7 +21,11 @@ enum-told c = search needs
 returns-2 : tie.Need-returns-2
 returns-2 c =
     let n = c .before .before .before .before in
-    rw (← n .is-name .ensures, not-false (n .is-name .result) (c .before .before .before .if1 .left), at-place (c .before .before .find-name .ensures) (c .enum-told .given .1))
+    rw (
+      ← n .is-name .ensures,
+      not-false (n .is-name .result) (c .before .before .before .if1 .left),
+      at-place (c .before .before .find-name .ensures) (c .enum-told .given .1),
+    )
 
 enum-told-2 : tie.Need-enum-told-2
 enum-told-2 c = search needs
@@ -29,7 +33,11 @@ enum-told-2 c = search needs
 returns-3 : tie.Need-returns-3
 returns-3 c =
     let n = c .before .before .before .before in
-    rw (← n .is-name .ensures, not-false (n .is-name .result) (c .before .before .before .if1 .left), no-place (c .before .before .find-name .ensures) (c .enum-told2 .given .1))
+    rw (
+      ← n .is-name .ensures,
+      not-false (n .is-name .result) (c .before .before .before .if1 .left),
+      no-place (c .before .before .find-name .ensures) (c .enum-told2 .given .1),
+    )
 
 pub is-new-spec : {M : Type 1} → statement M
 is-new-spec =

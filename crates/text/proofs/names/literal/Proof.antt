@@ -33,12 +33,20 @@ find-name-requires c κs = search needs
 
 in-sort-requires : tie.Need-in-sort-requires
 in-sort-requires c κs =
-    let a = c .before .before .before .before .before .before .before in
-    (rw (c .find-name .ensures, to-the-end 1 (a .args .item .now)) (place-fits (a .args .text .now) (a .args .names) (drop 1 (a .args .item .now)) (places a)), omega arith)
+    let a = c .before .before .before .before .before .before .before in (
+      rw (c .find-name .ensures, to-the-end 1 (a .args .item .now))
+          (place-fits (a .args .text .now) (a .args .names) (drop 1 (a .args .item .now)) (places a)),
+      omega arith,
+    )
 
 returns-2 : tie.Need-returns-2
 returns-2 c =
-    c .in-sort .ensures ∙ rw (c .before .find-name .ensures, to-the-end 1 (c .before .before .before .before .before .before .before .before .args .item .now)) (literal-hyphen _ _ _ _ (c .before .before .before .before .before .if1 .left) (c .before .before .before .if2 .taken))
+    c .in-sort .ensures
+    ∙ rw (
+      c .before .find-name .ensures,
+      to-the-end 1 (c .before .before .before .before .before .before .before .before .args .item .now),
+    )
+    (literal-hyphen _ _ _ _ (c .before .before .before .before .before .if1 .left) (c .before .before .before .if2 .taken))
 
 find-name-requires-2 : tie.Need-find-name-requires-2
 find-name-requires-2 c κs = search needs
@@ -50,7 +58,9 @@ in-sort-requires-2 c κs =
 
 returns-3 : tie.Need-returns-3
 returns-3 c =
-    c .in-sort2 .ensures ∙ rw (c .before .find-name2 .ensures) (literal-plain _ _ _ _ (c .before .before .before .before .if1 .left) (c .before .before .if2 .left))
+    c .in-sort2 .ensures
+    ∙ rw (c .before .find-name2 .ensures)
+    (literal-plain _ _ _ _ (c .before .before .before .before .if1 .left) (c .before .before .if2 .left))
 
 pub literal-spec : {M : Type 1} → statement M
 literal-spec =

@@ -1,7 +1,7 @@
 -- `sizes_needed` meets its contract. The invariant: of rules and of words, what is counted and what the laws not yet passed
 -- have make up the whole.
 -- Assumes nothing.
-use Prim.Native.Nat.{_+_, _-_, _*_, _≤_}
+use Prim.Native.Nat.{_-_, _*_, _≤_}
 use native.Mathlib.Omega.{arith}
 use Rattle.translation.proofs.Sums.{Counting, counting-first, counting-next, counting-last}
 use Rattle.translation.proofs.Writing.{product-bound}

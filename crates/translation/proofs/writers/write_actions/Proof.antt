@@ -30,7 +30,8 @@ loop-holds : tie.Need-loop-holds Inv-loop μ-loop
 loop-holds c = starts _ _ _ _ _ (rw sub-zero)
 
 bound : (c : tie.In-loop Inv-loop μ-loop) → let h = c .before in let a = h .before .before .args in h .loop .step * (a .n + a .m) ≤ 30 * 32
-bound c = let h = c .before in let a = h .before .before .args in product-bound (h .loop .step) (a .n + a .m) 30 32 (omega arith) (omega arith)
+bound c =
+    let h = c .before in let a = h .before .before .args in product-bound (h .loop .step) (a .n + a .m) 30 32 (omega arith) (omega arith)
 
 add-write-choices : tie.Need-add-write-choices Inv-loop μ-loop
 add-write-choices c = omega arith

@@ -1,7 +1,7 @@
 -- `write_choices` meets its contract. The invariant: the words from place i on are left for the table.
 -- Assumes nothing.
 use mathlib.Core.Path.{_≡_, sym, ap, _∙_}
-use Prim.Native.Nat.{ℕ, _+_, _*_, _/_, _-_, _<_}
+use Prim.Native.Nat.{ℕ, _+_, _*_, _/_, _-_}
 use native.Mathlib.Omega.{arith}
 use borrow.Author.Tests.{lt-ltb}
 use lib.ListN.{length}
@@ -36,7 +36,8 @@ choice-word-requires : tie.Need-choice-word-requires Inv-loop μ-loop
 choice-word-requires c κs = tt
 
 -- there is room for what a turn stores
-room : (c : tie.In-loop Inv-loop μ-loop) → let a = c .before .before .before .args in length (words (choices (range (a .first) (a .count)))) ≡ 8 * a .count
+room : (c : tie.In-loop Inv-loop μ-loop)
+    → let a = c .before .before .before .args in length (words (choices (range (a .first) (a .count)))) ≡ 8 * a .count
 room c = let a = c .before .before .before .args in size (a .first) (a .count)
 
 add-table : tie.Need-add-table Inv-loop μ-loop
@@ -59,7 +60,8 @@ loop-again c =
     let h = c .before .before in
     let a = h .before .before .args in
     storing-next (h .loop .inv) (omega (arith, room (c .before)))
-    (rw (lt-ltb (a .first + h .loop .i / 8) 1024 (omega arith)) at (c .choice-word .ensures) ∙ sym (choices-at (a .first) (a .count) (h .loop .i) (omega arith)))
+    (rw (lt-ltb (a .first + h .loop .i / 8) 1024 (omega arith)) at (c .choice-word .ensures)
+    ∙ sym (choices-at (a .first) (a .count) (h .loop .i) (omega arith)))
 
 add-result : tie.Need-add-result Inv-loop μ-loop
 add-result c = let a = c .before .before .before .args in omega (arith, size (a .first) (a .count))

@@ -30,7 +30,9 @@ turns f laws count =
 
 abbrev Inv-loop : tie.InvT-loop
 Inv-loop table₀ at count n static dynamic laws place₀ i₀ table place i =
-    (length laws ≡ 64) × Before (turns (lawRules n static dynamic) laws count) i table place table₀ at (words (perLaw (lawRules n static dynamic) (take count laws)))
+    (length laws ≡ 64)
+    × Before (turns (lawRules n static dynamic) laws count) i table place table₀
+    at (words (perLaw (lawRules n static dynamic) (take count laws)))
 
 abbrev μ-loop : tie.MeasureT-loop
 μ-loop table₀ at count n static dynamic laws place₀ i₀ table place i = count - i

@@ -52,7 +52,8 @@ loop-again : tie.Need-loop-again Inv-loop μ-loop
 loop-again c =
     let h = c .before .before in
     let a = h .before .before .before .args in
-    storing-next (h .loop .inv) (in-rule (c .before)) (rw (le-leb (a .n) 32 (omega arith), le-leb (a .t) 30 (omega arith)) at (c .rule-word .ensures))
+    storing-next (h .loop .inv) (in-rule (c .before))
+    (rw (le-leb (a .n) 32 (omega arith), le-leb (a .t) 30 (omega arith)) at (c .rule-word .ensures))
 
 add-result : tie.Need-add-result Inv-loop μ-loop
 add-result c =

@@ -9,7 +9,8 @@ use lib.ListN.{length}
 use borrow.Author.Needs.{needs}
 use Rattle.action_language.specs.Laws.{lawsOf}
 use Rattle.translation.specs.Translated.{tableFor}
-use Rattle.translation.proofs.Writing.{Left, front, last, begun, wrote, room, ended, stored, staticWords, dynamicWords, fluentWords, actionWords, passes, sets-front}
+use Rattle.translation.proofs.Writing.{Left, front, last, begun, wrote, room, ended, stored, staticWords}
+use Rattle.translation.proofs.Writing.{dynamicWords, fluentWords, actionWords, passes, sets-front}
 use Rattle.translation.proofs.writers.write_table.Statement.{statement}
 use Rattle.translation.proofs.writers.write_table.Tie as tie
 
@@ -60,17 +61,22 @@ left₁ c =
 left₂ : (c : tie.After-write-laws2) → let s = from₂ c in
     Left (c .write-laws2 .last .0) (c .write-laws2 .result) (choice s) (s .args .table .now) 0 (all s)
 left₂ c =
-    let s = from₂ c in wrote (left₁ (c .before .before .before .before)) (front (dynamic s) (choice s)) (c .write-laws2 .ensures .0) (c .write-laws2 .ensures .1)
+    let s = from₂ c in
+    wrote (left₁ (c .before .before .before .before)) (front (dynamic s) (choice s)) (c .write-laws2 .ensures .0)
+    (c .write-laws2 .ensures .1)
 
 left₃ : (c : tie.After-write-choices) → let s = from₃ c in
     Left (c .write-choices .last .0) (c .write-choices .result) (actions s) (s .args .table .now) 0 (all s)
 left₃ c =
-    let s = from₃ c in wrote (left₂ (c .before .before .before .before)) (front (fluents s) (actions s)) (c .write-choices .ensures .0) (c .write-choices .ensures .1)
+    let s = from₃ c in
+    wrote (left₂ (c .before .before .before .before)) (front (fluents s) (actions s)) (c .write-choices .ensures .0)
+    (c .write-choices .ensures .1)
 
 left₄ : (c : tie.After-write-actions) → let s = from₄ c in
     Left (c .write-actions .last .0) (c .write-actions .result) [] (s .args .table .now) 0 (all s)
 left₄ c =
-    let s = from₄ c in wrote (left₃ (c .before .before .before .before)) (last (actions s)) (c .write-actions .ensures .0) (c .write-actions .ensures .1)
+    let s = from₄ c in
+    wrote (left₃ (c .before .before .before .before)) (last (actions s)) (c .write-actions .ensures .0) (c .write-actions .ensures .1)
 
 add-n : tie.Need-add-n
 add-n c = search needs

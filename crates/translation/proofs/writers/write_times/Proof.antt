@@ -15,7 +15,8 @@ use Rattle.translation.proofs.writers.write_times.Tie as tie
 
 abbrev turns : ℕ → Law → (times : ℕ) → Turns (λ t. t < times) times
 turns n law =
-    counted (λ t j. words (map (ruleFor n (law .kind) law) (range t j))) (λ t. ruleWords (ruleFor n (law .kind) law t)) (λ t. refl) (λ t j. refl)
+    counted (λ t j. words (map (ruleFor n (law .kind) law) (range t j))) (λ t. ruleWords (ruleFor n (law .kind) law t))
+    (λ t. refl) (λ t j. refl)
 
 abbrev Inv-loop : tie.InvT-loop
 Inv-loop table₀ at law n times place₀ t₀ table place t =
