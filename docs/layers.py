@@ -29,8 +29,8 @@ ABOUT = (
     "In the picture a thin arrow leads from a crate to one of its room that it uses, and a thick arrow from a room to "
     "one that some of its crates use. Arrows, and the uses in the tables, are only those that no others imply: a "
     "crate may also use what these reach. [crates.txt](../crates.txt) names every use, with the libraries io, libc "
-    "and os, which are left out here. Kind: `theorems` is definitions and theorems alone, `functions` is functions "
-    "with what is proved of them."
+    "and os, which are left out here. Kind, as in the picture: F is functions with what is proved of them, T is "
+    "definitions and theorems alone, P is a program."
 )
 
 # Each room, the lowest first, with the rooms besides itself that its crates may use.
@@ -358,6 +358,12 @@ def picture(rooms, crates, direct):
     return "\n".join([*out, *legend(bottom + PAD + 8), "</svg>"]) + "\n"
 
 
+def row(name, crate, direct):
+    """A crate's row. Its kind is a letter, so the words for it in front of what the crate holds are left out."""
+    holds = re.sub(r"^(theorems?|a program): ", "", crate.holds)
+    return f"| [{name}] | {holds} | {KINDS[kind(name)].letter} | {', '.join(direct[name])} |"
+
+
 def tables(rooms, crates, direct):
     """The picture's link and a table for each room. A crate's link is written below the tables, to keep rows short."""
     lines = ["![The rooms of the crates, and which uses which](layers.svg)", "", *wrapped(ABOUT, 120)]
@@ -365,9 +371,7 @@ def tables(rooms, crates, direct):
         may = "This room may use: " + (", ".join(MAY_USE[room]) or "no other")
         lines += ["", f"### {room.capitalize()}", "", *wrapped(f"{what[0].upper()}{what[1:]}. {may}.", 120), ""]
         lines += ["| Crate | Holds | Kind | Uses |", "|---|---|---|---|"]
-        for name, crate in crates.items():
-            if crate.room == room:
-                lines.append(f"| [{name}] | {crate.holds} | {kind(name)} | {', '.join(direct[name])} |")
+        lines += [row(name, crate, direct) for name, crate in crates.items() if crate.room == room]
     return "\n".join([*lines, "", *(f"[{name}]: ../crates/{name}" for name in crates)]) + "\n"
 
 

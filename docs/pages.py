@@ -1,6 +1,6 @@
 #!/usr/bin/env python3
 """Holds the pages of the repository to two rules: a link leads to what it says, and a line has at most 120 characters,
-rows of tables, lines of code and where links lead aside.
+lines of code and where links lead aside.
 
     docs/pages.py           fails and names each place that breaks a rule
     docs/pages.py --mend    first puts the line numbers of links right
@@ -68,7 +68,7 @@ def amiss(page, name, target):
 def faults(page):
     """What breaks a rule on a page: the line's number, and what is wrong there."""
     for number, line in prose(page.read_text()):
-        if len(line) > WIDEST and not line.startswith(("|", "[")):
+        if len(line) > WIDEST and not re.match(r"\[[^\]]+\]: ", line):
             yield number, f"{len(line)} characters"
         for name, target in links(line):
             if said := amiss(page, name, target):
