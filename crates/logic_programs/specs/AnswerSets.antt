@@ -47,6 +47,7 @@ ProperSubset Y X = Subset Y X × ((c : ℕ) × (X c ≡ true) × (Y c ≡ false)
 abbrev pub Consistent : Lits → Type 0
 Consistent X = (a : ℕ) → X (2 * a) ≡ true → X (2 * a + 1) ≡ true → ⊥
 
+-- X is an answer set of Π: no atom has both values, X is closed under the reduct by X, and no proper subset of X is
 pub record AnswerSet (Π : List Rule) (X : Lits) : Type 0 where
   pub consistent : Consistent X
   pub closed : Closed (reduct Π X) X

@@ -35,6 +35,7 @@ actionAtoms n m t (suc k) = range (actionAtom n m t 0) m ++ actionAtoms n m (suc
 abbrev pub choiceAtoms : ℕ → ℕ → ℕ → List ℕ
 choiceAtoms n m T = range (fluentAtom n m 0 0) n ++ actionAtoms n m 0 T
 
+-- all rules over n fluents, m actions and horizon T: those of static laws, those of dynamic laws, the choices
 unfoldable pub translation : ℕ → ℕ → ℕ → List Law → List Rule
 translation n m T ls =
     perLaw (staticRules (n + m) T) ls ++ perLaw (dynamicRules (n + m) T) ls ++ choices (choiceAtoms n m T)
