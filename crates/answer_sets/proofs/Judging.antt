@@ -13,10 +13,10 @@ use Rattle.basics.specs.Search.{first, range}
 use Rattle.basics.specs.Replies.{refused, answered}
 use Rattle.logic_programs.specs.Literals.{Lits, setOf, badValue}
 use Rattle.logic_programs.specs.Rules.{Rule}
-use Rattle.answer_sets.specs.Verdicts.{clash, broken, unfounded, passes, round, rounds, bothValues, isBroken, isUnfounded, verdict}
+use Rattle.answer_set_theory.specs.Verdicts.{clash, broken, unfounded, passes, round, rounds, bothValues, isBroken, isUnfounded, verdict}
 use Rattle.logic_programs.specs.Words.{rulesOf, badRule}
-use Rattle.answer_sets.specs.Answers.{answer}
-use Rattle.answer_sets.proofs.Least.{HeadsBelow, rounds-stay, rounds-settle}
+use Rattle.answer_set_theory.specs.Answers.{answer}
+use Rattle.answer_set_theory.proofs.Least.{HeadsBelow, rounds-stay, rounds-settle}
 
 -- Y is the set X, as marks
 module _ (n : ℕ) (Π : List Rule) (X : Lits) where

@@ -21,11 +21,11 @@ use Rattle.logic_programs.specs.AnswerSets.{Subset, Closed, reduct, literalHead
 use Rattle.logic_programs.specs.Words.{rulesOf}
 use Rattle.rule_tables.specs.Marks.{marked}
 use Rattle.rule_tables.proofs.Bits.{withMark, in-clear, in-stored, length-with}
-use Rattle.answer_sets.specs.Verdicts.{round, rounds}
+use Rattle.answer_set_theory.specs.Verdicts.{round, rounds}
 use Rattle.answer_sets.specs.Derived.{Derived}
 use Rattle.answer_sets.specs.Internal.{headWordAt, plainAt, heads, waitsFor, Waiting, EachWaiting, Begun, Made}
-use Rattle.answer_sets.proofs.Least.{HeadsBelow, rounds-within, rounds-below, least-closed}
-use Rattle.answer_sets.proofs.Sets.{all-within, within-subset}
+use Rattle.answer_set_theory.proofs.Least.{HeadsBelow, rounds-within, rounds-below, least-closed}
+use Rattle.answer_set_theory.proofs.Sets.{all-within, within-subset}
 use Rattle.answer_sets.proofs.Outside.{wordsFrom, settled, still}
 use Rattle.answer_sets.proofs.Starts.{heads-append}
 use Rattle.answer_sets.proofs.Judging.{round-after}

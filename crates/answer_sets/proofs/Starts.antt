@@ -23,11 +23,11 @@ use Rattle.rule_tables.specs.Internal.{Sound}
 use Rattle.rule_tables.proofs.Fronts.{whole-applies}
 use Rattle.rule_tables.proofs.Walking.{rules-front, rules-end, rule-stop, rule-go, rule-end, sound-size, sound-head}
 use Rattle.rule_tables.proofs.Walking.{sound-few, sound-fits, sound-rest, sound-before}
-use Rattle.answer_sets.specs.Verdicts.{round, headIs, isBroken}
+use Rattle.answer_set_theory.specs.Verdicts.{round, headIs, isBroken}
 use Rattle.answer_sets.specs.Internal.{headWordAt, plainAt, heads, Waiting, Begun, Roomy}
-use Rattle.answer_sets.proofs.Least.{applies-subset}
-use Rattle.answer_sets.proofs.Passes.{unbroken-closed}
-use Rattle.answer_sets.proofs.Decoding.{accepted-rule}
+use Rattle.answer_set_theory.proofs.Least.{applies-subset}
+use Rattle.answer_set_theory.proofs.Passes.{unbroken-closed}
+use Rattle.answer_set_theory.proofs.Decoding.{accepted-rule}
 
 or-assoc : (a b c : Bool) → (a || (b || c)) ≡ ((a || b) || c)
 or-assoc true b c = refl

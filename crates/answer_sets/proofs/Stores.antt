@@ -15,7 +15,7 @@ use lib.Pow.{pow-add, pow-mono, shl-exact, shl-shr, shr-shr}
 use lib.Seq.{getD-set-same, getD-set-other}
 use Rattle.logic_programs.specs.Literals.{setOf, holdsTrue, holdsFalse}
 use Rattle.rule_tables.specs.Marks.{bit, marked}
-use Rattle.answer_sets.specs.Verdicts.{bothValues}
+use Rattle.answer_set_theory.specs.Verdicts.{bothValues}
 use Rattle.rule_tables.proofs.Bits.{bit-or, in-clear}
 use Rattle.rule_tables.proofs.Lookups.{setOf-past}
 

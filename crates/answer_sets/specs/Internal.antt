@@ -12,7 +12,7 @@ use Rattle.basics.specs.Search.{Each, all}
 use Rattle.logic_programs.specs.Literals.{Lits}
 use Rattle.logic_programs.specs.AnswerSets.{Closed, Subset, reduct, literalHeaded}
 use Rattle.logic_programs.specs.Words.{ruleSize, ruleAt, rulesOf}
-use Rattle.answer_sets.specs.Verdicts.{round}
+use Rattle.answer_set_theory.specs.Verdicts.{round}
 use Rattle.rule_tables.specs.Marks.{marked}
 
 -- the head's word and the plain parts of the rule that starts at word s

@@ -9,7 +9,7 @@ ghost use lib.ListN.{length, take, replicate};
 ghost use Rattle.basics.specs.Search.{first, placeOf};
 ghost use Rattle.logic_programs.specs.Words.{rulesOf, badRule};
 ghost use Rattle.rule_tables.specs.Marks.{marked};
-ghost use Rattle.answer_sets.specs.Verdicts.{isBroken};
+ghost use Rattle.answer_set_theory.specs.Verdicts.{isBroken};
 ghost use Rattle.answer_sets.specs.Derived.{Derived};
 ghost use Rattle.answer_sets.specs.Internal.{EachWaiting, Made, Roomy};
 

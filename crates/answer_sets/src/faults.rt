@@ -11,7 +11,7 @@ ghost use lib.ListN.{length};
 ghost use Rattle.basics.specs.Search.{first, placeOf, range};
 ghost use Rattle.basics.specs.Replies.{answered};
 ghost use Rattle.logic_programs.specs.Literals.{setOf, badValue};
-ghost use Rattle.answer_sets.specs.Verdicts.{verdict, bothValues, isUnfounded};
+ghost use Rattle.answer_set_theory.specs.Verdicts.{verdict, bothValues, isUnfounded};
 ghost use Rattle.logic_programs.specs.Words.{rulesOf, badRule};
 ghost use Rattle.answer_sets.specs.Answers.{replyOf};
 ghost use Rattle.rule_tables.specs.Marks.{marked};

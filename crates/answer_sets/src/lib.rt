@@ -6,8 +6,9 @@ mod values;
 
 use basics::Found;
 ghost use mathlib.Core.Path.{_≡_};
-ghost use Rattle.answer_sets.specs.Answers.{replyOf, answer};
-ghost use Rattle.answer_sets.specs.Demand2.{Demand2};
+ghost use Rattle.answer_set_theory.specs.Answers.{answer};
+ghost use Rattle.answer_sets.specs.Answers.{replyOf};
+ghost use Rattle.answer_set_theory.specs.Demand2.{Demand2};
 
 // A refusal's number and place, or the first verdict that holds with the atom, rule or literal code that it names.
 pub enum Answer {

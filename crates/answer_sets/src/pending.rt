@@ -13,7 +13,7 @@ ghost use Rattle.basics.specs.Search.{first, placeOf};
 ghost use Rattle.logic_programs.specs.Words.{ruleSize, rulesOf};
 ghost use Rattle.rule_tables.specs.Marks.{marked};
 ghost use Rattle.rule_tables.specs.Internal.{Sound};
-ghost use Rattle.answer_sets.specs.Verdicts.{isBroken};
+ghost use Rattle.answer_set_theory.specs.Verdicts.{isBroken};
 ghost use Rattle.answer_sets.specs.Internal.{outside, waitsFor, Begun, Roomy};
 
 // Room for the starts of 256 rules, and for those of 4,096.

@@ -12,9 +12,9 @@ use Rattle.logic_programs.specs.Literals.{badValue}
 use Rattle.logic_programs.specs.Words.{badRule}
 use Rattle.rule_tables.specs.Internal.{Sound}
 use Rattle.rule_tables.proofs.Walking.{accepted-sound}
-use Rattle.answer_sets.specs.Answers.{tooManyValues}
-use Rattle.answer_sets.specs.Demand2.{Accepted}
-use Rattle.answer_sets.proofs.Theorems.{few-values}
+use Rattle.answer_set_theory.specs.Answers.{tooManyValues}
+use Rattle.answer_set_theory.specs.Demand2.{Accepted}
+use Rattle.answer_set_theory.proofs.Theorems.{few-values}
 use Rattle.completion_theory.specs.Findings.{FormulaFinding, formulaFinding}
 use Rattle.completion_theory.specs.LevelLists.{badLevels}
 use Rattle.completion_theory.specs.Answers.{afterTests, answer, answerByLevels}

@@ -21,7 +21,8 @@ use Rattle.logic_programs.proofs.Values.{lowest-none-or-both, one-value-iff}
 use Rattle.tight_programs.specs.LiteralCompletion.{BodyHolds, SomeBody, Formula}
 use Rattle.completion_theory.specs.Findings.{FormulaFinding, missing, clash, fails, holds, bodyHolds, sameHead}
 use Rattle.completion_theory.specs.Findings.{someBody, differ, literalFails, judgedByFormulas, formulaFinding}
-use Rattle.completion_theory.specs.Meaning.{NoValue, BothValues, NoneOrBoth, ByFormulas}
+use Rattle.logic_programs.specs.Literals.{NoValue, BothValues, NoneOrBoth}
+use Rattle.completion_theory.specs.Meaning.{ByFormulas}
 
 -- The formulas' tests
 

@@ -17,11 +17,11 @@ use Rattle.logic_programs.specs.Literals.{setOf, OneValue}
 use Rattle.logic_programs.specs.Rules.{Rule}
 use Rattle.logic_programs.specs.Words.{rulesOf}
 use Rattle.logic_programs.specs.AnswerSets.{AnswerSet}
-use Rattle.answer_sets.specs.Verdicts.{passes}
-use Rattle.answer_sets.specs.Answers as engine
-use Rattle.answer_sets.specs.Demand2.{Accepted, noRule, Demand2}
-use Rattle.answer_sets.proofs.Decoding.{accepted-count}
-use Rattle.answer_sets.proofs.Theorems.{demand-2}
+use Rattle.answer_set_theory.specs.Verdicts.{passes}
+use Rattle.answer_set_theory.specs.Answers as engine
+use Rattle.answer_set_theory.specs.Demand2.{Accepted, noRule, Demand2}
+use Rattle.answer_set_theory.proofs.Decoding.{accepted-count}
+use Rattle.answer_set_theory.proofs.Theorems.{demand-2}
 use Rattle.tight_programs.specs.TightPrograms.{Tight}
 use Rattle.completion_theory.specs.Findings.{FormulaFinding, holds, formulaFinding}
 use Rattle.completion_theory.specs.LevelLists.{levelOf, standsAbove, badLevels}

@@ -16,9 +16,9 @@ use Rattle.logic_programs.specs.Literals.{setOf, holdsTrue, holdsFalse, OneValu
 use Rattle.logic_programs.specs.Rules.{Head, lit, falsum, Rule}
 use Rattle.logic_programs.specs.Words.{rulesOf, badRule}
 use Rattle.logic_programs.specs.AnswerSets.{Consistent, AnswerSet}
-use Rattle.answer_sets.proofs.Least.{HeadBelow}
-use Rattle.answer_sets.proofs.Decoding.{accepted-below}
-use Rattle.answer_sets.proofs.Theorems.{setOf-below}
+use Rattle.answer_set_theory.proofs.Least.{HeadBelow}
+use Rattle.answer_set_theory.proofs.Decoding.{accepted-below}
+use Rattle.answer_set_theory.proofs.Theorems.{setOf-below}
 use Rattle.tight_programs.specs.TightPrograms.{LowerParts, Tight}
 use Rattle.tight_programs.specs.LiteralCompletion.{Completion, HeadOver, Over, CompleteSet}
 use Rattle.tight_programs.proofs.LiteralCompletion.{proposition-3}

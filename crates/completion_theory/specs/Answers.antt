@@ -6,7 +6,7 @@ use lib.ListN.{length}
 use Rattle.basics.specs.Replies.{Reply, answered, orRefuse}
 use Rattle.logic_programs.specs.Literals.{badValue}
 use Rattle.logic_programs.specs.Words.{badRule}
-use Rattle.answer_sets.specs.Answers.{tooManyValues}
+use Rattle.answer_set_theory.specs.Answers.{tooManyValues}
 use Rattle.completion_theory.specs.Findings.{FormulaFinding, formulaFinding}
 use Rattle.completion_theory.specs.LevelLists.{badLevels}
 

@@ -1,32 +1,22 @@
 -- What the replies say, by the formulas of literal completion, by tight programs and by the engine.
 -- Assumes nothing.
 use mathlib.Core.Path.{_≡_}
-use mathlib.Core.Logic.{_↔_, _⊎_}
+use mathlib.Core.Logic.{_↔_}
 use mathlib.Core.List.{List}
 use Prim.Native.Nat.{ℕ, _*_, _<_}
 use lib.ListN.{length, getD}
 use Rattle.basics.specs.Search.{Each, Lowest}
 use Rattle.basics.specs.Replies.{Reply, refused, answered}
-use Rattle.logic_programs.specs.Literals.{setOf, OneValue}
+use Rattle.logic_programs.specs.Literals.{setOf, OneValue, NoValue, BothValues, NoneOrBoth}
 use Rattle.logic_programs.specs.Rules.{lit, falsum, Rule}
 use Rattle.logic_programs.specs.Words.{rulesOf}
-use Rattle.answer_sets.specs.Verdicts.{passes}
-use Rattle.answer_sets.specs.Answers as engine
-use Rattle.answer_sets.specs.Demand2.{Accepted, noRule}
+use Rattle.answer_set_theory.specs.Verdicts.{passes}
+use Rattle.answer_set_theory.specs.Answers as engine
+use Rattle.answer_set_theory.specs.Demand2.{Accepted, noRule}
 use Rattle.tight_programs.specs.TightPrograms.{LowerParts, Tight}
 use Rattle.tight_programs.specs.LiteralCompletion.{Formula, Completion}
 use Rattle.completion_theory.specs.Findings.{FormulaFinding, missing, clash, fails, holds}
 use Rattle.completion_theory.specs.LevelLists.{levelOf}
-
--- atom a has no value, or both
-abbrev pub NoValue : List ℕ → ℕ → Type 0
-NoValue vs a = getD vs a 0 ≡ 0
-
-abbrev pub BothValues : List ℕ → ℕ → Type 0
-BothValues vs a = getD vs a 0 ≡ 3
-
-abbrev pub NoneOrBoth : List ℕ → ℕ → Type 0
-NoneOrBoth vs a = NoValue vs a ⊎ BothValues vs a
 
 -- the reply to values and a program: missing or clash at the lowest atom that has no value or both; then, each atom having one
 -- value, the lowest literal whose formula fails; false where only its formula does; and holds exactly if all formulas do

@@ -20,12 +20,12 @@ use Rattle.basics.proofs.Lists.{each-iff, none-iff}
 use Rattle.logic_programs.specs.Literals.{OneValue, setOf}
 use Rattle.logic_programs.proofs.Values.{all-one-value}
 use Rattle.logic_programs.specs.AnswerSets.{AnswerSet}
-use Rattle.answer_sets.specs.Verdicts.{Verdict, passes}
+use Rattle.answer_set_theory.specs.Verdicts.{Verdict, passes}
 use Rattle.logic_programs.specs.Words.{rulesOf}
-use Rattle.answer_sets.specs.Answers as engine
-use Rattle.answer_sets.specs.Demand2.{Accepted, Demand2}
-use Rattle.answer_sets.proofs.Decoding.{rules-words, codes-coded}
-use Rattle.answer_sets.proofs.Theorems.{demand-2}
+use Rattle.answer_set_theory.specs.Answers as engine
+use Rattle.answer_set_theory.specs.Demand2.{Accepted, Demand2}
+use Rattle.answer_set_theory.proofs.Decoding.{rules-words, codes-coded}
+use Rattle.answer_set_theory.proofs.Theorems.{demand-2}
 use Rattle.action_language.specs.declared.Law.{Law}
 use Rattle.action_language.specs.declared.Description.{Description}
 use Rattle.action_language.specs.Laws.{lawsOf}

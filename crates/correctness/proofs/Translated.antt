@@ -20,7 +20,7 @@ use Rattle.logic_programs.specs.AnswerSets.{reduct, HeadIn, Closed, Consistent,
 use Rattle.logic_programs.proofs.Complements.{complement-even}
 use Rattle.tight_programs.specs.TightPrograms.{Support, Supported, LowerParts, Tight}
 use Rattle.tight_programs.proofs.Supported.{bodyIn, closed-rules, rules-support, support-cases, proposition-4}
-use Rattle.answer_sets.proofs.Theorems.{setOf-below}
+use Rattle.answer_set_theory.proofs.Theorems.{setOf-below}
 use Rattle.action_language.specs.declared.Head as described
 use Rattle.action_language.specs.declared.Head.the-variants.{Lit, False}
 use Rattle.action_language.specs.declared.Kind.{Kind}

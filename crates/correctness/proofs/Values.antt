@@ -16,7 +16,7 @@ use Rattle.basics.proofs.Tests.{true-or-false, each-map, each-at}
 use Rattle.basics.proofs.Lists.{all-mapped}
 use Rattle.logic_programs.specs.Literals.{OneValue, complement, holdsTrue, holdsFalse, setOf}
 use Rattle.logic_programs.specs.AnswerSets.{meets}
-use Rattle.answer_sets.proofs.Sets.{all-not-meets}
+use Rattle.answer_set_theory.proofs.Sets.{all-not-meets}
 use Rattle.logic_programs.proofs.Complements.{complement-even, complement-odd, complement-below}
 use Rattle.action_language.specs.Atoms.{atomCount}
 use Rattle.action_language.specs.Meaning.{Interpretation, satisfies, holds, together, stateAt, actionAt}

@@ -12,8 +12,8 @@ use Rattle.basics.specs.Search.{Each}
 use Rattle.basics.specs.Replies.{refused, answered}
 use Rattle.logic_programs.specs.Literals.{OneValue, setOf}
 use Rattle.logic_programs.specs.AnswerSets.{AnswerSet}
-use Rattle.answer_sets.specs.Verdicts.{passes}
-use Rattle.answer_sets.specs.Answers as engine
+use Rattle.answer_set_theory.specs.Verdicts.{passes}
+use Rattle.answer_set_theory.specs.Answers as engine
 use Rattle.completion_theory.specs.Findings.{holds}
 use Rattle.completion_theory.specs.Answers as completion
 use Rattle.action_language.specs.declared.Law.{Law}

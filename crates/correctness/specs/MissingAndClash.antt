@@ -8,11 +8,11 @@ use Prim.Native.Nat.{ℕ}
 use lib.ListN.{length}
 use Rattle.basics.specs.Search.{Lowest}
 use Rattle.basics.specs.Replies.{answered}
-use Rattle.answer_sets.specs.Verdicts.{clash}
-use Rattle.answer_sets.specs.Demand2.{Accepted}
+use Rattle.answer_set_theory.specs.Verdicts.{clash}
+use Rattle.answer_set_theory.specs.Demand2.{Accepted}
 use Rattle.completion_theory.specs.Findings as formulas
 use Rattle.completion_theory.specs.Answers as completion
-use Rattle.completion_theory.specs.Meaning.{NoValue, BothValues, NoneOrBoth}
+use Rattle.logic_programs.specs.Literals.{NoValue, BothValues, NoneOrBoth}
 use Rattle.history_check.specs.Checks as history
 
 pub record SameFirst (vs ws : List ℕ) : Type 0 where

@@ -14,8 +14,8 @@ use Rattle.basics.specs.Replies.{Reply, refused, answered, orElse}
 use Rattle.basics.proofs.Replies.{orRefuse-answered}
 use Rattle.logic_programs.specs.Literals.{OneValue, noneOrBoth, badValue}
 use Rattle.logic_programs.proofs.Values.{one-value-iff}
-use Rattle.answer_sets.specs.Verdicts.{clash, passes}
-use Rattle.answer_sets.specs.Answers as engine
+use Rattle.answer_set_theory.specs.Verdicts.{clash, passes}
+use Rattle.answer_set_theory.specs.Answers as engine
 use Rattle.action_language.specs.declared.Law.{Law}
 use Rattle.action_language.specs.declared.Description.{Description}
 use Rattle.action_language.specs.Atoms.{atomCount, wrongLength}

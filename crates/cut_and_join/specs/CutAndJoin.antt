@@ -7,7 +7,7 @@ use mathlib.Core.List.{List}
 use Prim.Native.Nat.{ℕ, _+_, _-_, _≤_, _<_}
 use lib.ListN.{length}
 use Rattle.basics.specs.Replies.{answered}
-use Rattle.answer_sets.specs.Verdicts.{passes}
+use Rattle.answer_set_theory.specs.Verdicts.{passes}
 use Rattle.action_language.specs.declared.Law.{Law}
 use Rattle.action_language.specs.declared.Description.{Description}
 use Rattle.action_language.specs.Atoms.{atomCount}

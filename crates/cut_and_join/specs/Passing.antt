@@ -8,8 +8,8 @@ use lib.ListN.{length, take}
 use Rattle.basics.specs.Replies.{answered}
 use Rattle.logic_programs.specs.Literals.{setOf}
 use Rattle.logic_programs.specs.AnswerSets.{AnswerSet}
-use Rattle.answer_sets.specs.Verdicts.{passes}
-use Rattle.answer_sets.specs.Answers as engine
+use Rattle.answer_set_theory.specs.Verdicts.{passes}
+use Rattle.answer_set_theory.specs.Answers as engine
 use Rattle.completion_theory.specs.Findings.{holds}
 use Rattle.completion_theory.specs.Answers as completion
 use Rattle.action_language.specs.declared.Law.{Law}

@@ -15,7 +15,7 @@ use Rattle.basics.specs.Replies.{Reply, refused, answered, orElse, orRefuse}
 use Rattle.basics.proofs.Tests.{true-or-false, first-lowest, first-nowhere}
 use Rattle.logic_programs.specs.Literals.{noneOrBoth}
 use Rattle.logic_programs.proofs.Values.{lowest-none-or-both, nowhere-none-or-both}
-use Rattle.completion_theory.specs.Meaning.{NoValue, BothValues}
+use Rattle.logic_programs.specs.Literals.{NoValue, BothValues}
 use Rattle.former_answers.specs.Changes.{BothBelowNone, Answers, Changed}
 
 -- the lowest atom with a value

@@ -11,8 +11,8 @@ use Rattle.basics.specs.Search.{first, Lowest}
 use Rattle.basics.specs.Replies.{Reply, refused, answered, orElse}
 use Rattle.logic_programs.specs.Literals.{setOf, badValue}
 use Rattle.logic_programs.specs.Words.{rulesOf, badRule}
-use Rattle.answer_sets.specs.Verdicts.{Verdict, clash, verdict}
-use Rattle.answer_sets.specs.Answers as engine
+use Rattle.answer_set_theory.specs.Verdicts.{Verdict, clash, verdict}
+use Rattle.answer_set_theory.specs.Answers as engine
 use Rattle.action_language.specs.declared.Law.{Law}
 use Rattle.action_language.specs.declared.Description.{Description}
 use Rattle.action_language.specs.Atoms.{wrongLength}
@@ -23,7 +23,7 @@ use Rattle.translation_bounds.proofs.Tables.{engine-accepts, engine-judges}
 use Rattle.completion_theory.specs.Findings as formulas
 use Rattle.completion_theory.specs.LevelLists.{badLevels}
 use Rattle.completion_theory.specs.Answers as completion
-use Rattle.completion_theory.specs.Meaning.{BothValues}
+use Rattle.logic_programs.specs.Literals.{BothValues}
 use Rattle.history_check.specs.Checks as history
 use Rattle.history_check.proofs.Judging.{finding-answered}
 use Rattle.correctness.proofs.MissingAndClash.{engine-clash}

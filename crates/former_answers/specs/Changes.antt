@@ -8,12 +8,12 @@ use Prim.Native.Nat.{ℕ, _<_}
 use lib.ListN.{length}
 use Rattle.basics.specs.Search.{Lowest}
 use Rattle.basics.specs.Replies.{Reply, refused, answered}
-use Rattle.answer_sets.specs.Verdicts.{clash}
+use Rattle.answer_set_theory.specs.Verdicts.{clash}
 use Rattle.action_language.specs.declared.Law.{Law}
 use Rattle.action_language.specs.declared.Description.{Description}
 use Rattle.completion_theory.specs.Findings as formulas
 use Rattle.completion_theory.specs.Answers as completion
-use Rattle.completion_theory.specs.Meaning.{NoValue, BothValues}
+use Rattle.logic_programs.specs.Literals.{NoValue, BothValues}
 use Rattle.history_check.specs.Checks as history
 use Rattle.former_answers.specs.Former.{formerChecked, formerAnswer, formerAnswerByLevels}
 

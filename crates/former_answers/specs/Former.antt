@@ -9,7 +9,7 @@ use Rattle.basics.specs.Search.{first}
 use Rattle.basics.specs.Replies.{Reply, answered, orElse, orRefuse}
 use Rattle.logic_programs.specs.Literals.{setOf}
 use Rattle.logic_programs.specs.Words.{rulesOf}
-use Rattle.answer_sets.specs.Answers as engine
+use Rattle.answer_set_theory.specs.Answers as engine
 use Rattle.action_language.specs.declared.Law.{Law}
 use Rattle.action_language.specs.declared.Description.{Description}
 use Rattle.translation.specs.Translated as translated

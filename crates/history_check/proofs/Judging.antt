@@ -10,9 +10,9 @@ use lib.Seq.{take-at}
 use Rattle.basics.specs.Search.{first}
 use Rattle.basics.specs.Replies.{Reply, refused, answered, orElse}
 use Rattle.logic_programs.specs.Literals.{setOf, noneOrBoth, badValue}
-use Rattle.answer_sets.specs.Verdicts.{verdict, clash}
+use Rattle.answer_set_theory.specs.Verdicts.{verdict, clash}
 use Rattle.logic_programs.specs.Words.{rulesOf}
-use Rattle.answer_sets.specs.Answers as engine
+use Rattle.answer_set_theory.specs.Answers as engine
 use Rattle.action_language.specs.declared.Law.{Law}
 use Rattle.action_language.specs.declared.Description.{Description}
 use Rattle.translation.specs.Translated as translated

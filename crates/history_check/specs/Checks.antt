@@ -9,8 +9,8 @@ use lib.ListN.{length, getD}
 use Rattle.basics.specs.Search.{first}
 use Rattle.basics.specs.Replies.{Reply, refused, answered, orElse, orRefuse, leftAfter}
 use Rattle.logic_programs.specs.Literals.{noneOrBoth, badValue}
-use Rattle.answer_sets.specs.Verdicts.{Verdict, clash, broken, unfounded, passes}
-use Rattle.answer_sets.specs.Answers as engine
+use Rattle.answer_set_theory.specs.Verdicts.{Verdict, clash, broken, unfounded, passes}
+use Rattle.answer_set_theory.specs.Answers as engine
 use Rattle.action_language.specs.declared.Law.{Law}
 use Rattle.action_language.specs.declared.Description.{Description}
 use Rattle.action_language.specs.Atoms.{wrongLength}

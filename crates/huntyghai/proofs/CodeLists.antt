@@ -11,8 +11,8 @@ use lib.Dec.{eqb}
 use Rattle.basics.specs.Search.{Each, all}
 use Rattle.basics.specs.Replies.{Reply, refused, answered}
 use Rattle.basics.proofs.Tests.{not-both, or-iff, all-each}
-use Rattle.answer_sets.specs.Verdicts.{Verdict, clash, broken, unfounded, passes}
-use Rattle.answer_sets.specs.Answers.{answer}
+use Rattle.answer_set_theory.specs.Verdicts.{Verdict, clash, broken, unfounded, passes}
+use Rattle.answer_set_theory.specs.Answers.{answer}
 use Rattle.completion_theory.specs.Findings as formulas
 use Rattle.completion_theory.specs.Answers as completed
 use Rattle.translation.specs.Translated.{Written, written, outcome}

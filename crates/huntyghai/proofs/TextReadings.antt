@@ -10,8 +10,8 @@ use lib.ListN.{length}
 use Rattle.basics.specs.Search.{Each}
 use Rattle.basics.specs.Replies.{Reply, refused, answered}
 use Rattle.logic_programs.specs.Literals.{OneValue}
-use Rattle.answer_sets.specs.Verdicts.{Verdict, clash, passes}
-use Rattle.answer_sets.specs.Answers as engine
+use Rattle.answer_set_theory.specs.Verdicts.{Verdict, clash, passes}
+use Rattle.answer_set_theory.specs.Answers as engine
 use Rattle.completion_theory.specs.Findings as formulas
 use Rattle.completion_theory.specs.Answers as completion
 use Rattle.history_check.specs.Checks as history

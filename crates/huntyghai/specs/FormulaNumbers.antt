@@ -10,12 +10,13 @@ use Rattle.basics.specs.Search.{Each, Lowest}
 use Rattle.logic_programs.specs.Literals.{setOf, OneValue}
 use Rattle.logic_programs.specs.Rules.{lit, falsum, Rule}
 use Rattle.logic_programs.specs.Words.{rulesOf}
-use Rattle.answer_sets.specs.Answers as engine
-use Rattle.answer_sets.specs.Demand2.{Accepted}
+use Rattle.answer_set_theory.specs.Answers as engine
+use Rattle.answer_set_theory.specs.Demand2.{Accepted}
 use Rattle.tight_programs.specs.TightPrograms.{Tight}
 use Rattle.tight_programs.specs.LiteralCompletion.{Formula, Completion}
 use Rattle.completion_theory.specs.LevelLists.{levelOf}
-use Rattle.completion_theory.specs.Meaning.{NoValue, BothValues, NoneOrBoth, NotAbove}
+use Rattle.logic_programs.specs.Literals.{NoValue, BothValues, NoneOrBoth}
+use Rattle.completion_theory.specs.Meaning.{NotAbove}
 use Rattle.answer_codes.specs.Codes.{coded, replyCode, verdictCode}
 
 -- the number for values and a program

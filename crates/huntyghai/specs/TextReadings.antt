@@ -9,7 +9,7 @@ use lib.ListN.{length, take}
 use Rattle.basics.specs.Search.{Each}
 use Rattle.basics.specs.Replies.{answered}
 use Rattle.logic_programs.specs.Literals.{OneValue}
-use Rattle.answer_sets.specs.Answers as engine
+use Rattle.answer_set_theory.specs.Answers as engine
 use Rattle.completion_theory.specs.Answers as completion
 use Rattle.translation.specs.Translated.{tableFor}
 use Rattle.description_reader.specs.LineSteps.{Draft}

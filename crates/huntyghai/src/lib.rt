@@ -7,7 +7,7 @@ ghost use mathlib.Core.List.{[], _∷_};
 ghost use Prim.Native.Nat.{_≤_};
 ghost use lib.ListN.{length};
 ghost use lib.Seq.{sets};
-ghost use Rattle.answer_sets.specs.Answers.{answer};
+ghost use Rattle.answer_set_theory.specs.Answers.{answer};
 ghost use Rattle.completion_theory.specs.Answers as completed;
 ghost use Rattle.history_reader.specs.Histories.{readHistory, historyReplied, valuesLeft};
 ghost use Rattle.report.specs.Output.{output};

@@ -37,6 +37,16 @@ OneValue v = (v ≡ 1) ⊎ (v ≡ 2)
 abbrev pub noneOrBoth : ℕ → Bool
 noneOrBoth v = eqb v 0 || eqb v 3
 
+-- atom a has no value, or both
+abbrev pub NoValue : List ℕ → ℕ → Type 0
+NoValue vs a = getD vs a 0 ≡ 0
+
+abbrev pub BothValues : List ℕ → ℕ → Type 0
+BothValues vs a = getD vs a 0 ≡ 3
+
+abbrev pub NoneOrBoth : List ℕ → ℕ → Type 0
+NoneOrBoth vs a = NoValue vs a ⊎ BothValues vs a
+
 -- refusal 11: a byte over 3
 abbrev pub badValue : List ℕ → Option ℕ
 badValue vs = first (ltb 3) 0 vs

@@ -4,7 +4,7 @@ use mathlib.Core.List.{List, [], _∷_, _++_}
 use Prim.Native.Nat.{ℕ}
 use lib.ListN.{getD}
 use Rattle.basics.specs.Replies.{Reply, refused, answered}
-use Rattle.answer_sets.specs.Verdicts.{clash, broken, unfounded, passes}
+use Rattle.answer_set_theory.specs.Verdicts.{clash, broken, unfounded, passes}
 use Rattle.history_check.specs.Checks.{Finding, missing, judged}
 use Rattle.causal_reading.specs.Verdicts as verdicts
 use Rattle.shown_names.specs.Shown.{shownFluent}

@@ -14,9 +14,9 @@ use Rattle.basics.specs.Search.{Each, all, first}
 use Rattle.basics.specs.Replies.{Reply, refused, answered, orRefuse}
 use Rattle.basics.proofs.Tests.{all-each}
 use Rattle.logic_programs.specs.Literals.{setOf, badValue}
-use Rattle.answer_sets.specs.Verdicts.{verdict}
+use Rattle.answer_set_theory.specs.Verdicts.{verdict}
 use Rattle.logic_programs.specs.Words.{rulesOf, badRule}
-use Rattle.answer_sets.specs.Answers.{tooManyValues, answer}
+use Rattle.answer_set_theory.specs.Answers.{tooManyValues, answer}
 use Rattle.completion_theory.specs.Findings as findings
 use Rattle.completion_theory.specs.LevelLists.{badLevels}
 use Rattle.completion_theory.specs.Answers as completed

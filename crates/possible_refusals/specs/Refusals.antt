@@ -6,7 +6,7 @@ use mathlib.Core.List.{List, [], _∷_}
 use Prim.Native.Nat.{ℕ, _≤_}
 use lib.Dec.{eqb}
 use Rattle.basics.specs.Replies.{Reply, refused, answered}
-use Rattle.answer_sets.specs.Answers.{answer}
+use Rattle.answer_set_theory.specs.Answers.{answer}
 use Rattle.completion_theory.specs.Answers as completed
 use Rattle.translation.specs.Translated.{outcome}
 use Rattle.history_check.specs.Checks.{checked}

@@ -16,7 +16,7 @@ use Rattle.basics.proofs.Tests.{not-both, or-iff, each-map}
 use Rattle.basics.proofs.Lists.{none-iff}
 use Rattle.logic_programs.specs.Literals.{OneValue, setOf, noneOrBoth, badValue}
 use Rattle.logic_programs.proofs.Values.{lowest-none-or-both, nowhere-none-or-both}
-use Rattle.answer_sets.specs.Verdicts.{Verdict, clash, broken, unfounded, passes, verdict}
+use Rattle.answer_set_theory.specs.Verdicts.{Verdict, clash, broken, unfounded, passes, verdict}
 use Rattle.logic_programs.specs.Words.{rulesOf}
 use Rattle.action_language.specs.declared.Law.{Law}
 use Rattle.action_language.specs.declared.Description.{Description}

@@ -10,7 +10,7 @@ use lib.ListN.{length, getD}
 use Rattle.logic_programs.specs.Literals.{OneValue}
 use Rattle.basics.specs.Search.{Each, Lowest}
 use Rattle.basics.specs.Replies.{answered}
-use Rattle.answer_sets.specs.Verdicts.{clash, broken, unfounded, passes}
+use Rattle.answer_set_theory.specs.Verdicts.{clash, broken, unfounded, passes}
 use Rattle.translation.specs.Translated.{rulesFor, tableFor}
 use Rattle.history_check.specs.Checks.{Finding, missing, judged}
 use Rattle.causal_reading.specs.Verdicts.{Causal, path}

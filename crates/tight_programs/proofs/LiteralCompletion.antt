@@ -15,7 +15,7 @@ use Rattle.logic_programs.specs.Literals.{Lits, complement}
 use Rattle.logic_programs.specs.Rules.{Head, lit, falsum, Rule}
 use Rattle.logic_programs.specs.AnswerSets.{meets, reduct, HeadIn, Closed, Consistent}
 use Rattle.logic_programs.proofs.Complements.{complement-even, complement-odd}
-use Rattle.answer_sets.proofs.Sets.{all-within, all-not-meets}
+use Rattle.answer_set_theory.proofs.Sets.{all-within, all-not-meets}
 use Rattle.tight_programs.specs.TightPrograms.{Supported}
 use Rattle.tight_programs.specs.LiteralCompletion.{BodyHolds, SomeBody, Completion, HeadOver, Over, CompleteSet, Proposition3}
 use Rattle.tight_programs.proofs.Supported.{bodyIn, closed-rules, rules-support, support-cases, proposition-4}

@@ -15,7 +15,7 @@ use Rattle.basics.proofs.Lists.{each-iff, each-member, member-each}
 use Rattle.logic_programs.specs.Literals.{Lits}
 use Rattle.logic_programs.specs.Rules.{Head, lit, falsum, Rule}
 use Rattle.logic_programs.specs.AnswerSets.{PositiveRule, meets, reduct, Within, HeadIn, Closed, Subset, AnswerSet}
-use Rattle.answer_sets.proofs.Sets.{all-within, within-subset}
+use Rattle.answer_set_theory.proofs.Sets.{all-within, within-subset}
 use Rattle.tight_programs.specs.TightPrograms.{Support, Supported, LowerParts, Tight, Proposition4}
 
 -- The reduct, rule by rule

@@ -13,8 +13,8 @@ use Rattle.logic_programs.specs.Words.{words}
 use Rattle.basics.proofs.Tests.{each-map}
 use Rattle.basics.proofs.Lists.{each-mapped}
 use Rattle.logic_programs.proofs.Complements.{complement-below}
-use Rattle.answer_sets.proofs.Least.{HeadBelow}
-use Rattle.answer_sets.proofs.Decoding.{RuleBelow, CodesBelow}
+use Rattle.answer_set_theory.proofs.Least.{HeadBelow}
+use Rattle.answer_set_theory.proofs.Decoding.{RuleBelow, CodesBelow}
 use Rattle.action_language.specs.declared.Head as described
 use Rattle.action_language.specs.declared.Head.the-variants.{Lit, False}
 use Rattle.action_language.specs.declared.Kind.{Kind}

@@ -11,12 +11,12 @@ use borrow.Author.Tests.{le-ltb}
 use lib.ListN.{length}
 use Rattle.basics.specs.Replies.{answered}
 use Rattle.logic_programs.specs.Literals.{setOf, badValue}
-use Rattle.answer_sets.specs.Verdicts.{verdict}
+use Rattle.answer_set_theory.specs.Verdicts.{verdict}
 use Rattle.logic_programs.specs.Words.{rulesOf, badRule}
-use Rattle.answer_sets.specs.Answers as engine
-use Rattle.answer_sets.specs.Demand2 as engine-meaning
-use Rattle.answer_sets.proofs.Decoding.{words-accepted}
-use Rattle.answer_sets.proofs.Theorems.{accepted-judged}
+use Rattle.answer_set_theory.specs.Answers as engine
+use Rattle.answer_set_theory.specs.Demand2 as engine-meaning
+use Rattle.answer_set_theory.proofs.Decoding.{words-accepted}
+use Rattle.answer_set_theory.proofs.Theorems.{accepted-judged}
 use Rattle.action_language.specs.declared.Law.{Law}
 use Rattle.action_language.specs.declared.Description.{Description}
 use Rattle.action_language.specs.Laws.{lawsOf}

@@ -16,10 +16,10 @@ use Rattle.basics.proofs.Tests.{none-first, each-at, each-map}
 use Rattle.basics.proofs.Lists.{chosen-iff, tuples-all}
 use Rattle.logic_programs.specs.Literals.{setOf, holdsTrue, holdsFalse, badValue}
 use Rattle.logic_programs.specs.AnswerSets.{AnswerSet}
-use Rattle.answer_sets.specs.Verdicts.{Verdict, clash, broken, unfounded, passes, verdict}
+use Rattle.answer_set_theory.specs.Verdicts.{Verdict, clash, broken, unfounded, passes, verdict}
 use Rattle.logic_programs.specs.Words.{rulesOf, badRule}
-use Rattle.answer_sets.specs.Answers.{tooManyValues, answer}
-use Rattle.answer_sets.proofs.Theorems.{passes-exactly}
+use Rattle.answer_set_theory.specs.Answers.{tooManyValues, answer}
+use Rattle.answer_set_theory.proofs.Theorems.{passes-exactly}
 use Rattle.worked_examples.specs.Program11.{program11, answerSets11, allValues, isPass, passing}
 
 program11-passing : passing program11 (allValues 3) ≡ answerSets11

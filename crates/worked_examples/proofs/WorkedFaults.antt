@@ -5,8 +5,8 @@ use Rattle.basics.specs.Search.{Each}
 use Rattle.basics.proofs.Pairs.{_&_}
 use Rattle.logic_programs.specs.Literals.{complement, setOf, holdsTrue, holdsFalse}
 use Rattle.logic_programs.specs.Words.{rulesOf, badRule}
-use Rattle.answer_sets.specs.Verdicts.{verdict}
-use Rattle.answer_sets.specs.Answers as engine
+use Rattle.answer_set_theory.specs.Verdicts.{verdict}
+use Rattle.answer_set_theory.specs.Answers as engine
 use Rattle.completion_theory.specs.Findings as formulas
 use Rattle.completion_theory.specs.LevelLists.{badLevels}
 use Rattle.completion_theory.specs.Answers as completion

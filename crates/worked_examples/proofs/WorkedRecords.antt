@@ -5,11 +5,11 @@ use Rattle.basics.specs.Search.{Each}
 use Rattle.basics.proofs.Lists.{each-mapped}
 use Rattle.basics.proofs.Pairs.{_&_}
 use Rattle.logic_programs.specs.Literals.{complement, setOf, holdsTrue, holdsFalse}
-use Rattle.answer_sets.specs.Verdicts.{verdict}
+use Rattle.answer_set_theory.specs.Verdicts.{verdict}
 use Rattle.logic_programs.specs.Words.{rulesOf, badRule}
-use Rattle.answer_sets.specs.Answers as engine
-use Rattle.answer_sets.specs.Examples as engine-list
-use Rattle.answer_sets.proofs.Examples as engine-list-holds
+use Rattle.answer_set_theory.specs.Answers as engine
+use Rattle.answer_set_theory.specs.Examples as engine-list
+use Rattle.answer_set_theory.proofs.Examples as engine-list-holds
 use Rattle.action_language.specs.Acceptance.{badRecord, badHorizon}
 use Rattle.translation.specs.Rules.{translation}
 use Rattle.translation.specs.Translated as translated

@@ -4,7 +4,7 @@
 use mathlib.Core.List.{List, [], _∷_, _++_}
 use Prim.Native.Nat.{ℕ, _-_}
 use Rattle.basics.specs.Replies.{refused, answered}
-use Rattle.answer_sets.specs.Verdicts.{unfounded, passes}
+use Rattle.answer_set_theory.specs.Verdicts.{unfounded, passes}
 use Rattle.completion_theory.specs.Findings as formulas
 use Rattle.action_language.specs.declared.Law.{Law}
 use Rattle.action_language.specs.declared.Description.{Description}

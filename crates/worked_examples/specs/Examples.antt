@@ -7,8 +7,8 @@ use Prim.Native.Nat.{ℕ}
 use lib.ListN.{length}
 use Rattle.basics.specs.Search.{chosen, tuples}
 use Rattle.basics.specs.Replies.{Reply, refused, answered}
-use Rattle.answer_sets.specs.Verdicts.{Verdict}
-use Rattle.answer_sets.specs.Answers as engine
+use Rattle.answer_set_theory.specs.Verdicts.{Verdict}
+use Rattle.answer_set_theory.specs.Answers as engine
 use Rattle.completion_theory.specs.Findings as formulas
 use Rattle.completion_theory.specs.Answers as completion
 use Rattle.action_language.specs.declared.Law.{Law}

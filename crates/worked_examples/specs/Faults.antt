@@ -5,7 +5,7 @@ use mathlib.Core.List.{List, [], _∷_, _++_}
 use Prim.Native.Nat.{ℕ}
 use lib.ListN.{replicate}
 use Rattle.basics.specs.Replies.{Reply, refused, answered}
-use Rattle.answer_sets.specs.Verdicts.{clash}
+use Rattle.answer_set_theory.specs.Verdicts.{clash}
 use Rattle.completion_theory.specs.Findings as formulas
 use Rattle.action_language.specs.Examples.{recipe, recipeLaws}
 use Rattle.history_check.specs.Checks.{Finding, missing, judged}

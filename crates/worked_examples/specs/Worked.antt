@@ -9,8 +9,8 @@ use Prim.Native.Nat.{ℕ}
 use lib.ListN.{replicate}
 use Rattle.basics.specs.Search.{tuples}
 use Rattle.basics.specs.Replies.{Reply, refused, answered}
-use Rattle.answer_sets.specs.Verdicts.{clash, broken, unfounded, passes}
-use Rattle.answer_sets.specs.Examples as engine-examples
+use Rattle.answer_set_theory.specs.Verdicts.{clash, broken, unfounded, passes}
+use Rattle.answer_set_theory.specs.Examples as engine-examples
 use Rattle.action_language.specs.declared.Head.the-variants.{Lit}
 use Rattle.action_language.specs.declared.Kind.the-variants.{Dynamic}
 use Rattle.action_language.specs.declared.Law.{Law}

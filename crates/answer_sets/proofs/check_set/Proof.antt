@@ -2,7 +2,7 @@
 -- Assumes nothing.
 use mathlib.Core.Path.{_∙_}
 use Rattle.basics.proofs.Loops.{at-place, no-place, refused-at, not-refused}
-use Rattle.answer_sets.proofs.Theorems.{keeps-demand-2}
+use Rattle.answer_set_theory.proofs.Theorems.{keeps-demand-2}
 use Rattle.answer_sets.proofs.Judging.{says-10, says-11, says-12, says-verdict}
 use borrow.Author.Needs.{needs}
 use Rattle.answer_sets.proofs.check_set.Statement.{statement}

@@ -1,7 +1,7 @@
 -- `huntyghai_check_set` meets its contract.
 -- Assumes nothing.
 use mathlib.Core.Path.{_∙_, ap, subst}
-use Rattle.answer_sets.specs.Demand2.{Demand2}
+use Rattle.answer_set_theory.specs.Demand2.{Demand2}
 use Rattle.answer_codes.specs.Codes.{replyCode, verdictCode}
 use Rattle.huntyghai.proofs.SetCodes.{set-numbered}
 use Rattle.huntyghai.proofs.CodeLists.{as-listed, engineCodes, set-codes}

@@ -9,7 +9,7 @@ use Rattle.basics.proofs.Loops.{at-place, no-place}
 use Rattle.logic_programs.specs.Words.{rulesOf}
 use Rattle.rule_tables.specs.Marks.{marked}
 use Rattle.rule_tables.proofs.Walking.{accepted-sound}
-use Rattle.answer_sets.proofs.Decoding.{accepted-below, codes-heads}
+use Rattle.answer_set_theory.proofs.Decoding.{accepted-below, codes-heads}
 use Rattle.answer_sets.proofs.Judging.{round-last, round-enough}
 use Rattle.answer_sets.proofs.Rounds.{Reached, reach-start, round-whole, reach-next, derived}
 use Rattle.answer_sets.proofs.derivation.derive_in.Statement.{statement}

@@ -9,7 +9,7 @@ use lib.ListN.{length}
 use Rattle.basics.specs.Search.{first, range}
 use Rattle.basics.proofs.Loops.{range-stop, range-go, range-done}
 use Rattle.logic_programs.specs.Literals.{setOf}
-use Rattle.answer_sets.specs.Verdicts.{bothValues}
+use Rattle.answer_set_theory.specs.Verdicts.{bothValues}
 use Rattle.answer_sets.proofs.Stores.{both-values}
 use Rattle.answer_sets.proofs.faults.first_clash.Statement.{statement}
 use Rattle.answer_sets.proofs.faults.first_clash.Tie as tie

@@ -7,7 +7,7 @@ use Prim.Native.Nat.{_≤_, _-_}
 use Rattle.basics.specs.Search.{first, range}
 use Rattle.rule_tables.specs.Marks.{marked}
 use Rattle.basics.proofs.Loops.{range-stop, range-go, range-done}
-use Rattle.answer_sets.specs.Verdicts.{isUnfounded}
+use Rattle.answer_set_theory.specs.Verdicts.{isUnfounded}
 use Rattle.answer_sets.proofs.Judging.{none-unfounded}
 use Rattle.answer_sets.proofs.faults.first_unfounded.Statement.{statement}
 use Rattle.answer_sets.proofs.faults.first_unfounded.Tie as tie

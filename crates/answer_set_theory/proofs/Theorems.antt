@@ -15,15 +15,15 @@ use Rattle.basics.specs.Search.{Lowest, Nowhere}
 use Rattle.basics.specs.Replies.{Reply, answered}
 use Rattle.logic_programs.specs.Literals.{setOf, holdsTrue, holdsFalse}
 use Rattle.logic_programs.specs.AnswerSets.{reduct, AnswerSet, literalHeaded, IsLeastClosed}
-use Rattle.answer_sets.specs.Verdicts.{Verdict, clash, broken, unfounded, passes, rounds, verdict}
+use Rattle.answer_set_theory.specs.Verdicts.{Verdict, clash, broken, unfounded, passes, rounds, verdict}
 use Rattle.logic_programs.specs.Words.{rulesOf}
-use Rattle.answer_sets.specs.Answers.{tooManyValues, answer}
-use Rattle.answer_sets.specs.Demand2.{Accepted, Clashing, BrokenAt, Unfounded, RightVerdict, Demand2}
+use Rattle.answer_set_theory.specs.Answers.{tooManyValues, answer}
+use Rattle.answer_set_theory.specs.Demand2.{Accepted, Clashing, BrokenAt, Unfounded, RightVerdict, Demand2}
 use Rattle.basics.proofs.Tests.{true-or-false, not-both}
-use Rattle.answer_sets.proofs.Least.{HeadsBelow, Below, least-closed}
-use Rattle.answer_sets.proofs.FirstFault.{clash-iff, broken-iff, unfounded-iff}
-use Rattle.answer_sets.proofs.Passes.{passes-iff}
-use Rattle.answer_sets.proofs.Decoding.{accepted-below, codes-heads}
+use Rattle.answer_set_theory.proofs.Least.{HeadsBelow, Below, least-closed}
+use Rattle.answer_set_theory.proofs.FirstFault.{clash-iff, broken-iff, unfounded-iff}
+use Rattle.answer_set_theory.proofs.Passes.{passes-iff}
+use Rattle.answer_set_theory.proofs.Decoding.{accepted-below, codes-heads}
 
 pub setOf-below : (vs : List ℕ) → Below (2 * length vs) (setOf vs)
 unfolding setOf holdsTrue holdsFalse

@@ -17,7 +17,7 @@ use Rattle.logic_programs.specs.Words.{ruleFits, badRuleIn, badRule}
 use Rattle.basics.proofs.Tests.{true-of-not, and-iff, or-iff, each-map, each-append}
 use Rattle.rule_tables.proofs.Fitting.{afterRule, badRuleFrom, badRuleFrom-cons, badRuleFrom-nil, badRule-from, ruleFits-iff}
 use Rattle.rule_tables.proofs.Walking.{rulesOf-nil, rulesOf-cons}
-use Rattle.answer_sets.proofs.Least.{HeadBelow, HeadsBelow}
+use Rattle.answer_set_theory.proofs.Least.{HeadBelow, HeadsBelow}
 use borrow.Author.Tests.{ltb-true, lt-ltb, ne-eqb}
 
 -- The words of rules decode to the rules

@@ -13,12 +13,12 @@ use Rattle.logic_programs.specs.Literals.{Lits}
 use Rattle.logic_programs.specs.Rules.{Head, lit, falsum, Rule}
 use Rattle.logic_programs.specs.AnswerSets.{reduct, HeadIn, Closed, Subset, AnswerSet, literalHeaded, IsLeastClosed}
 use Rattle.rule_tables.specs.Bodies.{applies}
-use Rattle.answer_sets.specs.Verdicts.{passes, rounds, isBroken, verdict}
-use Rattle.answer_sets.specs.Demand2.{Clashing, BrokenRule, BrokenAt, Unfounded, noRule}
+use Rattle.answer_set_theory.specs.Verdicts.{passes, rounds, isBroken, verdict}
+use Rattle.answer_set_theory.specs.Demand2.{Clashing, BrokenRule, BrokenAt, Unfounded, noRule}
 use Rattle.basics.proofs.Tests.{not-both, false-of-not, true-of-not, each-map₂, each-at}
-use Rattle.answer_sets.proofs.Least.{HeadsBelow, Below, LiteralIn, applies-iff, applies-subset, reduct-closed}
-use Rattle.answer_sets.proofs.Least.{literal-closed, closed-literal, least-closed}
-use Rattle.answer_sets.proofs.FirstFault.{no-broken, faultless-iff}
+use Rattle.answer_set_theory.proofs.Least.{HeadsBelow, Below, LiteralIn, applies-iff, applies-subset, reduct-closed}
+use Rattle.answer_set_theory.proofs.Least.{literal-closed, closed-literal, least-closed}
+use Rattle.answer_set_theory.proofs.FirstFault.{no-broken, faultless-iff}
 
 -- a set is closed exactly where no rule is broken
 

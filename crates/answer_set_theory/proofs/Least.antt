@@ -14,9 +14,9 @@ use Rattle.logic_programs.specs.Literals.{Lits}
 use Rattle.logic_programs.specs.Rules.{Head, lit, falsum, Rule}
 use Rattle.logic_programs.specs.AnswerSets.{PositiveRule, meets, reduct, Within, HeadIn, Closed, Subset, literalHeaded, IsLeastClosed}
 use Rattle.rule_tables.specs.Bodies.{applies}
-use Rattle.answer_sets.specs.Verdicts.{headIs, round, rounds}
+use Rattle.answer_set_theory.specs.Verdicts.{headIs, round, rounds}
 use Rattle.basics.proofs.Tests.{true-or-false, not-both, false-of-not, true-of-not, and-iff, and-or-iff, not-iff, each-map}
-use Rattle.answer_sets.proofs.Sets.{all-within, all-not-meets, within-subset}
+use Rattle.answer_set_theory.proofs.Sets.{all-within, all-not-meets, within-subset}
 
 -- every literal head is below N
 abbrev pub HeadBelow : ℕ → Head → Type 0

@@ -6,8 +6,8 @@ use mathlib.Core.List.{List, [], _∷_}
 use Prim.Native.Nat.{ℕ}
 use Rattle.basics.specs.Replies.{Reply, refused, answered}
 use Rattle.logic_programs.specs.Words.{rulesOf}
-use Rattle.answer_sets.specs.Verdicts.{Verdict, clash, broken, unfounded, passes, rounds}
-use Rattle.answer_sets.specs.Answers.{answer}
+use Rattle.answer_set_theory.specs.Verdicts.{Verdict, clash, broken, unfounded, passes, rounds}
+use Rattle.answer_set_theory.specs.Answers.{answer}
 
 -- values and a table, and what the engine answers
 pub record Example : Type 0 where

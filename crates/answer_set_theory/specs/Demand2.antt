@@ -12,9 +12,9 @@ use Rattle.basics.specs.Replies.{Reply, answered}
 use Rattle.logic_programs.specs.Literals.{Lits, setOf, badValue}
 use Rattle.logic_programs.specs.Rules.{falsum, Rule}
 use Rattle.logic_programs.specs.AnswerSets.{meets, reduct, Within, HeadIn, AnswerSet, literalHeaded, IsLeastClosed}
-use Rattle.answer_sets.specs.Verdicts.{Verdict, clash, broken, unfounded, passes}
+use Rattle.answer_set_theory.specs.Verdicts.{Verdict, clash, broken, unfounded, passes}
 use Rattle.logic_programs.specs.Words.{rulesOf, badRule}
-use Rattle.answer_sets.specs.Answers.{tooManyValues}
+use Rattle.answer_set_theory.specs.Answers.{tooManyValues}
 
 -- neither 10 nor 11 nor 12 refuses
 abbrev pub Accepted : List ℕ → List ℕ → Type 0

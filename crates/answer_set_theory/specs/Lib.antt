@@ -1,0 +1,5 @@
+-- What the engine answers, and what its answers mean. Read in this order.
+pub mod Verdicts
+pub mod Answers
+pub mod Demand2
+pub mod Examples

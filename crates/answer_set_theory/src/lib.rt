@@ -1,0 +1,1 @@
+// Theorems on answer sets; no code.
