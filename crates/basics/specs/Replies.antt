@@ -4,6 +4,8 @@ use mathlib.Core.Option.{Option, none, some}
 use Prim.Native.Nat.{ℕ}
 use Rattle.basics.specs.declared.Found.{Found}
 use Rattle.basics.specs.declared.Found.the-variants.{At, Nothing}
+use Rattle.basics.specs.declared.Tested.{Tested}
+use Rattle.basics.specs.declared.Tested.the-variants.{Refused, Accepted}
 
 pub data Reply (A : Type 0) : Type 0 where
   refused : ℕ → ℕ → Reply A
@@ -27,6 +29,11 @@ refusalOf number Nothing = answered tt
 -- the refusal of that number at the place that a search found, or none
 abbrev pub refusal : ℕ → Option ℕ → Reply Unit
 refusal number found = orRefuse found number (answered tt)
+
+-- what the code's answer to several tests stands for
+abbrev pub testedOf : Tested → Reply Unit
+testedOf (Refused number place) = refused number place
+testedOf Accepted = answered tt
 
 -- what lent memory holds afterwards: after a refusal what it held before
 abbrev pub leftAfter : {A B : Type 0} → Reply A → (A → B) → B → B
