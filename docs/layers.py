@@ -46,30 +46,30 @@ MAY_USE = {
 
 # The lanes by bands, the highest first: where each begins and ends, from the left.
 BANDS = [
-    {"tests and benchmarks": (20, 1240)},
-    {"faces": (416, 1052)},
-    {"lent laws": (624, 844)},
-    {"engine": (20, 240), "action language": (284, 712), "text": (756, 1184)},
-    {"base": (20, 1240)},
+    {"tests and benchmarks": (20, 1448)},
+    {"faces": (624, 1260)},
+    {"lent laws": (832, 1052)},
+    {"engine": (20, 448), "action language": (492, 920), "text": (964, 1392)},
+    {"base": (20, 1448)},
 ]
 # Where a thick arrow goes down, from the left; None where it goes straight across to the lane on the left.
 DOWN = {
-    ("tests and benchmarks", "faces"): 734,
+    ("tests and benchmarks", "faces"): 942,
     ("tests and benchmarks", "engine"): 80,
-    ("tests and benchmarks", "action language"): 350,
-    ("tests and benchmarks", "text"): 1118,
-    ("tests and benchmarks", "base"): 1212,
-    ("faces", "lent laws"): 734,
-    ("faces", "engine"): 180,
-    ("faces", "action language"): 520,
-    ("faces", "text"): 948,
-    ("lent laws", "action language"): 668,
-    ("lent laws", "text"): 800,
+    ("tests and benchmarks", "action language"): 558,
+    ("tests and benchmarks", "text"): 1326,
+    ("tests and benchmarks", "base"): 1420,
+    ("faces", "lent laws"): 942,
+    ("faces", "engine"): 388,
+    ("faces", "action language"): 728,
+    ("faces", "text"): 1156,
+    ("lent laws", "action language"): 876,
+    ("lent laws", "text"): 1008,
     ("action language", "engine"): None,
     ("text", "action language"): None,
-    ("engine", "base"): 130,
-    ("action language", "base"): 498,
-    ("text", "base"): 970,
+    ("engine", "base"): 234,
+    ("action language", "base"): 706,
+    ("text", "base"): 1178,
 }
 APART = "tests and benchmarks"  # its lane has a colour of its own
 
