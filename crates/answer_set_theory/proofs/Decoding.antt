@@ -8,17 +8,17 @@ use mathlib.Core.Option.{none}
 use Prim.Native.Nat.{ℕ, zero, suc, _+_, _*_, _≤_, _<_}
 use native.Mathlib.Omega.{arith}
 use lib.Dec.{eqb, ltb}
-use lib.ListN.{length, getD, take, drop, length-append}
-use lib.Seq.{drop-drop, take-append-seam, drop-append-seam, take-at, take-add}
+use lib.ListN.{length, getD, take, drop, length-append, length-drop, take-append-drop}
+use lib.Seq.{drop-drop, take-append-seam, drop-append-seam, take-at, take-add, length-take-le}
 use Rattle.basics.specs.Search.{Each}
 use Rattle.logic_programs.specs.Rules.{Head, lit, falsum, Rule}
 use Rattle.logic_programs.specs.Words.{headWord, ruleWords, words, headOf, ruleSize, ruleAt, rulesIn, rulesOf, headFits}
 use Rattle.logic_programs.specs.Words.{ruleFits, badRuleIn, badRule}
 use Rattle.basics.proofs.Tests.{true-of-not, and-iff, or-iff, each-map, each-append}
-use Rattle.rule_tables.proofs.Fitting.{afterRule, badRuleFrom, badRuleFrom-cons, badRuleFrom-nil, badRule-from, ruleFits-iff}
+use Rattle.rule_tables.proofs.Fitting.{afterRule, fewer, badRuleFrom, badRuleFrom-cons, badRuleFrom-nil, badRule-from, ruleFits-iff}
 use Rattle.rule_tables.proofs.Walking.{rulesOf-nil, rulesOf-cons}
 use Rattle.answer_set_theory.proofs.Least.{HeadBelow, HeadsBelow}
-use borrow.Author.Tests.{ltb-true, lt-ltb, ne-eqb}
+use borrow.Author.Tests.{ltb-true, lt-ltb, eqb-true, ne-eqb}
 
 -- The words of rules decode to the rules
 
@@ -87,7 +87,7 @@ word-fits : (n : ℕ) (h : Head) → HeadBelow (2 * n) h → headFits n (headWor
 word-fits n (lit c) b = or-iff (eqb c 65535) (ltb c (2 * n)) .1 (inr (lt-ltb c (2 * n) b))
 word-fits n falsum b = refl
 
-rule-fits : (n : ℕ) (r : Rule) (ws : List ℕ) → RuleBelow (2 * n) r → ruleFits n (ruleWords r ++ ws) ≡ true
+pub rule-fits : (n : ℕ) (r : Rule) (ws : List ℕ) → RuleBelow (2 * n) r → ruleFits n (ruleWords r ++ ws) ≡ true
 rule-fits n r ws b =
     ruleFits-iff n (ruleWords r ++ ws) .1 (
       omega (arith, length-append parts ws, length-append (r .negated) (r .plain)),
@@ -125,6 +125,34 @@ accepted-rule n ws e =
     let (negated, plain) = each-append (λ c. c < 2 * n) (r .negated) (r .plain) .0 parts′ in
     (accepted-head n (getD ws 0 0) head, negated, plain)
 
+-- the front of an accepted table is the words of its first rule
+pub word-headOf : (w : ℕ) → headWord (headOf w) ≡ w
+word-headOf w = go (eqb w 65535) refl
+  where
+    go : (b : Bool) → eqb w 65535 ≡ b → headWord (headOf w) ≡ w
+    go true t = rw t (sym (eqb-true w 65535 t))
+    go false f = rw f
+
+words-front : (ws : List ℕ) → ruleSize ws ≤ length ws → ruleWords (ruleAt ws) ++ afterRule ws ≡ ws
+words-front [] h = absurd (omega arith)
+words-front (w ∷ []) h = absurd (omega arith)
+words-front (w ∷ a ∷ []) h = absurd (omega arith)
+words-front (w ∷ a ∷ b ∷ rest) h =
+    let plain-on : drop (3 + a) (w ∷ a ∷ b ∷ rest) ≡ drop a rest = sym (drop-drop a 3 (w ∷ a ∷ b ∷ rest)) in
+    let rest-on : drop (3 + a + b) (w ∷ a ∷ b ∷ rest) ≡ drop b (drop a rest) =
+    sym (drop-drop b (3 + a) (w ∷ a ∷ b ∷ rest)) ∙ ap (drop b) plain-on in
+    let joined : (take a rest ++ take b (drop a rest)) ++ drop b (drop a rest) ≡ rest =
+    append-assoc (take a rest) (take b (drop a rest)) (drop b (drop a rest))
+    ∙ rw (take-append-drop b (drop a rest)) (take-append-drop a rest) in
+    rw (
+      rest-on,
+      plain-on,
+      word-headOf w,
+      joined,
+      length-take-le a rest (omega arith),
+      length-take-le b (drop a rest) (omega (arith, length-drop a rest)),
+    )
+
 -- nothing was refused from word `at` on, with k rules before
 module _ (n : ℕ) where
   accepted-step : (f k at w : ℕ) (ws : List ℕ) → badRuleIn (suc f) n k at (w ∷ ws) ≡ none
@@ -148,6 +176,16 @@ module _ (n : ℕ) where
       let (few′, _, rest) = accepted-step f k at w ws e in
       omega (arith, count-in f (suc k) (at + ruleSize (w ∷ ws)) (afterRule (w ∷ ws)) rest few′)
 
+  words-in : (f k at : ℕ) (ws : List ℕ) → length ws ≤ f → badRuleIn f n k at ws ≡ none → words (rulesIn f ws) ≡ ws
+  words-in zero k at [] few e = refl
+  words-in zero k at (w ∷ ws) few e = absurd (omega arith)
+  words-in (suc f) k at [] few e = refl
+  words-in (suc f) k at (w ∷ ws) few e =
+      let (_, fits, rest) = accepted-step f k at w ws e in
+      ap (λ (l : List ℕ). ruleWords (ruleAt (w ∷ ws)) ++ l)
+      (words-in f (suc k) (at + ruleSize (w ∷ ws)) (afterRule (w ∷ ws)) (fewer w ws f few) rest)
+      ∙ words-front (w ∷ ws) (ruleFits-iff n (w ∷ ws) .0 fits .0)
+
   pub accepted-below : (ws : List ℕ) → badRule n ws ≡ none → CodesBelow (2 * n) (rulesOf ws)
   unfolding badRule rulesOf
   accepted-below ws e = below-in (length ws) 0 0 ws e
@@ -155,3 +193,7 @@ module _ (n : ℕ) where
   pub accepted-count : (ws : List ℕ) → badRule n ws ≡ none → length (rulesOf ws) ≤ 4096
   unfolding badRule rulesOf
   accepted-count ws e = omega (arith, count-in (length ws) 0 0 ws e (omega arith))
+
+  pub accepted-words : (ws : List ℕ) → badRule n ws ≡ none → words (rulesOf ws) ≡ ws
+  unfolding badRule rulesOf
+  accepted-words ws e = words-in (length ws) 0 0 ws (omega arith) e

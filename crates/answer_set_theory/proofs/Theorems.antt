@@ -25,17 +25,20 @@ use Rattle.answer_set_theory.proofs.FirstFault.{clash-iff, broken-iff, 
 use Rattle.answer_set_theory.proofs.Passes.{passes-iff}
 use Rattle.answer_set_theory.proofs.Decoding.{accepted-below, codes-heads}
 
-pub setOf-below : (vs : List ℕ) → Below (2 * length vs) (setOf vs)
+-- an atom of value 0 has no literal in the set
+pub no-literal : (vs : List ℕ) (c : ℕ) → getD vs (c / 2) 0 ≡ 0 → setOf vs c ≡ false
 unfolding setOf holdsTrue holdsFalse
-setOf-below vs c e = ⊎-elim (λ t. omega (arith, ltb-true (c / 2) (length vs) t)) past (true-or-false (ltb (c / 2) (length vs)))
+no-literal vs c e = rw e (neither (eqb (c % 2) 0))
   where
     neither : (b : Bool) → cond b (holdsTrue 0) (holdsFalse 0) ≡ false
     neither true = refl
     neither false = refl
 
+pub setOf-below : (vs : List ℕ) → Below (2 * length vs) (setOf vs)
+setOf-below vs c e = ⊎-elim (λ t. omega (arith, ltb-true (c / 2) (length vs) t)) past (true-or-false (ltb (c / 2) (length vs)))
+  where
     past : ltb (c / 2) (length vs) ≡ false → c < 2 * length vs
-    past f = let out : getD vs (c / 2) 0 ≡ 0 = List·getD-eq-default vs 0 (ltb-false (c / 2) (length vs) f) in
-        absurd (not-both (rw out at e) (neither (eqb (c % 2) 0)))
+    past f = absurd (not-both e (no-literal vs c (List·getD-eq-default vs 0 (ltb-false (c / 2) (length vs) f))))
 
 pub few-values : (vs : List ℕ) → tooManyValues vs ≡ none → length vs ≤ 1024
 few-values vs e = go (ltb 1024 (length vs)) refl e

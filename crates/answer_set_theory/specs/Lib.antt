@@ -2,4 +2,6 @@
 pub mod Verdicts
 pub mod Answers
 pub mod Demand2
+pub mod Limits
 pub mod Examples
+pub mod LimitExamples

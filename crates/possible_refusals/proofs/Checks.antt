@@ -43,7 +43,7 @@ use Rattle.reader_bounds.proofs.Accepting.{taken-accepted}
 use Rattle.reader_bounds.proofs.Recording.{taken-valued}
 use Rattle.inputs.specs.Inputs.{movedBy, recordedIn}
 use Rattle.possible_refusals.specs.Refusals.{among, RefusedBy, WhichRefusals}
-use Rattle.possible_refusals.proofs.Readers.{refused-more, described-by, history-by, input-by}
+use Rattle.possible_refusals.proofs.Readers.{refused-more, described-by, history-by, input-by, taken-history-by, taken-input-by}
 
 -- what a search refuses, and what comes next
 or-refused : {A : Type 0} (numbers : List ℕ) (o : Option ℕ) (number : ℕ) (next : Reply A) → among number numbers ≡ true
@@ -169,6 +169,8 @@ which-refusals = record {
   description = λ lent text. described-by lent text;
   history = history-by;
   input = input-by;
+  taken-history = λ text d rest lines behind room is. taken-history-by text d rest lines is behind room;
+  taken-input = λ bytes d rest lines is. taken-input-by bytes d rest lines is;
   translation = λ text d rest lines room is. translation-by text d rest lines is room;
   large-table = λ text d rest lines room is large. large-by text d rest lines is room large;
   check = λ text d rest lines vs room is. check-by text d rest lines is vs room;

@@ -1,31 +1,36 @@
 -- The numbers by which the readers refuse a text.
 -- Assumes nothing.
-use mathlib.Core.Path.{_≡_, refl}
+use mathlib.Core.Path.{_≡_, refl, subst, ap}
 use mathlib.Core.Logic.{⊎-elim}
 use mathlib.Core.Bool.{Bool, true, false, cond}
-use mathlib.Core.List.{List, [], _∷_}
+use mathlib.Core.List.{List, [], _∷_, _++_}
 use mathlib.Core.Option.{Option, none, some}
-use Prim.Native.Nat.{ℕ, zero, suc}
-use borrow.Author.Tests.{eq-eqb, eqb-true}
+use Prim.Native.Nat.{ℕ, zero, suc, _+_, min, _≤_}
+use native.Mathlib.Omega.{arith}
+use borrow.Author.Tests.{eq-eqb, eqb-true, ltb-false, le-ltb}
 use lib.Dec.{eqb, ltb}
-use lib.ListN.{length, replicate}
-use Rattle.basics.specs.Search.{all}
+use lib.ListN.{length, take, drop, replicate, length-append, length-take, length-drop}
+use Rattle.basics.specs.Search.{all, first}
 use Rattle.basics.specs.Replies.{Reply, refused, answered}
 use Rattle.basics.proofs.Tests.{not-both, and-iff, or-iff}
 use Rattle.action_language.specs.declared.Head.{Head}
 use Rattle.action_language.specs.declared.Kind.{Kind}
 use Rattle.action_language.specs.declared.Kind.the-variants.{Static, Dynamic}
-use Rattle.text.specs.Lines.{endKey, Line, firstLine}
+use Rattle.text.specs.Bytes.{newline, comma, equalsSign, cutAt, cut}
+use Rattle.text.specs.Lines.{endKey, Line, keyed, valued, ended, keyNumber, firstLine}
+use Rattle.text.specs.Names.{literal}
 use Rattle.text.specs.Lists as lists
-use Rattle.text.specs.Lists.{Listed, codes, listOf}
+use Rattle.text.specs.Lists.{Listed, codes, itemsIn, items, added, listFrom, listOf}
+use Rattle.text.proofs.Cutting.{first-inside}
 use Rattle.description_reader.specs.LineSteps as step
 use Rattle.description_reader.specs.LineSteps.{Due, horizonDue, Draft, Step, next, finish, withIf, lineStep}
 use Rattle.description_reader.specs.Descriptions.{Taken, read, afterStep, afterFirst, blank, linesFrom, described}
 use Rattle.history_reader.specs.Histories as histories
 use Rattle.history_reader.specs.Histories.{atEnd, historyEnd, listed, listLine, undoneFalse, statesFrom, atoms}
 use Rattle.history_reader.specs.Histories.{recorded, byNames, readHistory}
-use Rattle.reader_bounds.proofs.LineCases.{chosen, list-cases, Cases, line-cases}
-use Rattle.inputs.specs.Inputs.{movedBy, afterDescription, recordedIn}
+use Rattle.reader_bounds.proofs.Drafts.{BoundedReply, bounded}
+use Rattle.reader_bounds.proofs.LineCases.{chosen, Cases, line-cases}
+use Rattle.inputs.specs.Inputs.{movedBy, recordedIn}
 use Rattle.possible_refusals.specs.Refusals.{among, RefusedBy}
 
 -- a number among some is among others that hold them all
@@ -41,14 +46,49 @@ pub refused-more : {A : Type 0} (few many : List ℕ) → all (λ c. among c man
 refused-more few many e (refused number place) h = among-more few many number e h
 refused-more few many e (answered a) h = tt
 
--- Lists
+-- Lists of a history: they are of any number, since no text holds too many
 
 abbrev ListedBy : List ℕ → Listed → Type 0
 ListedBy numbers (lists.refused k) = among k numbers ≡ true
 ListedBy numbers (codes cs) = Unit
 
-list-by : (names : List (List ℕ)) (low high most : ℕ) (value : List ℕ) → ListedBy (5 ∷ 6 ∷ []) (listOf names low high most value)
-list-by names low high most = list-cases names low high most (ListedBy (5 ∷ 6 ∷ [])) refl refl (λ _ _. tt)
+-- each item takes a comma or the end
+module _ (k : ℕ) (bs : List ℕ) (again : (back : List ℕ) → length (itemsIn k back) ≤ suc (length back)) where
+  few-from : (o : Option ℕ) → first (eqb comma) 0 bs ≡ o → length (itemsIn (suc k) bs) ≤ suc (length bs)
+  unfolding cut
+  few-from none e = rw e (omega arith)
+  few-from (some i) e =
+      let inside = first-inside (eqb comma) bs i e in
+      rw e (omega (arith, again (drop (suc i) bs), length-drop (suc i) bs))
+
+few-in : (k : ℕ) (bs : List ℕ) → length (itemsIn k bs) ≤ suc (length bs)
+few-in zero bs = omega arith
+few-in (suc k) bs = few-from k bs (few-in k) (first (eqb comma) 0 bs) refl
+
+few-items : (value : List ℕ) → length (items value) ≤ suc (length value)
+unfolding items
+few-items [] = omega arith
+few-items (b ∷ bs) = few-in (suc (length (b ∷ bs))) (b ∷ bs)
+
+-- where there is room for all items only 6 comes
+items-by : (names : List (List ℕ)) (low high most : ℕ) (done : List ℕ) (xs : List (List ℕ)) → length done + length xs ≤ most
+    → ListedBy (6 ∷ []) (listFrom names low high most done xs)
+items-by names low high most done [] room = tt
+items-by names low high most done (x ∷ xs) room =
+    chosen (ListedBy (6 ∷ [])) (ltb (length done) most)
+    (λ _. by-literal (literal names low high x)
+    (λ c. items-by names low high most (done ++ (c ∷ [])) xs (omega (arith, length-append done (c ∷ [])))))
+    (λ full. absurd (omega (arith, ltb-false (length done) most full)))
+  where
+    by-literal : (o : Option ℕ) → ((c : ℕ) → ListedBy (6 ∷ []) (listFrom names low high most (done ++ (c ∷ [])) xs))
+        → ListedBy (6 ∷ []) (added done o (λ more. listFrom names low high most more xs))
+    by-literal none later = refl
+    by-literal (some c) later = later c
+
+list-by : (names : List (List ℕ)) (low high : ℕ) (value : List ℕ) → length value ≤ 65535
+    → ListedBy (6 ∷ []) (listOf names low high histories.most value)
+unfolding listOf
+list-by names low high value short = items-by names low high histories.most [] (items value) (omega (arith, few-items value))
 
 -- Descriptions
 
@@ -114,83 +154,148 @@ module _ (lent : ℕ) where
 
 -- Histories
 
-abbrev seven : List ℕ
-seven = 1 ∷ 2 ∷ 3 ∷ 4 ∷ 5 ∷ 6 ∷ 7 ∷ []
+-- the numbers by which the lines of a history are refused
+abbrev own : List ℕ
+own = 2 ∷ 6 ∷ 7 ∷ []
 
-abbrev Seven : Reply (List ℕ) → Type 0
-Seven r = RefusedBy seven r
+abbrev Own : Reply (List ℕ) → Type 0
+Own r = RefusedBy own r
+
+-- a line's value and what stands behind it, where there is a line
+abbrev Short : Option Line → Type 0
+Short none = Unit
+Short (some l) = (length (l .value) ≤ 65535) × (length (l .rest) ≤ 65535)
+
+line-short : (text : List ℕ) → length text ≤ 65535 → Short (firstLine text)
+unfolding firstLine cut
+line-short text small = by-end (first (eqb newline) 0 text)
+  where
+    by-key : (o : Option ℕ) (value rest : List ℕ) → length value ≤ 65535 → length rest ≤ 65535 → Short (keyed o value rest)
+    by-key none value rest v r = tt
+    by-key (some k) value rest v r = (v, r)
+
+    by-sign : (i : ℕ) (o : Option ℕ) → Short (valued (cutAt (take i text) o) (drop (suc i) text))
+    by-sign i none = tt
+    by-sign i (some j) =
+        by-key (keyNumber (take j (take i text))) (drop (suc j) (take i text)) (drop (suc i) text)
+        (omega (arith, length-drop (suc j) (take i text), length-take i text)) (omega (arith, length-drop (suc i) text))
+
+    by-end : (o : Option ℕ) → Short (ended (cutAt text o))
+    by-end none = tt
+    by-end (some i) = by-sign i (first (eqb equalsSign) 0 (take i text))
 
 module _ (line : ℕ) where
-  at-end : (vs rest : List ℕ) → Seven (atEnd vs line rest)
+  at-end : (vs rest : List ℕ) → Own (atEnd vs line rest)
   at-end vs [] = tt
   at-end vs (b ∷ bs) = refl
 
-  history-end : (o : Option Line) (vs : List ℕ) → Seven (historyEnd o line vs)
+  history-end : (o : Option Line) (vs : List ℕ) → Own (historyEnd o line vs)
   history-end none vs = refl
   history-end (some l) vs = by-value (l .value) refl
     where
-      by-value : (v : List ℕ) → l .value ≡ v → Seven (historyEnd (some l) line vs)
-      by-value [] e = chosen Seven (eqb (l .key) endKey) (λ _. rw e (at-end vs (l .rest))) (λ _. refl)
-      by-value (b ∷ bs) e = chosen Seven (eqb (l .key) endKey) (λ _. rw e refl) (λ _. refl)
+      by-value : (v : List ℕ) → l .value ≡ v → Own (historyEnd (some l) line vs)
+      by-value [] e = chosen Own (eqb (l .key) endKey) (λ _. rw e (at-end vs (l .rest))) (λ _. refl)
+      by-value (b ∷ bs) e = chosen Own (eqb (l .key) endKey) (λ _. rw e refl) (λ _. refl)
 
-  listed-by : (l : Listed) (base : ℕ) (vs : List ℕ) (go : List ℕ → Reply (List ℕ)) → ListedBy (5 ∷ 6 ∷ []) l
-      → ((vs′ : List ℕ) → Seven (go vs′))
-      → Seven (listed l line base vs go)
-  listed-by (lists.refused k) base vs go h later = among-more (5 ∷ 6 ∷ []) seven k refl h
+  listed-by : (l : Listed) (base : ℕ) (vs : List ℕ) (go : List ℕ → Reply (List ℕ)) → ListedBy (6 ∷ []) l
+      → ((vs′ : List ℕ) → Own (go vs′))
+      → Own (listed l line base vs go)
+  listed-by (lists.refused k) base vs go h later = among-more (6 ∷ []) own k refl h
   listed-by (codes cs) base vs go h later = later _
 
   list-line-by : (d : Draft) (key low high : ℕ) (o : Option Line) (base : ℕ) (vs : List ℕ) (go : List ℕ → List ℕ → Reply (List ℕ))
-      → ((vs′ rest : List ℕ) → Seven (go vs′ rest)) → Seven (listLine d key low high o line base vs go)
-  list-line-by d key low high none base vs go later = refl
-  list-line-by d key low high (some l) base vs go later =
-      chosen Seven (eqb (l .key) key)
+      → Short o → ((vs′ rest : List ℕ) → length rest ≤ 65535 → Own (go vs′ rest)) → Own (listLine d key low high o line base vs go)
+  list-line-by d key low high none base vs go short later = refl
+  list-line-by d key low high (some l) base vs go short later =
+      chosen Own (eqb (l .key) key)
       (λ _. listed-by (listOf (d .names) low high histories.most (l .value)) base vs (λ vs′. go vs′ (l .rest))
-      (list-by (d .names) low high histories.most (l .value)) (λ vs′. later vs′ (l .rest)))
+      (list-by (d .names) low high (l .value) (short .0)) (λ vs′. later vs′ (l .rest) (short .1)))
       (λ _. refl)
 
-states-by : (n : ℕ) (d : Draft) (t line : ℕ) (vs text : List ℕ) → Seven (statesFrom n d t line vs text)
-states-by zero d t line vs text =
-    list-line-by line d _ _ _ (firstLine text) _ vs _ (λ vs′ rest. history-end (suc line) (firstLine rest) vs′)
-states-by (suc n) d t line vs text =
-    list-line-by line d _ _ _ (firstLine text) _ vs _
-    (λ vs′ rest.
-    list-line-by (suc line) d _ _ _ (firstLine rest) _ vs′ _
-    (λ vs″ rest′. states-by n d (suc t) (suc (suc line)) (undoneFalse d t vs″) rest′))
+states-by : (n : ℕ) (d : Draft) (t line : ℕ) (vs text : List ℕ) → length text ≤ 65535 → Own (statesFrom n d t line vs text)
+states-by zero d t line vs text small =
+    list-line-by line d _ _ _ (firstLine text) _ vs _ (line-short text small)
+    (λ vs′ rest _. history-end (suc line) (firstLine rest) vs′)
+states-by (suc n) d t line vs text small =
+    list-line-by line d _ _ _ (firstLine text) _ vs _ (line-short text small)
+    (λ vs′ rest small′.
+    list-line-by (suc line) d _ _ _ (firstLine rest) _ vs′ _ (line-short rest small′)
+    (λ vs″ rest′ small″. states-by n d (suc t) (suc (suc line)) (undoneFalse d t vs″) rest′ small″))
 
--- behind the test of the buffer's length
-behind-length : (d : Draft) (text : List ℕ)
-    → Seven (cond (ltb 65535 (length text)) (refused 1 0) (statesFrom (d .horizon) d 0 1 (replicate (atoms d) 0) text))
-behind-length d text = chosen Seven (ltb 65535 (length text)) (λ _. refl) (λ _. states-by (d .horizon) d 0 1 (replicate (atoms d) 0) text)
+-- behind a description that was taken: the history's length, the buffer's length, and the lines
+abbrev behind : List ℕ
+behind = 1 ∷ 2 ∷ 6 ∷ 7 ∷ 10 ∷ []
+
+recorded-by : (d : Draft) (text : List ℕ) (room : ℕ) → RefusedBy behind (recorded d text room)
+recorded-by d text room = by-room (eqb room (atoms d)) refl
+  where
+    by-length : RefusedBy behind (cond (ltb 65535 (length text)) (refused 1 0) (statesFrom (d .horizon) d 0 1 (replicate (atoms d) 0) text))
+    by-length =
+        chosen (RefusedBy behind) (ltb 65535 (length text)) (λ _. refl)
+        (λ small. refused-more own behind refl (statesFrom (d .horizon) d 0 1 (replicate (atoms d) 0) text)
+        (states-by (d .horizon) d 0 1 (replicate (atoms d) 0) text (ltb-false 65535 (length text) small)))
+
+    by-room : (b : Bool) → eqb room (atoms d) ≡ b → RefusedBy behind (recorded d text room)
+    by-room true e = rw e by-length
+    by-room false e = rw e refl
+
+module _ (description : List ℕ) (d : Draft) (rest : List ℕ) (lines : ℕ) (is : described 64 description ≡ answered (read d rest lines)) where
+  pub taken-history-by : (text : List ℕ) (room : ℕ) → RefusedBy behind (readHistory description text room)
+  unfolding readHistory
+  taken-history-by text room = rw is (recorded-by d text room)
+
+  text-short : length description ≤ 65535
+  unfolding described
+  text-short = by-length (ltb 65535 (length description)) refl is
+    where
+      by-length : (b : Bool) → ltb 65535 (length description) ≡ b
+          → cond b (refused 1 0) (linesFrom (suc (length description)) 64 1 horizonDue blank description) ≡ answered (read d rest lines)
+          → length description ≤ 65535
+      by-length true q e = absurd (let z : _≡_ {A = ℕ} 0 1 = cc in omega arith)
+      by-length false q e = ltb-false 65535 (length description) q
+
+  -- the rest is an end of the text
+  rest-short : length rest ≤ 65535
+  rest-short =
+      let end = subst (BoundedReply description (min 64 64) 65537) is (bounded 64 description) .behind in
+      omega (arith, text-short, ap length (end .whole), length-append (end .front) rest)
+
+  -- a whole input: the buffer has the length that is due, and the rest of the text is short
+  rest-by : Own (readHistory description rest (atoms d))
+  unfolding readHistory
+  rest-by =
+      rw (is, eq-eqb (atoms d) (atoms d) refl, le-ltb 65535 (length rest) rest-short)
+      (states-by (d .horizon) d 0 1 (replicate (atoms d) 0) rest rest-short)
+
+  pub taken-input-by : Own (recordedIn description)
+  unfolding recordedIn
+  taken-input-by = rw is (moved-by (readHistory description rest (atoms d)) rest-by)
+    where
+      moved-by : (r : Reply (List ℕ)) → Own r → Own (movedBy lines r)
+      moved-by (refused number place) h = h
+      moved-by (answered vs) h = tt
+
+-- the same, whether the description is taken or not
+
+abbrev seven : List ℕ
+seven = 1 ∷ 2 ∷ 3 ∷ 4 ∷ 5 ∷ 6 ∷ 7 ∷ []
 
 abbrev eight : List ℕ
 eight = 1 ∷ 2 ∷ 3 ∷ 4 ∷ 5 ∷ 6 ∷ 7 ∷ 10 ∷ []
 
-names-by : (o : Reply Taken) (text : List ℕ) (room : ℕ) → RefusedBy six o → RefusedBy eight (byNames o text room)
-names-by (refused number place) text room h = among-more six eight number refl h
-names-by (answered (read d rest lines)) text room h = by-room (eqb room (atoms d)) refl
-  where
-    by-room : (b : Bool) → eqb room (atoms d) ≡ b → RefusedBy eight (recorded d text room)
-    by-room true e =
-        rw e
-        (refused-more seven eight refl
-        (cond (ltb 65535 (length text)) (refused 1 0) (statesFrom (d .horizon) d 0 1 (replicate (atoms d) 0) text))
-        (behind-length d text))
-    by-room false e = rw e refl
-
 pub history-by : (description text : List ℕ) (room : ℕ) → RefusedBy eight (readHistory description text room)
 unfolding readHistory
-history-by description text room = names-by (described 64 description) text room (described-by 64 description)
+history-by description text room = by-description (described 64 description) (described-by 64 description)
+  where
+    by-description : (o : Reply Taken) → RefusedBy six o → RefusedBy eight (byNames o text room)
+    by-description (refused number place) h = among-more six eight number refl h
+    by-description (answered (read d rest lines)) h = refused-more behind eight refl (recorded d text room) (recorded-by d text room)
 
--- a whole input: the buffer has the length that is due
 pub input-by : (input : List ℕ) → RefusedBy seven (recordedIn input)
-unfolding recordedIn readHistory
+unfolding recordedIn
 input-by input = by-description (described 64 input) refl (described-by 64 input)
   where
-    moved-by : (lines : ℕ) (r : Reply (List ℕ)) → Seven r → Seven (movedBy lines r)
-    moved-by lines (refused number place) h = h
-    moved-by lines (answered vs) h = tt
-
-    by-description : (o : Reply Taken) → described 64 input ≡ o → RefusedBy six o → Seven (afterDescription input o)
-    by-description (refused number place) is h = among-more six seven number refl h
+    by-description : (o : Reply Taken) → described 64 input ≡ o → RefusedBy six o → RefusedBy seven (recordedIn input)
+    by-description (refused number place) is h = rw is (among-more six seven number refl h)
     by-description (answered (read d rest lines)) is h =
-        moved-by lines (readHistory input rest (atoms d)) (rw (is, eq-eqb (atoms d) (atoms d) refl) (behind-length d rest))
+        refused-more own seven refl (recordedIn input) (taken-input-by input d rest lines is)

@@ -33,6 +33,13 @@ pub record WhichRefusals : Type 0 where
   pub history : (text behind : List ℕ) (room : ℕ) → RefusedBy (1 ∷ 2 ∷ 3 ∷ 4 ∷ 5 ∷ 6 ∷ 7 ∷ 10 ∷ []) (readHistory text behind room)
   -- of a whole input: the buffer is as long as the atoms are many
   pub input : (bytes : List ℕ) → RefusedBy (1 ∷ 2 ∷ 3 ∷ 4 ∷ 5 ∷ 6 ∷ 7 ∷ []) (recordedIn bytes)
+  -- the same behind a description that was taken: the history's own lines come, and none is refused by 5, since its lists are of
+  -- any number; of a whole input not even 1, since what stands behind the description is shorter than the input
+  pub taken-history : (text : List ℕ) (d : Draft) (rest : List ℕ) (lines : ℕ) (behind : List ℕ) (room : ℕ)
+      → described 64 text ≡ answered (read d rest lines)
+      → RefusedBy (1 ∷ 2 ∷ 6 ∷ 7 ∷ 10 ∷ []) (readHistory text behind room)
+  pub taken-input : (bytes : List ℕ) (d : Draft) (rest : List ℕ) (lines : ℕ) → described 64 bytes ≡ answered (read d rest lines)
+      → RefusedBy (2 ∷ 6 ∷ 7 ∷ []) (recordedIn bytes)
   -- behind a description that was taken neither 8 nor 3 comes, and 9 only for a table of fewer than 30,912 words
   pub translation : (text : List ℕ) (d : Draft) (rest : List ℕ) (lines room : ℕ) → described 64 text ≡ answered (read d rest lines)
       → RefusedBy (9 ∷ []) (outcome (descriptionOf d) (d .laws) 64 room)

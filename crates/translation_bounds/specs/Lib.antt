@@ -1,0 +1,2 @@
+-- What a translated table holds.
+pub mod Tables
