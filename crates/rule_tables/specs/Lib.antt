@@ -1,5 +1,6 @@
 -- What the promises on rule tables, marks and values mean.
 pub mod Marks
 pub mod Bodies
+pub mod Faults
 pub mod Internal
 pub mod MarkExamples
