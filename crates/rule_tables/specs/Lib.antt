@@ -2,5 +2,6 @@
 pub mod Marks
 pub mod Bodies
 pub mod Faults
+pub mod Acceptance
 pub mod Internal
 pub mod MarkExamples
