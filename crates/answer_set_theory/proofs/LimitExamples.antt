@@ -20,7 +20,7 @@ use Rattle.rule_tables.proofs.Fitting.{badRuleFrom, badRuleFrom-cons, badRule-f
 use Rattle.rule_tables.proofs.Walking.{rulesOf-nil}
 use Rattle.answer_set_theory.specs.Verdicts.{verdict, clash, passes}
 use Rattle.answer_set_theory.specs.Answers.{answer}
-use Rattle.answer_set_theory.specs.Demand2.{Accepted}
+use Rattle.rule_tables.specs.Acceptance.{Accepted}
 use Rattle.answer_set_theory.specs.Limits.{RuleOver, AcceptedValues, AcceptedTable}
 use Rattle.answer_set_theory.specs.LimitExamples.{acceptedTables, IsAccepted, badTables, IsBad, fact, facts, LimitsHold}
 use Rattle.answer_set_theory.proofs.Decoding.{rule-fits}

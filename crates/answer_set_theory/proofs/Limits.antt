@@ -16,7 +16,7 @@ use Rattle.basics.proofs.Lists.{none-iff}
 use Rattle.logic_programs.specs.Literals.{badValue}
 use Rattle.logic_programs.specs.Rules.{Head, lit, falsum, Rule}
 use Rattle.logic_programs.specs.Words.{rulesOf, badRule}
-use Rattle.answer_set_theory.specs.Answers.{tooManyValues}
+use Rattle.rule_tables.specs.Acceptance.{tooManyValues}
 use Rattle.answer_set_theory.specs.Limits.{LiteralOver, HeadOver, RuleOver, AcceptedValues, AcceptedTable, WithinLimits}
 use Rattle.answer_set_theory.proofs.Least.{HeadBelow}
 use Rattle.answer_set_theory.proofs.Decoding.{RuleBelow, CodesBelow, codes-coded, rules-words, words-accepted}

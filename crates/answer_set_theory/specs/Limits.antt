@@ -9,7 +9,7 @@ use lib.ListN.{length}
 use Rattle.basics.specs.Search.{Each}
 use Rattle.logic_programs.specs.Rules.{Head, lit, falsum, Rule}
 use Rattle.logic_programs.specs.Words.{words, rulesOf}
-use Rattle.answer_set_theory.specs.Demand2.{Accepted}
+use Rattle.rule_tables.specs.Acceptance.{Accepted}
 
 -- c is the code of a literal over n atoms
 abbrev pub LiteralOver : ℕ → ℕ → Type 0

@@ -15,9 +15,10 @@ use Rattle.basics.specs.Replies.{Reply, refused, answered, orElse}
 use Rattle.basics.proofs.Tests.{or-iff}
 use Rattle.logic_programs.specs.Literals.{setOf, holdsTrue, holdsFalse, noneOrBoth}
 use Rattle.logic_programs.proofs.Values.{lowest-none-or-both, nowhere-none-or-both}
+use Rattle.rule_tables.specs.Acceptance.{Accepted}
 use Rattle.answer_set_theory.specs.Verdicts.{Verdict, clash}
 use Rattle.answer_set_theory.specs.Answers as engine
-use Rattle.answer_set_theory.specs.Demand2.{Accepted, Clashing, Demand2}
+use Rattle.answer_set_theory.specs.Demand2.{Clashing, Demand2}
 use Rattle.answer_set_theory.proofs.Theorems.{demand-2}
 use Rattle.logic_programs.specs.Literals.{NoValue, BothValues, NoneOrBoth}
 use Rattle.completion_theory.proofs.Tightness.{even-in, odd-in}
