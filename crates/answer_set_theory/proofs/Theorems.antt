@@ -1,12 +1,11 @@
 -- What the engine's answers mean, on value bytes and words: it passes exactly the answer sets, its rounds reach the least
 -- closed set, and each fault is the lowest of its kind.
 -- Assumes nothing.
-use mathlib.Core.Path.{_≡_, refl}
+use mathlib.Core.Path.{_≡_, refl, sym}
 use mathlib.Core.Logic.{_↔_, ⊎-elim, Iff·trans}
 use mathlib.Core.Bool.{Bool, true, false, cond}
 use mathlib.Core.List.{List}
-use mathlib.Core.Option.{none, some}
-use Prim.Native.Nat.{ℕ, _*_, _/_, _%_, _≤_, _<_}
+use Prim.Native.Nat.{ℕ, _*_, _/_, _%_, _<_}
 use native.Mathlib.Omega.{arith}
 use lib.Dec.{eqb, ltb}
 use lib.ListN.{length, getD, List·getD-eq-default}
@@ -17,8 +16,10 @@ use Rattle.logic_programs.specs.Literals.{setOf, holdsTrue, holdsFalse}
 use Rattle.logic_programs.specs.AnswerSets.{reduct, AnswerSet, literalHeaded, IsLeastClosed}
 use Rattle.answer_set_theory.specs.Verdicts.{Verdict, clash, broken, unfounded, passes, rounds, verdict}
 use Rattle.logic_programs.specs.Words.{rulesOf}
-use Rattle.answer_set_theory.specs.Answers.{tooManyValues, answer}
-use Rattle.answer_set_theory.specs.Demand2.{Accepted, Clashing, BrokenAt, Unfounded, RightVerdict, Demand2}
+use Rattle.rule_tables.specs.Acceptance.{Accepted}
+use Rattle.rule_tables.proofs.Testing.{comes-next}
+use Rattle.answer_set_theory.specs.Answers.{answer}
+use Rattle.answer_set_theory.specs.Demand2.{Clashing, BrokenAt, Unfounded, RightVerdict, Demand2}
 use Rattle.basics.proofs.Tests.{true-or-false, not-both}
 use Rattle.answer_set_theory.proofs.Least.{HeadsBelow, Below, least-closed}
 use Rattle.answer_set_theory.proofs.FirstFault.{clash-iff, broken-iff, unfounded-iff}
@@ -37,16 +38,9 @@ setOf-below vs c e = ⊎-elim (λ t. omega (arith, ltb-true (c / 2) (length vs) 
     past f = let out : getD vs (c / 2) 0 ≡ 0 = List·getD-eq-default vs 0 (ltb-false (c / 2) (length vs) f) in
         absurd (not-both (rw out at e) (neither (eqb (c % 2) 0)))
 
-pub few-values : (vs : List ℕ) → tooManyValues vs ≡ none → length vs ≤ 1024
-few-values vs e = go (ltb 1024 (length vs)) refl e
-  where
-    go : (b : Bool) → ltb 1024 (length vs) ≡ b → cond b (some (length vs)) none ≡ none → length vs ≤ 1024
-    go true q h = absurd (let z : _≡_ {A = ℕ} 0 1 = cc in omega arith)
-    go false q h = ltb-false 1024 (length vs) q
-
 pub accepted-judged : (vs ws : List ℕ) → Accepted vs ws → answer vs ws ≡ answered (verdict (length vs) (rulesOf ws) (setOf vs))
 unfolding answer
-accepted-judged vs ws h = rw (h .0, h .1, h .2)
+accepted-judged vs ws h = sym (comes-next vs ws (answered (verdict (length vs) (rulesOf ws) (setOf vs))) h)
 
 module _ (vs ws : List ℕ) (accepted : Accepted vs ws) where
   judges-iff : (v : Verdict) → answer vs ws ≡ answered v ↔ verdict (length vs) (rulesOf ws) (setOf vs) ≡ v

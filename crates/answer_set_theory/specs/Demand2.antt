@@ -4,21 +4,16 @@ use mathlib.Core.Path.{_≡_}
 use mathlib.Core.Logic.{_↔_}
 use mathlib.Core.Bool.{true, false}
 use mathlib.Core.List.{List, []}
-use mathlib.Core.Option.{none}
 use Prim.Native.Nat.{ℕ, _+_, _*_}
 use lib.ListN.{length, getD}
 use Rattle.basics.specs.Search.{Lowest, Nowhere}
 use Rattle.basics.specs.Replies.{Reply, answered}
-use Rattle.logic_programs.specs.Literals.{Lits, setOf, badValue}
+use Rattle.logic_programs.specs.Literals.{Lits, setOf}
 use Rattle.logic_programs.specs.Rules.{falsum, Rule}
 use Rattle.logic_programs.specs.AnswerSets.{meets, reduct, Within, HeadIn, AnswerSet, literalHeaded, IsLeastClosed}
 use Rattle.answer_set_theory.specs.Verdicts.{Verdict, clash, broken, unfounded, passes}
-use Rattle.logic_programs.specs.Words.{rulesOf, badRule}
-use Rattle.answer_set_theory.specs.Answers.{tooManyValues}
-
--- neither 10 nor 11 nor 12 refuses
-abbrev pub Accepted : List ℕ → List ℕ → Type 0
-Accepted vs ws = (tooManyValues vs ≡ none) × (badValue vs ≡ none) × (badRule (length vs) ws ≡ none)
+use Rattle.logic_programs.specs.Words.{rulesOf}
+use Rattle.rule_tables.specs.Acceptance.{Accepted}
 
 -- atom a has both values
 abbrev pub Clashing : Lits → ℕ → Type 0

@@ -4,10 +4,9 @@ use mathlib.Core.Path.{_≡_, refl, sym, _∙_}
 use mathlib.Core.Bool.{Bool, true, false, not, _&&_}
 use mathlib.Core.List.{List, [], _∷_}
 use mathlib.Core.Option.{none, some}
-use Prim.Native.Nat.{ℕ, suc, _+_, _-_, _*_, _≤_, _<_}
+use Prim.Native.Nat.{ℕ, suc, _+_, _-_, _*_, _≤_}
 use native.Mathlib.Numerals.{add-one}
 use native.Mathlib.Omega.{arith}
-use borrow.Author.Tests.{lt-ltb, le-ltb}
 use lib.ListN.{length}
 use Rattle.basics.specs.Search.{first, range}
 use Rattle.basics.specs.Replies.{refused, answered}
@@ -15,8 +14,11 @@ use Rattle.logic_programs.specs.Literals.{Lits, setOf, badValue}
 use Rattle.logic_programs.specs.Rules.{Rule}
 use Rattle.answer_set_theory.specs.Verdicts.{clash, broken, unfounded, passes, round, rounds, bothValues, isBroken, isUnfounded, verdict}
 use Rattle.logic_programs.specs.Words.{rulesOf, badRule}
+use Rattle.rule_tables.specs.Acceptance.{tested, Accepted}
+use Rattle.rule_tables.proofs.Testing.{few-values, still-refused, accepts}
 use Rattle.answer_set_theory.specs.Answers.{answer}
 use Rattle.answer_set_theory.proofs.Least.{HeadsBelow, rounds-stay, rounds-settle}
+use Rattle.answer_set_theory.proofs.Theorems.{accepted-judged}
 
 -- Y is the set X, as marks
 module _ (n : ℕ) (Π : List Rule) (X : Lits) where
@@ -38,24 +40,18 @@ module _ (n : ℕ) (Π : List Rule) (X : Lits) where
       unfolding verdict
       says-passes e = rw (none₁, ← is, none₂, ← least, e)
 
+-- the answer from what the tests say: their refusal, or where they accept the verdict
 module _ (vs ws : List ℕ) where
-  pub says-10 : 1024 < length vs → refused 10 (length vs) ≡ answer vs ws
+  pub says-refused : {number place : ℕ} → refused number place ≡ tested vs ws → refused number place ≡ answer vs ws
   unfolding answer
-  says-10 h = rw (lt-ltb 1024 (length vs) h)
+  says-refused e = still-refused vs ws (answered (verdict (length vs) (rulesOf ws) (setOf vs))) e
 
-  module _ (few : length vs ≤ 1024) where
-    pub says-11 : {k : ℕ} → badValue vs ≡ some k → refused 11 k ≡ answer vs ws
-    unfolding answer
-    says-11 e = rw (le-ltb 1024 (length vs) few, e)
+  pub says-verdict : Accepted vs ws → answered (verdict (length vs) (rulesOf ws) (setOf vs)) ≡ answer vs ws
+  says-verdict accepted = sym (accepted-judged vs ws accepted)
 
-    module _ (none₁ : badValue vs ≡ none) where
-      pub says-12 : {k : ℕ} → badRule (length vs) ws ≡ some k → refused 12 k ≡ answer vs ws
-      unfolding answer
-      says-12 e = rw (le-ltb 1024 (length vs) few, none₁, e)
-
-      pub says-verdict : badRule (length vs) ws ≡ none → answered (verdict (length vs) (rulesOf ws) (setOf vs)) ≡ answer vs ws
-      unfolding answer
-      says-verdict e = rw (le-ltb 1024 (length vs) few, none₁, e)
+  -- what judging needs
+  pub judge-ready : answered tt ≡ tested vs ws → (length vs ≤ 1024) × ((badValue vs ≡ none) × (badRule (length vs) ws ≡ none))
+  judge-ready e = let accepted = accepts vs ws e in (few-values vs (accepted .0), (accepted .1, accepted .2))
 
 -- the rounds of a derivation: Y is the round k, Z the one after it
 module _ (Π : List Rule) (X Y : Lits) (k : ℕ) (is : Y ≡ rounds k Π X) where

@@ -15,7 +15,7 @@ use Rattle.basics.specs.Search.{Each, all}
 use Rattle.basics.proofs.Tests.{and-iff, not-iff}
 use Rattle.basics.proofs.Loops.{to-the-end}
 use Rattle.logic_programs.specs.Literals.{Lits}
-use Rattle.logic_programs.specs.Words.{ruleSize}
+use Rattle.logic_programs.specs.Words.{ruleSize, ruleAt}
 use Rattle.answer_sets.specs.Internal.{outside, waitsFor, headWordAt, plainAt, Waiting}
 
 -- the search for it, element by element
@@ -67,13 +67,9 @@ module _ (rest : List ℕ) (w : ℕ) (Y : Lits) where
   waits-none r h is e head t = rw (← is, e, ← head, t)
 
   pub waits-part : (r h : Bool) → r ≡ (ltb w 2048 && not (Y w)) → r ≡ false → h ≡ Y (getD rest 0 0) → h ≡ false
-      → (p : ℕ)
-      → p ≡ outside Y (take (3 + getD rest 1 0 + getD rest 2 0 - (3 + getD rest 1 0)) (drop (3 + getD rest 1 0) rest))
-      → p ≡ waitsFor rest w Y
+      → (p : ℕ) → p ≡ outside Y (ruleAt rest .plain) → p ≡ waitsFor rest w Y
   unfolding waitsFor
-  waits-part r h is e head f p q =
-      let size : 3 + getD rest 1 0 + getD rest 2 0 - (3 + getD rest 1 0) ≡ getD rest 2 0 = omega arith in
-      rw (← is, e, ← head, f) (rw size at q)
+  waits-part r h is e head f p q = rw (← is, e, ← head, f) q
 
 -- a rule that waits for nothing has its head in Y, or its body holds there; one that waits for something has neither, and goes on
 -- waiting

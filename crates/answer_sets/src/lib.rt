@@ -4,7 +4,8 @@ mod faults;
 mod pending;
 mod values;
 
-use basics::Found;
+use basics::Tested;
+use rule_tables::acceptance;
 ghost use mathlib.Core.Path.{_≡_};
 ghost use Rattle.answer_set_theory.specs.Answers.{answer};
 ghost use Rattle.answer_sets.specs.Answers.{replyOf};
@@ -24,15 +25,9 @@ pub fn check_set(values: &[u8], table: &[u16]) -> Answer
     ensures answers { λ r. ⌜ replyOf r ≡ answer (now (values .entry)) (now (table .entry)) ⌝ }
     ensures demand_2 { λ r. ⌜ Demand2 (now (values .entry)) (now (table .entry)) (replyOf r) ⌝ }
 {
-    let atoms = values.len();
-    if 1024 < atoms {
-        return Answer::Refused(10, atoms);
+    let result = acceptance::test(values, table);
+    match result {
+        Tested::Refused(number, place) => Answer::Refused(number, place),
+        Tested::Accepted => faults::judge(values, table),
     }
-    if let Found::At(place) = rule_tables::values::bad_value(values) {
-        return Answer::Refused(11, place);
-    }
-    if let Found::At(place) = rule_tables::table::bad_rule(table, atoms) {
-        return Answer::Refused(12, place);
-    }
-    faults::judge(values, table)
 }

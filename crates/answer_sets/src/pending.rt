@@ -79,9 +79,7 @@ pub(crate) fn waits_for(rest: &[u16], wait: u16, marks: &[u64]) -> u16
     if marks::has(marks, rest[0] as usize) {
         return 65535;
     }
-    let middle = 3 + (rest[1] as usize);
-    let end = middle + (rest[2] as usize);
-    first_outside(&rest[middle..end], marks)
+    first_outside(table::plain_parts(rest), marks)
 }
 
 // The lowest rule that a set breaks, if any, and how many rules apply in the set before it.

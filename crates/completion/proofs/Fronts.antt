@@ -5,46 +5,30 @@ use mathlib.Core.Bool.{Bool, true, false, cond, not, _&&_, _||_, and-false, Bool
 use mathlib.Core.List.{List}
 use mathlib.Core.Logic.{_⊎_, inl, inr}
 use mathlib.Core.Option.{none, some}
-use Prim.Native.Nat.{ℕ, _+_, _-_, _≤_, _<_}
+use Prim.Native.Nat.{ℕ, _≤_, _<_}
 use native.Mathlib.Omega.{arith}
-use borrow.Author.Tests.{lt-leb, le-leb, lt-ltb, le-ltb, not-true, not-false, eqb-true, eqb-false, eq-eqb, ne-eqb}
+use borrow.Author.Tests.{lt-ltb, le-ltb, eqb-true, eqb-false, eq-eqb, ne-eqb}
 use lib.Dec.{eqb}
-use lib.ListN.{length, getD, take, drop, set, length-set}
+use lib.ListN.{length, getD, drop, set, length-set}
 use Rattle.basics.specs.Search.{all}
+use Rattle.basics.proofs.Loops.{and-stop, and-go}
 use Rattle.basics.proofs.Stored.{getD-set}
 use Rattle.logic_programs.specs.Literals.{Lits}
 use Rattle.logic_programs.specs.Rules.{lit, falsum}
 use Rattle.logic_programs.specs.Words.{headOf, ruleSize, ruleAt, rulesOf}
 use Rattle.rule_tables.specs.Internal.{Sound}
-use Rattle.rule_tables.proofs.Walking.{rules-front, sound-size, sound-head}
+use Rattle.rule_tables.proofs.Walking.{rules-front, sound-head}
 use Rattle.completion_theory.specs.Findings.{bodyHolds, sameHead, differ}
 use Rattle.completion_theory.specs.LevelLists.{isBelow, levelOf, standsAbove}
-use Rattle.completion.specs.Internal.{markedHead, readAs, frontHolds, markOf, headOfMark, heldAt, failingFalse}
+use Rattle.completion.specs.Internal.{markedHead, readAs, markOf, headOfMark, heldAt, failingFalse}
 
 -- a body: first its negated parts are looked at, then its plain ones
-module _ (X : Lits) (ws : List ℕ) where
-  pub holds-short : length ws < ruleSize ws → false ≡ frontHolds X ws
-  unfolding frontHolds
-  holds-short h = rw (lt-leb (ruleSize ws) (length ws) h)
+module _ (X : Lits) (ws : List ℕ) (r : Bool) (is : r ≡ all (λ c. X (readAs true c)) (ruleAt ws .negated)) where
+  pub holds-stop : not r ≡ true → false ≡ bodyHolds X (ruleAt ws)
+  holds-stop e = and-stop r (all X (ruleAt ws .plain)) is e
 
-  pub whole-holds : {r : Bool} → ruleSize ws ≤ length ws → r ≡ frontHolds X ws → r ≡ bodyHolds X (ruleAt ws)
-  unfolding frontHolds
-  whole-holds h e = rw (le-leb (ruleSize ws) (length ws) h) at e
-
-  module _ (r : Bool) (is : r ≡ all (λ c. X (readAs true c)) (take (3 + getD ws 1 0 - 3) (drop 3 ws))) where
-    negated : r ≡ all (λ c. X (readAs true c)) (ruleAt ws .negated)
-    negated = let e : 3 + getD ws 1 0 - 3 ≡ getD ws 1 0 = omega arith in rw e at is
-
-    pub holds-stop : ruleSize ws ≤ length ws → not r ≡ true → false ≡ frontHolds X ws
-    unfolding frontHolds
-    holds-stop h e = rw (le-leb (ruleSize ws) (length ws) h, ← negated, not-true r e)
-
-    pub holds-go : (q : Bool) → ruleSize ws ≤ length ws → not r ≡ false
-        → q ≡ all X (take (3 + getD ws 1 0 + getD ws 2 0 - (3 + getD ws 1 0)) (drop (3 + getD ws 1 0) ws)) → q ≡ frontHolds X ws
-    unfolding frontHolds
-    holds-go q h e plain =
-        let size : 3 + getD ws 1 0 + getD ws 2 0 - (3 + getD ws 1 0) ≡ getD ws 2 0 = omega arith in
-        rw (le-leb (ruleSize ws) (length ws) h, ← negated, not-false r e) (rw size at plain)
+  pub holds-go : (q : Bool) → not r ≡ false → q ≡ all X (ruleAt ws .plain) → q ≡ bodyHolds X (ruleAt ws)
+  holds-go q e plain = and-go r q is e plain
 
 -- a head word's mark is that of its head
 same-mark : (w k : ℕ) → (w ≡ 65535 → ⊥) → w < 2048 → eqb w k ≡ sameHead (lit w) (headOfMark k)
@@ -106,18 +90,18 @@ module _ (ws : List ℕ) (h : 0 < length ws) (s : Sound ws) where
         joined false false rest = refl
 
   -- a turn: the mark of the rule's head is set, or nothing is
-  pub held-turn : (X : Lits) (old new : List Bool) (r : Bool) (m : ℕ) → r ≡ frontHolds X ws → m ≡ markOf (getD ws 0 0)
+  pub held-turn : (X : Lits) (old new : List Bool) (r : Bool) (m : ℕ) → r ≡ bodyHolds X (ruleAt ws) → m ≡ markOf (getD ws 0 0)
       → ((r ≡ true) × (new ≡ set old m true)) ⊎ ((r ≡ false) × (new ≡ old)) → length old ≡ 2049 → {R : Lits}
       → ((k : ℕ) → (markedHead old k || heldAt (rulesOf ws) X k) ≡ R k)
       → (length new ≡ 2049) × ((k : ℕ) → (markedHead new k || heldAt (rulesOf (drop (ruleSize ws) ws)) X k) ≡ R k)
   held-turn X old new r m is at-mark (inl w) size inv = (
     rw (w .1) (length-set old m true ∙ size),
     λ k. rw (w .1, at-mark)
-        (held-mark X old k (inv k) (sym (whole-holds X ws (sound-size ws h s) is) ∙ w .0) (omega (arith, mark-below m at-mark))),
+        (held-mark X old k (inv k) (sym is ∙ w .0) (omega (arith, mark-below m at-mark))),
   )
   held-turn X old new r m is at-mark (inr w) size inv = (
     rw (w .1) size,
-    λ k. rw (w .1) (held-idle X old k (inv k) (sym (whole-holds X ws (sound-size ws h s) is) ∙ w .0)),
+    λ k. rw (w .1) (held-idle X old k (inv k) (sym is ∙ w .0)),
   )
 
 -- a literal fails where its two tests differ
@@ -152,8 +136,5 @@ module _ (levels ws : List ℕ) where
   false-above e = rw (eq-eqb (getD ws 0 0) 65535 e)
 
   pub literal-above : (top : ℕ) (r : Bool) → (getD ws 0 0 ≡ 65535 → ⊥) → top ≡ levelOf levels (getD ws 0 0)
-      → r ≡ all (isBelow levels top) (take (3 + getD ws 1 0 + getD ws 2 0 - (3 + getD ws 1 0)) (drop (3 + getD ws 1 0) ws))
-      → r ≡ standsAbove levels (ruleAt ws)
-  literal-above top r literal is parts =
-      let size : 3 + getD ws 1 0 + getD ws 2 0 - (3 + getD ws 1 0) ≡ getD ws 2 0 = omega arith in
-      rw (ne-eqb (getD ws 0 0) 65535 literal) (rw (size, is) at parts)
+      → r ≡ all (isBelow levels top) (ruleAt ws .plain) → r ≡ standsAbove levels (ruleAt ws)
+  literal-above top r literal is parts = rw (ne-eqb (getD ws 0 0) 65535 literal) (rw is at parts)

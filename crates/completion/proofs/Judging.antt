@@ -7,14 +7,16 @@ use mathlib.Core.Option.{Option, none, some}
 use Prim.Native.Nat.{ℕ, suc, _*_, _≤_, _<_}
 use native.Mathlib.Omega.{arith}
 use borrow.Author.Tests.{ne-eqb}
-use lib.ListN.{length, getD}
+use lib.ListN.{length}
 use Rattle.basics.specs.Search.{Each, first, range}
 use Rattle.basics.proofs.Tests.{range-lowest}
 use Rattle.basics.proofs.Lists.{each-range}
-use Rattle.logic_programs.specs.Literals.{Lits, setOf, noneOrBoth}
+use Rattle.logic_programs.specs.Literals.{Lits, setOf}
+use Rattle.logic_programs.specs.ValueFaults.{ValueFault, valueFault, orFault}
 use Rattle.logic_programs.specs.Rules.{lit, falsum, Rule}
 use Rattle.logic_programs.specs.Words.{headOf, rulesOf}
-use Rattle.completion_theory.specs.Findings.{missing, clash, fails, holds, someBody, differ, literalFails, judgedByFormulas, formulaFinding}
+use Rattle.completion_theory.specs.Findings.{FormulaFinding, missing, clash, fails, holds}
+use Rattle.completion_theory.specs.Findings.{someBody, differ, literalFails, judgedByFormulas, formulaFinding}
 use Rattle.completion_theory.specs.LevelLists.{wrongCount, standsAbove, badLevels}
 use Rattle.completion.specs.Internal.{heldAt, failingFalse}
 
@@ -31,22 +33,19 @@ literal-word : (c : ℕ) → c < 2048 → headOf c ≡ lit c
 literal-word c b = rw (ne-eqb c 65535 (omega arith))
 
 module _ (vs ws : List ℕ) where
-  pub says-missing : {a : ℕ} → first noneOrBoth 0 vs ≡ some a → getD vs a 0 ≡ 0 → missing a ≡ formulaFinding vs ws
-  unfolding formulaFinding
-  says-missing e zero = rw (e, zero)
+  -- what the formulas say
+  abbrev judged : FormulaFinding
+  judged = judgedByFormulas (length vs) (rulesOf ws) (setOf vs)
 
-  pub says-clash : {a : ℕ} → first noneOrBoth 0 vs ≡ some a → (getD vs a 0 ≡ 0 → ⊥) → clash a ≡ formulaFinding vs ws
+  -- what is said of the values' fault, or else what the formulas say
+  pub says-fault : {fault : ValueFault} → fault ≡ valueFault vs → orFault fault missing clash judged ≡ formulaFinding vs ws
   unfolding formulaFinding
-  says-clash {a} e other = rw (e, ne-eqb (getD vs a 0) 0 other)
+  says-fault e = ap (λ f. orFault f missing clash judged) e
 
-  -- each atom has one value; L is the set of the heads that have a body that holds, as marks
-  module _ (e₀ : first noneOrBoth 0 vs ≡ none) (few : length vs ≤ 1024) (L : Lits) (is : L ≡ heldAt (rulesOf ws) (setOf vs)) where
+  -- L is the set of the heads that have a body that holds, as marks
+  module _ (few : length vs ≤ 1024) (L : Lits) (is : L ≡ heldAt (rulesOf ws) (setOf vs)) where
     abbrev fail : ℕ → Bool
     fail c = differ (setOf vs c) (L c)
-
-    found : formulaFinding vs ws ≡ judgedByFormulas (length vs) (rulesOf ws) (setOf vs)
-    unfolding formulaFinding
-    found = rw e₀
 
     same : first fail 0 (range 0 (2 * length vs)) ≡ first (literalFails (rulesOf ws) (setOf vs)) 0 (range 0 (2 * length vs))
     same =
@@ -54,27 +53,27 @@ module _ (vs ws : List ℕ) where
         (each-range (λ c. fail c ≡ literalFails (rulesOf ws) (setOf vs) c) 0 (2 * length vs) (λ i. i) (λ i. omega arith) .1
         (λ c b. ap (differ (setOf vs c)) (rw is (literal-mark (rulesOf ws) (setOf vs) c (omega arith)))))
 
-    pub says-fails : {c : ℕ} → first fail 0 (range 0 (2 * length vs)) ≡ some c → fails (headOf c) ≡ formulaFinding vs ws
+    pub says-fails : {c : ℕ} → first fail 0 (range 0 (2 * length vs)) ≡ some c → fails (headOf c) ≡ judged
     unfolding judgedByFormulas
     says-fails {c} e =
         let low = range-lowest fail (2 * length vs) (λ i. fail i ≡ true) (λ i b. (λ t. t, λ t. t)) c .0 e .0 in
-        rw (found, ← same, e) (ap fails (literal-word c (omega arith)))
+        rw (← same, e) (ap fails (literal-word c (omega arith)))
 
     module _ (none-found : first fail 0 (range 0 (2 * length vs)) ≡ none) where
       none-fails : first (literalFails (rulesOf ws) (setOf vs)) 0 (range 0 (2 * length vs)) ≡ none
       none-fails = sym same ∙ none-found
 
-      pub says-false : {w : ℕ} → failingFalse L ≡ some w → fails (headOf w) ≡ formulaFinding vs ws
+      pub says-false : {w : ℕ} → failingFalse L ≡ some w → fails (headOf w) ≡ judged
       unfolding judgedByFormulas
-      says-false {w} e = rw (found, none-fails) (go (someBody (rulesOf ws) (setOf vs) falsum) (rw is at e))
+      says-false {w} e = rw none-fails (go (someBody (rulesOf ws) (setOf vs) falsum) (rw is at e))
         where
           go : (b : Bool) → cond b (some 65535) none ≡ some w → fails (headOf w) ≡ cond b (fails falsum) holds
           go true q = let same : w ≡ 65535 = cc in rw same refl
           go false q = absurd (let z : _≡_ {A = ℕ} 0 1 = cc in omega arith)
 
-      pub says-holds : failingFalse L ≡ none → holds ≡ formulaFinding vs ws
+      pub says-holds : failingFalse L ≡ none → holds ≡ judged
       unfolding judgedByFormulas
-      says-holds e = rw (found, none-fails) (go (someBody (rulesOf ws) (setOf vs) falsum) (rw is at e))
+      says-holds e = rw none-fails (go (someBody (rulesOf ws) (setOf vs) falsum) (rw is at e))
         where
           go : (b : Bool) → cond {A = Option ℕ} b (some 65535) none ≡ none → holds ≡ cond b (fails falsum) holds
           go true q = absurd (let z : _≡_ {A = ℕ} 0 1 = cc in omega arith)

@@ -8,10 +8,10 @@ ghost use Prim.Native.Nat.{_*_, _≤_, _<_};
 ghost use lib.ListN.{length, replicate};
 ghost use Rattle.basics.specs.Search.{all, first, range, placeOf};
 ghost use Rattle.logic_programs.specs.Literals.{setOf};
-ghost use Rattle.logic_programs.specs.Words.{rulesOf};
+ghost use Rattle.logic_programs.specs.Words.{ruleSize, ruleAt, rulesOf};
 ghost use Rattle.rule_tables.specs.Internal.{Sound};
-ghost use Rattle.completion_theory.specs.Findings.{differ};
-ghost use Rattle.completion.specs.Internal.{readAs, frontHolds, markOf, markedHead, heldAt, failingFalse};
+ghost use Rattle.completion_theory.specs.Findings.{bodyHolds, differ};
+ghost use Rattle.completion.specs.Internal.{readAs, markOf, markedHead, heldAt, failingFalse};
 
 // The literal that a part of a body asks for: a plain part itself, a negated part's complement.
 fn read_as(part: usize, negated: bool) -> usize
@@ -42,19 +42,15 @@ fn parts_hold(parts: &[u16], values: &[u8], negated: bool) -> bool
     true
 }
 
-// Whether the rule at the front is whole and its body holds.
+// Whether the body of the rule at the front holds.
 fn body_holds(rest: &[u16], values: &[u8]) -> bool
-    ensures { λ r. ⌜ r ≡ frontHolds (setOf (now (values .entry))) (now (rest .entry)) ⌝ }
+    requires { ⌜ ruleSize (now rest) ≤ length (now rest) ⌝ }
+    ensures { λ r. ⌜ r ≡ bodyHolds (setOf (now (values .entry))) (ruleAt (now (rest .entry))) ⌝ }
 {
-    if rest.len() < table::rule_size(rest) {
+    if !parts_hold(table::negated_parts(rest), values, true) {
         return false;
     }
-    let middle = 3 + (rest[1] as usize);
-    let end = middle + (rest[2] as usize);
-    if !parts_hold(&rest[3..middle], values, true) {
-        return false;
-    }
-    parts_hold(&rest[middle..end], values, false)
+    parts_hold(table::plain_parts(rest), values, false)
 }
 
 // 2,049 marks, all clear.

@@ -34,9 +34,7 @@ fn stands_above(rest: &[u16], levels: &[u16]) -> bool
     if head == 65535 {
         return true;
     }
-    let middle = 3 + (rest[1] as usize);
-    let end = middle + (rest[2] as usize);
-    parts_below(&rest[middle..end], levels, table::word(levels, head))
+    parts_below(table::plain_parts(rest), levels, table::word(levels, head))
 }
 
 // The lowest rule whose head does not stand above its plain parts.

@@ -5,16 +5,19 @@ mod heads;
 mod levels;
 
 use basics::Found;
+use basics::Tested;
+use rule_tables::acceptance;
+use rule_tables::values::Fault;
 ghost use mathlib.Core.Path.{_≡_};
 ghost use mathlib.Core.Option.{none};
 ghost use Prim.Native.Nat.{_≤_};
 ghost use lib.ListN.{length};
 ghost use Rattle.basics.specs.Replies.{answered};
-ghost use Rattle.logic_programs.specs.Words.{badRule};
-ghost use Rattle.completion_theory.specs.Findings.{formulaFinding};
+ghost use Rattle.logic_programs.specs.Literals.{setOf};
+ghost use Rattle.logic_programs.specs.Words.{rulesOf, badRule};
+ghost use Rattle.completion_theory.specs.Findings.{judgedByFormulas, formulaFinding};
 ghost use Rattle.completion_theory.specs.Answers.{answer, answerByLevels};
 ghost use Rattle.completion.specs.Answers.{replyOf};
-ghost use Rattle.completion.specs.Internal.{testedOf, tested};
 ghost use Rattle.completion_theory.specs.Meaning.{SaysFormulas, SaysLevels};
 
 // A refusal's number and place; or missing or clash with the lowest atom that has no value or both; or the head word of the first
@@ -27,41 +30,13 @@ pub enum Answer {
     Holds,
 }
 
-// Whether refusals 10, 11 and 12 let values and a table pass.
-enum Tested {
-    Refused(u8, usize),
-    Accepted,
-}
-
-// The first of refusals 10, 11 and 12 whose condition is met.
-fn test(values: &[u8], table: &[u16]) -> Tested
-    ensures { λ r. ⌜ testedOf r ≡ tested (now (values .entry)) (now (table .entry)) ⌝ }
-{
-    let atoms = values.len();
-    if 1024 < atoms {
-        return Tested::Refused(10, atoms);
-    }
-    if let Found::At(place) = rule_tables::values::bad_value(values) {
-        return Tested::Refused(11, place);
-    }
-    if let Found::At(place) = rule_tables::table::bad_rule(table, atoms) {
-        return Tested::Refused(12, place);
-    }
-    Tested::Accepted
-}
-
-// What is found of accepted values and an accepted table.
-fn judge(values: &[u8], table: &[u16]) -> Answer
+// What the formulas say of accepted values and an accepted table.
+fn judge_formulas(values: &[u8], table: &[u16]) -> Answer
     requires { ⌜ length (now values) ≤ 1024 ⌝ }
     requires { ⌜ badRule (length (now values)) (now table) ≡ none ⌝ }
-    ensures { λ r. ⌜ replyOf r ≡ answered (formulaFinding (now (values .entry)) (now (table .entry))) ⌝ }
+    ensures { λ r. ⌜ replyOf r ≡ answered
+        (judgedByFormulas (length (now (values .entry))) (rulesOf (now (table .entry))) (setOf (now (values .entry)))) ⌝ }
 {
-    if let Found::At(atom) = rule_tables::values::first_none_or_both(values) {
-        if values[atom] == 0 {
-            return Answer::Missing(atom);
-        }
-        return Answer::Clash(atom);
-    }
     let held = heads::held_heads(table, values);
     if let Found::At(word) = heads::first_failing(values, &held) {
         return Answer::Fails(word);
@@ -72,12 +47,26 @@ fn judge(values: &[u8], table: &[u16]) -> Answer
     Answer::Holds
 }
 
+// What is found of accepted values and an accepted table.
+fn judge(values: &[u8], table: &[u16]) -> Answer
+    requires { ⌜ length (now values) ≤ 1024 ⌝ }
+    requires { ⌜ badRule (length (now values)) (now table) ≡ none ⌝ }
+    ensures { λ r. ⌜ replyOf r ≡ answered (formulaFinding (now (values .entry)) (now (table .entry))) ⌝ }
+{
+    let fault = rule_tables::values::first_fault(values);
+    match fault {
+        Fault::Missing(atom) => Answer::Missing(atom),
+        Fault::Clash(atom) => Answer::Clash(atom),
+        Fault::Neither => judge_formulas(values, table),
+    }
+}
+
 // The answer to value bytes, one an atom, and the words of a rule table. Nothing that is lent changes.
 pub fn check_completion(values: &[u8], table: &[u16]) -> Answer
     ensures answers { λ r. ⌜ replyOf r ≡ answer (now (values .entry)) (now (table .entry)) ⌝ }
     ensures by_formulas { λ r. ⌜ SaysFormulas (now (values .entry)) (now (table .entry)) (replyOf r) ⌝ }
 {
-    let result = test(values, table);
+    let result = acceptance::test(values, table);
     match result {
         Tested::Refused(number, place) => Answer::Refused(number, place),
         Tested::Accepted => judge(values, table),
@@ -89,7 +78,7 @@ pub fn check_by_levels(values: &[u8], table: &[u16], levels: &[u16]) -> Answer
     ensures answers { λ r. ⌜ replyOf r ≡ answerByLevels (now (values .entry)) (now (table .entry)) (now (levels .entry)) ⌝ }
     ensures by_levels { λ r. ⌜ SaysLevels (now (values .entry)) (now (table .entry)) (now (levels .entry)) (replyOf r) ⌝ }
 {
-    let result = test(values, table);
+    let result = acceptance::test(values, table);
     match result {
         Tested::Refused(number, place) => Answer::Refused(number, place),
         Tested::Accepted => {

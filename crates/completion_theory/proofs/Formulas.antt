@@ -7,21 +7,21 @@ use mathlib.Core.List.{List, [], _∷_, List·Memᴰ·head, List·Memᴰ·tail, 
 use mathlib.Core.Option.{Option, none, some}
 use Prim.Native.Nat.{ℕ, _*_, _<_}
 use native.Mathlib.Omega.{arith}
-use borrow.Author.Tests.{eqb-true, eqb-false, eq-eqb}
-use lib.Dec.{eqb}
-use lib.ListN.{length, getD}
-use Rattle.basics.specs.Search.{Each, all, first, range, Lowest}
+use borrow.Author.Tests.{eqb-true, eq-eqb}
+use lib.ListN.{length}
+use Rattle.basics.specs.Search.{Each, all, first, range}
 use Rattle.basics.specs.Replies.{Reply, answered, orElse}
 use Rattle.basics.proofs.Tests.{not-both, false-of-not, true-of-not, and-iff, iff-and₃, and-or-iff, all-each, range-lowest}
 use Rattle.basics.proofs.Lists.{none-iff, each-range}
-use Rattle.logic_programs.specs.Literals.{Lits, complement, setOf, OneValue, noneOrBoth, badValue}
+use Rattle.logic_programs.specs.Literals.{Lits, complement, setOf, OneValue, badValue}
+use Rattle.logic_programs.specs.ValueFaults as values
+use Rattle.logic_programs.specs.ValueFaults.{ValueFault, valueFault, orFault}
 use Rattle.logic_programs.specs.Rules.{Head, lit, falsum, Rule}
 use Rattle.logic_programs.specs.Words.{rulesOf}
-use Rattle.logic_programs.proofs.Values.{lowest-none-or-both, one-value-iff}
+use Rattle.logic_programs.proofs.Values.{missing-iff, clash-iff, neither-iff, one-value-iff}
 use Rattle.tight_programs.specs.LiteralCompletion.{BodyHolds, SomeBody, Formula}
 use Rattle.completion_theory.specs.Findings.{FormulaFinding, missing, clash, fails, holds, bodyHolds, sameHead}
 use Rattle.completion_theory.specs.Findings.{someBody, differ, literalFails, judgedByFormulas, formulaFinding}
-use Rattle.logic_programs.specs.Literals.{NoValue, BothValues, NoneOrBoth}
 use Rattle.completion_theory.specs.Meaning.{ByFormulas}
 
 -- The formulas' tests
@@ -87,61 +87,45 @@ module _ (Π : List Rule) (X : Lits) where
       (Iff·trans (each-range (λ c. literalFails Π X c ≡ false) 0 n (λ i. i) (λ i. omega arith))
       (λ h c b. literal-iff c .0 (h c b), λ h c b. literal-iff c .1 (h c b)))
 
--- What is found, from the three searches
+-- What is found, from the fault of the values and the two searches
 
-abbrev of : Option ℕ → (ℕ → Bool) → Option ℕ → Bool → FormulaFinding
-of a lacks c d = orElse a (λ i. cond (lacks i) (missing i) (clash i)) (orElse c (λ k. fails (lit k)) (cond d (fails falsum) holds))
+abbrev of : ValueFault → Option ℕ → Bool → FormulaFinding
+of f c d = orFault f missing clash (orElse c (λ k. fails (lit k)) (cond d (fails falsum) holds))
 
-of-missing : (a : Option ℕ) (lacks : ℕ → Bool) (c : Option ℕ) (d : Bool) (k : ℕ) → of a lacks c d ≡ missing k
-    ↔ ((a ≡ some k) × (lacks k ≡ true))
-of-missing (some i) lacks c d k = go (lacks i) refl
-  where
-    go : (b : Bool) → lacks i ≡ b → cond b (missing i) (clash i) ≡ missing k ↔ ((some i ≡ some k) × (lacks k ≡ true))
-    go true t = (λ e. let same : i ≡ k = cc in (ap some same, rw same at t), λ h. cc)
-    go false f = (λ e. (cc, cc), λ h. let same : i ≡ k = cc in absurd (not-both (h .1) (rw same at f)))
-of-missing none lacks (some i) d k = (λ e. (cc, cc), λ h. cc)
-of-missing none lacks none true k = (λ e. (cc, cc), λ h. cc)
-of-missing none lacks none false k = (λ e. (cc, cc), λ h. cc)
+of-missing : (f : ValueFault) (c : Option ℕ) (d : Bool) (k : ℕ) → of f c d ≡ missing k ↔ f ≡ values.missing k
+of-missing (values.missing i) c d k = (λ e. cc, λ e. cc)
+of-missing (values.clash i) c d k = (λ e. cc, λ e. cc)
+of-missing values.neither (some i) d k = (λ e. cc, λ e. cc)
+of-missing values.neither none true k = (λ e. cc, λ e. cc)
+of-missing values.neither none false k = (λ e. cc, λ e. cc)
 
-of-clash : (a : Option ℕ) (lacks : ℕ → Bool) (c : Option ℕ) (d : Bool) (k : ℕ) → of a lacks c d ≡ clash k
-    ↔ ((a ≡ some k) × (lacks k ≡ false))
-of-clash (some i) lacks c d k = go (lacks i) refl
-  where
-    go : (b : Bool) → lacks i ≡ b → cond b (missing i) (clash i) ≡ clash k ↔ ((some i ≡ some k) × (lacks k ≡ false))
-    go true t = (λ e. (cc, cc), λ h. let same : i ≡ k = cc in absurd (not-both (rw same at t) (h .1)))
-    go false f = (λ e. let same : i ≡ k = cc in (ap some same, rw same at f), λ h. cc)
-of-clash none lacks (some i) d k = (λ e. (cc, cc), λ h. cc)
-of-clash none lacks none true k = (λ e. (cc, cc), λ h. cc)
-of-clash none lacks none false k = (λ e. (cc, cc), λ h. cc)
+of-clash : (f : ValueFault) (c : Option ℕ) (d : Bool) (k : ℕ) → of f c d ≡ clash k ↔ f ≡ values.clash k
+of-clash (values.missing i) c d k = (λ e. cc, λ e. cc)
+of-clash (values.clash i) c d k = (λ e. cc, λ e. cc)
+of-clash values.neither (some i) d k = (λ e. cc, λ e. cc)
+of-clash values.neither none true k = (λ e. cc, λ e. cc)
+of-clash values.neither none false k = (λ e. cc, λ e. cc)
 
--- the other answers are neither
-not-fails : (b : Bool) (i : ℕ) (h : Head) → cond b (missing i) (clash i) ≡ fails h → ⊥
-not-fails true i h e = let z : _≡_ {A = ℕ} 0 1 = cc in omega arith
-not-fails false i h e = let z : _≡_ {A = ℕ} 0 1 = cc in omega arith
+of-fails : (f : ValueFault) (c : Option ℕ) (d : Bool) (k : ℕ) → of f c d ≡ fails (lit k) ↔ ((f ≡ values.neither) × (c ≡ some k))
+of-fails (values.missing i) c d k = (λ e. (cc, cc), λ h. cc)
+of-fails (values.clash i) c d k = (λ e. (cc, cc), λ h. cc)
+of-fails values.neither (some i) d k = (λ e. (cc, cc), λ h. cc)
+of-fails values.neither none true k = (λ e. (cc, cc), λ h. cc)
+of-fails values.neither none false k = (λ e. (cc, cc), λ h. cc)
 
-not-holds : (b : Bool) (i : ℕ) → cond b (missing i) (clash i) ≡ holds → ⊥
-not-holds true i e = let z : _≡_ {A = ℕ} 0 1 = cc in omega arith
-not-holds false i e = let z : _≡_ {A = ℕ} 0 1 = cc in omega arith
+of-false : (f : ValueFault) (c : Option ℕ) (d : Bool) → of f c d ≡ fails falsum ↔ ((f ≡ values.neither) × (c ≡ none) × (d ≡ true))
+of-false (values.missing i) c d = (λ e. (cc, cc, cc), λ h. cc)
+of-false (values.clash i) c d = (λ e. (cc, cc, cc), λ h. cc)
+of-false values.neither (some i) d = (λ e. (cc, cc, cc), λ h. cc)
+of-false values.neither none true = (λ e. (cc, cc, cc), λ h. cc)
+of-false values.neither none false = (λ e. (cc, cc, cc), λ h. cc)
 
-of-fails : (a : Option ℕ) (lacks : ℕ → Bool) (c : Option ℕ) (d : Bool) (k : ℕ) → of a lacks c d ≡ fails (lit k)
-    ↔ ((a ≡ none) × (c ≡ some k))
-of-fails (some i) lacks c d k = (λ e. absurd (not-fails (lacks i) i (lit k) e), λ h. cc)
-of-fails none lacks (some i) d k = (λ e. (cc, cc), λ h. cc)
-of-fails none lacks none true k = (λ e. (cc, cc), λ h. cc)
-of-fails none lacks none false k = (λ e. (cc, cc), λ h. cc)
-
-of-false : (a : Option ℕ) (lacks : ℕ → Bool) (c : Option ℕ) (d : Bool) → of a lacks c d ≡ fails falsum
-    ↔ ((a ≡ none) × (c ≡ none) × (d ≡ true))
-of-false (some i) lacks c d = (λ e. absurd (not-fails (lacks i) i falsum e), λ h. cc)
-of-false none lacks (some i) d = (λ e. (cc, cc, cc), λ h. cc)
-of-false none lacks none true = (λ e. (cc, cc, cc), λ h. cc)
-of-false none lacks none false = (λ e. (cc, cc, cc), λ h. cc)
-
-of-holds : (a : Option ℕ) (lacks : ℕ → Bool) (c : Option ℕ) (d : Bool) → of a lacks c d ≡ holds ↔ ((a ≡ none) × (c ≡ none) × (d ≡ false))
-of-holds (some i) lacks c d = (λ e. absurd (not-holds (lacks i) i e), λ h. cc)
-of-holds none lacks (some i) d = (λ e. (cc, cc, cc), λ h. cc)
-of-holds none lacks none true = (λ e. (cc, cc, cc), λ h. cc)
-of-holds none lacks none false = (λ e. (cc, cc, cc), λ h. cc)
+of-holds : (f : ValueFault) (c : Option ℕ) (d : Bool) → of f c d ≡ holds ↔ ((f ≡ values.neither) × (c ≡ none) × (d ≡ false))
+of-holds (values.missing i) c d = (λ e. (cc, cc, cc), λ h. cc)
+of-holds (values.clash i) c d = (λ e. (cc, cc, cc), λ h. cc)
+of-holds values.neither (some i) d = (λ e. (cc, cc, cc), λ h. cc)
+of-holds values.neither none true = (λ e. (cc, cc, cc), λ h. cc)
+of-holds values.neither none false = (λ e. (cc, cc, cc), λ h. cc)
 
 module _ (vs ws : List ℕ) (few : badValue vs ≡ none) (reply : Reply FormulaFinding) (is : reply ≡ answered (formulaFinding vs ws)) where
   abbrev Π : List Rule
@@ -150,12 +134,8 @@ module _ (vs ws : List ℕ) (few : badValue vs ≡ none) (reply : Reply FormulaF
   abbrev X : Lits
   X = setOf vs
 
-  abbrev a : Option ℕ
-  a = first noneOrBoth 0 vs
-
-  -- atom i has no value
-  abbrev lacks : ℕ → Bool
-  lacks i = eqb (getD vs i 0) 0
+  abbrev f : ValueFault
+  f = valueFault vs
 
   abbrev c : Option ℕ
   c = first (literalFails Π X) 0 (range 0 (2 * length vs))
@@ -163,31 +143,22 @@ module _ (vs ws : List ℕ) (few : badValue vs ≡ none) (reply : Reply FormulaF
   abbrev d : Bool
   d = someBody Π X falsum
 
-  found : (f : FormulaFinding) → reply ≡ answered f ↔ of a lacks c d ≡ f
+  found : (g : FormulaFinding) → reply ≡ answered g ↔ of f c d ≡ g
   unfolding formulaFinding judgedByFormulas
-  found f = let same : reply ≡ answered (of a lacks c d) = is in (λ e. cc, λ e. cc)
+  found g = let same : reply ≡ answered (of f c d) = is in (λ e. cc, λ e. cc)
 
-  one-value : a ≡ none ↔ Each OneValue vs
-  one-value = one-value-iff vs few
-
-  missing-iff : (k : ℕ) → ((a ≡ some k) × (lacks k ≡ true)) ↔ (Lowest (NoneOrBoth vs) (length vs) k × NoValue vs k)
-  missing-iff k = Iff·and (lowest-none-or-both vs k) (eqb-true (getD vs k 0) 0, eq-eqb (getD vs k 0) 0)
-
-  clash-iff : (k : ℕ) → ((a ≡ some k) × (lacks k ≡ false)) ↔ (Lowest (NoneOrBoth vs) (length vs) k × BothValues vs k)
-  clash-iff k = (
-    λ h. let low = lowest-none-or-both vs k .0 (h .0) in (low, ⊎-elim (λ z. absurd (eqb-false (getD vs k 0) 0 (h .1) z)) (λ t. t) (low .1)),
-    λ h. (lowest-none-or-both vs k .1 (h .0), rw (h .1) refl),
-  )
+  one-value : f ≡ values.neither ↔ Each OneValue vs
+  one-value = Iff·trans (neither-iff vs) (one-value-iff vs few)
 
   pub by-formulas : ByFormulas vs Π reply
   by-formulas = record {
-    missing-exactly = λ k. Iff·trans (found (missing k)) (Iff·trans (of-missing a lacks c d k) (missing-iff k));
-    clash-exactly = λ k. Iff·trans (found (clash k)) (Iff·trans (of-clash a lacks c d k) (clash-iff k));
-    fails-exactly = λ k. Iff·trans (found (fails (lit k))) (Iff·trans (of-fails a lacks c d k)
+    missing-exactly = λ k. Iff·trans (found (missing k)) (Iff·trans (of-missing f c d k) (missing-iff vs k));
+    clash-exactly = λ k. Iff·trans (found (clash k)) (Iff·trans (of-clash f c d k) (clash-iff vs k));
+    fails-exactly = λ k. Iff·trans (found (fails (lit k))) (Iff·trans (of-fails f c d k)
         (Iff·and one-value (range-lowest (literalFails Π X) (2 * length vs) (λ i. Formula Π X (lit i) → ⊥) (λ i low. fails-iff Π X i) k)));
-    false-exactly = Iff·trans (found (fails falsum)) (Iff·trans (of-false a lacks c d)
+    false-exactly = Iff·trans (found (fails falsum)) (Iff·trans (of-false f c d)
         (iff-and₃ one-value (none-fails-iff Π X (2 * length vs)) (false-fails-iff Π X)));
-    holds-exactly = Iff·trans (found holds) (Iff·trans (of-holds a lacks c d)
+    holds-exactly = Iff·trans (found holds) (Iff·trans (of-holds f c d)
         (Iff·trans (iff-and₃ one-value (none-fails-iff Π X (2 * length vs)) (false-iff Π X))
         (λ h. (h .0, record { of-literals = h .1; of-falsum = h .2 }), λ h. (h .0, h .1 .of-literals, h .1 .of-falsum))));
   }

@@ -17,22 +17,20 @@ use Rattle.logic_programs.specs.Literals.{setOf, OneValue}
 use Rattle.logic_programs.specs.Rules.{Rule}
 use Rattle.logic_programs.specs.Words.{rulesOf}
 use Rattle.logic_programs.specs.AnswerSets.{AnswerSet}
+use Rattle.rule_tables.specs.Acceptance.{Accepted}
+use Rattle.rule_tables.proofs.Testing.{comes-next}
 use Rattle.answer_set_theory.specs.Verdicts.{passes}
 use Rattle.answer_set_theory.specs.Answers as engine
-use Rattle.answer_set_theory.specs.Demand2.{Accepted, noRule, Demand2}
+use Rattle.answer_set_theory.specs.Demand2.{noRule, Demand2}
 use Rattle.answer_set_theory.proofs.Decoding.{accepted-count}
 use Rattle.answer_set_theory.proofs.Theorems.{demand-2}
 use Rattle.tight_programs.specs.TightPrograms.{Tight}
 use Rattle.completion_theory.specs.Findings.{FormulaFinding, holds, formulaFinding}
 use Rattle.completion_theory.specs.LevelLists.{levelOf, standsAbove, badLevels}
-use Rattle.completion_theory.specs.Answers.{afterTests, answer, answerByLevels}
+use Rattle.completion_theory.specs.Answers.{answer, answerByLevels}
 use Rattle.completion_theory.specs.Meaning.{ByFormulas, SaysFormulas, NotAbove, ByLevels, SaysLevels}
 use Rattle.completion_theory.proofs.Formulas.{by-formulas}
 use Rattle.completion_theory.proofs.Tightness.{not-above-iff, tight-iff, completion-answer-set}
-
--- where 10, 11 and 12 let pass, what comes next is said
-pub comes-next : {A : Type 0} (vs ws : List ℕ) (next : Reply A) → Accepted vs ws → next ≡ afterTests vs ws next
-comes-next vs ws next h = rw (h .0, h .1, h .2)
 
 module _ (vs ws : List ℕ) (accepted : Accepted vs ws) where
   pub answered-finding : answer vs ws ≡ answered (formulaFinding vs ws)

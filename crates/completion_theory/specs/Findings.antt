@@ -5,10 +5,11 @@ use mathlib.Core.Bool.{Bool, true, false, cond, not, _&&_, _||_}
 use mathlib.Core.List.{List, [], _∷_}
 use Prim.Native.Nat.{ℕ, _*_}
 use lib.Dec.{eqb}
-use lib.ListN.{length, getD}
+use lib.ListN.{length}
 use Rattle.basics.specs.Search.{all, first, range}
 use Rattle.basics.specs.Replies.{orElse}
-use Rattle.logic_programs.specs.Literals.{Lits, complement, setOf, noneOrBoth}
+use Rattle.logic_programs.specs.Literals.{Lits, complement, setOf}
+use Rattle.logic_programs.specs.ValueFaults.{valueFault, orFault}
 use Rattle.logic_programs.specs.Rules.{Head, lit, falsum, Rule}
 use Rattle.logic_programs.specs.Words.{rulesOf}
 
@@ -46,10 +47,6 @@ unfoldable pub judgedByFormulas : ℕ → List Rule → Lits → FormulaFinding
 judgedByFormulas n Π X =
     orElse (first (literalFails Π X) 0 (range 0 (2 * n))) (λ c. fails (lit c)) (cond (someBody Π X falsum) (fails falsum) holds)
 
--- an atom that has no value is missing, one that has both is a clash
-abbrev pub formulaFault : List ℕ → ℕ → FormulaFinding
-formulaFault vs atom = cond (eqb (getD vs atom 0) 0) (missing atom) (clash atom)
-
--- the lowest atom of value 0 or 3 decides; else the formulas
+-- the lowest atom without one value decides; else the formulas
 unfoldable pub formulaFinding : List ℕ → List ℕ → FormulaFinding
-formulaFinding vs ws = orElse (first noneOrBoth 0 vs) (formulaFault vs) (judgedByFormulas (length vs) (rulesOf ws) (setOf vs))
+formulaFinding vs ws = orFault (valueFault vs) missing clash (judgedByFormulas (length vs) (rulesOf ws) (setOf vs))

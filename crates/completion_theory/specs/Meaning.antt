@@ -12,7 +12,8 @@ use Rattle.logic_programs.specs.Rules.{lit, falsum, Rule}
 use Rattle.logic_programs.specs.Words.{rulesOf}
 use Rattle.answer_set_theory.specs.Verdicts.{passes}
 use Rattle.answer_set_theory.specs.Answers as engine
-use Rattle.answer_set_theory.specs.Demand2.{Accepted, noRule}
+use Rattle.rule_tables.specs.Acceptance.{Accepted}
+use Rattle.answer_set_theory.specs.Demand2.{noRule}
 use Rattle.tight_programs.specs.TightPrograms.{LowerParts, Tight}
 use Rattle.tight_programs.specs.LiteralCompletion.{Formula, Completion}
 use Rattle.completion_theory.specs.Findings.{FormulaFinding, missing, clash, fails, holds}

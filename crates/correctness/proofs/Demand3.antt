@@ -23,7 +23,8 @@ use Rattle.logic_programs.specs.AnswerSets.{AnswerSet}
 use Rattle.answer_set_theory.specs.Verdicts.{Verdict, passes}
 use Rattle.logic_programs.specs.Words.{rulesOf}
 use Rattle.answer_set_theory.specs.Answers as engine
-use Rattle.answer_set_theory.specs.Demand2.{Accepted, Demand2}
+use Rattle.rule_tables.specs.Acceptance.{Accepted}
+use Rattle.answer_set_theory.specs.Demand2.{Demand2}
 use Rattle.answer_set_theory.proofs.Decoding.{rules-words, codes-coded}
 use Rattle.answer_set_theory.proofs.Theorems.{demand-2}
 use Rattle.action_language.specs.declared.Law.{Law}

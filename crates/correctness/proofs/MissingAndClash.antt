@@ -16,9 +16,10 @@ use Rattle.logic_programs.specs.Literals.{setOf, holdsTrue, holdsFalse}
 use Rattle.logic_programs.specs.ValueFaults as faults
 use Rattle.logic_programs.specs.ValueFaults.{ValueFault, valueFault, orFault}
 use Rattle.logic_programs.proofs.Values.{nowhere-none-or-both, missing-iff, clash-iff, neither-iff}
+use Rattle.rule_tables.specs.Acceptance.{Accepted}
 use Rattle.answer_set_theory.specs.Verdicts.{Verdict, clash}
 use Rattle.answer_set_theory.specs.Answers as engine
-use Rattle.answer_set_theory.specs.Demand2.{Accepted, Clashing, Demand2}
+use Rattle.answer_set_theory.specs.Demand2.{Clashing, Demand2}
 use Rattle.answer_set_theory.proofs.Theorems.{demand-2}
 use Rattle.logic_programs.specs.Literals.{NoValue, BothValues, NoneOrBoth}
 use Rattle.completion_theory.proofs.Tightness.{even-in, odd-in}

@@ -9,7 +9,7 @@ use lib.ListN.{length}
 use Rattle.basics.specs.Search.{Lowest}
 use Rattle.basics.specs.Replies.{answered}
 use Rattle.answer_set_theory.specs.Verdicts.{clash}
-use Rattle.answer_set_theory.specs.Demand2.{Accepted}
+use Rattle.rule_tables.specs.Acceptance.{Accepted}
 use Rattle.completion_theory.specs.Findings as formulas
 use Rattle.completion_theory.specs.Answers as completion
 use Rattle.logic_programs.specs.Literals.{NoValue, BothValues, NoneOrBoth}

@@ -12,6 +12,7 @@ use Rattle.basics.specs.Replies.{Reply, refused, answered, orElse}
 use Rattle.logic_programs.specs.Literals.{setOf, badValue}
 use Rattle.logic_programs.specs.Words.{rulesOf, badRule}
 use Rattle.answer_set_theory.specs.Verdicts.{Verdict, clash, verdict}
+use Rattle.rule_tables.specs.Acceptance.{tooManyValues, afterTests}
 use Rattle.answer_set_theory.specs.Answers as engine
 use Rattle.action_language.specs.declared.Law.{Law}
 use Rattle.action_language.specs.declared.Description.{Description}
@@ -107,9 +108,9 @@ module _ (vs ws : List ℕ) where
       apart a b q = let z : _≡_ {A = ℕ} 0 1 = cc in omega arith
 
   tests-changed : {former present : Reply formulas.FormulaFinding} → FormulasBecame former present
-      → FormulasBecame (completion.afterTests vs ws former) (completion.afterTests vs ws present)
+      → FormulasBecame (afterTests vs ws former) (afterTests vs ws present)
   tests-changed next =
-      tested-changed formulas.missing formulas.clash vs (engine.tooManyValues vs) 10
+      tested-changed formulas.missing formulas.clash vs (tooManyValues vs) 10
       (λ _. tested-changed formulas.missing formulas.clash vs (badValue vs) 11
       (λ _. tested-changed formulas.missing formulas.clash vs (badRule (length vs) ws) 12 (λ _. next)))
 

@@ -9,6 +9,7 @@ use Rattle.basics.specs.Search.{first}
 use Rattle.basics.specs.Replies.{Reply, answered, orElse, orRefuse}
 use Rattle.logic_programs.specs.Literals.{setOf}
 use Rattle.logic_programs.specs.Words.{rulesOf}
+use Rattle.rule_tables.specs.Acceptance.{afterTests}
 use Rattle.answer_set_theory.specs.Answers as engine
 use Rattle.action_language.specs.declared.Law.{Law}
 use Rattle.action_language.specs.declared.Description.{Description}
@@ -16,7 +17,6 @@ use Rattle.translation.specs.Translated as translated
 use Rattle.history_check.specs.Checks as history
 use Rattle.completion_theory.specs.Findings as formulas
 use Rattle.completion_theory.specs.LevelLists.{badLevels}
-use Rattle.completion_theory.specs.Answers.{afterTests}
 
 -- clash was the engine's own
 abbrev pub formerFinding : List ℕ → List ℕ → Reply history.Finding

@@ -13,9 +13,9 @@ use lib.ListN.{length}
 use Rattle.basics.specs.Replies.{Reply, refused, answered, orRefuse}
 use Rattle.logic_programs.specs.Rules.{lit, falsum}
 use Rattle.logic_programs.specs.Words.{headOf, headWord, rulesOf}
-use Rattle.answer_set_theory.specs.Demand2.{Accepted}
+use Rattle.rule_tables.specs.Acceptance.{Accepted}
+use Rattle.rule_tables.proofs.Testing.{few-values}
 use Rattle.answer_set_theory.proofs.Decoding.{accepted-count}
-use Rattle.answer_set_theory.proofs.Theorems.{few-values}
 use Rattle.completion_theory.specs.Findings.{FormulaFinding, missing, clash, fails, holds, formulaFinding}
 use Rattle.completion_theory.specs.LevelLists.{badLevels}
 use Rattle.completion_theory.specs.Answers.{answer, answerByLevels}

@@ -8,12 +8,14 @@ use native.Mathlib.Omega.{arith}
 use lib.ListN.{length}
 use Rattle.basics.specs.Replies.{Reply, answered}
 use Rattle.logic_programs.specs.Literals.{setOf}
-use Rattle.answer_set_theory.specs.Verdicts.{Verdict, clash, broken, unfounded, passes, verdict}
 use Rattle.logic_programs.specs.Words.{rulesOf}
+use Rattle.rule_tables.specs.Acceptance.{Accepted}
+use Rattle.rule_tables.proofs.Testing.{few-values}
+use Rattle.answer_set_theory.specs.Verdicts.{Verdict, clash, broken, unfounded, passes, verdict}
 use Rattle.answer_set_theory.specs.Answers.{answer}
-use Rattle.answer_set_theory.specs.Demand2.{Accepted, RightVerdict, Demand2}
+use Rattle.answer_set_theory.specs.Demand2.{RightVerdict, Demand2}
 use Rattle.answer_set_theory.proofs.Decoding.{accepted-count}
-use Rattle.answer_set_theory.proofs.Theorems.{few-values, accepted-judged, demand-2}
+use Rattle.answer_set_theory.proofs.Theorems.{accepted-judged, demand-2}
 use Rattle.answer_codes.specs.Codes.{coded, replyCode, verdictCode}
 use Rattle.huntyghai.specs.SetCodes.{Numbered, SetNumbered}
 

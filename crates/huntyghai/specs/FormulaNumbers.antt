@@ -10,8 +10,8 @@ use Rattle.basics.specs.Search.{Each, Lowest}
 use Rattle.logic_programs.specs.Literals.{setOf, OneValue}
 use Rattle.logic_programs.specs.Rules.{lit, falsum, Rule}
 use Rattle.logic_programs.specs.Words.{rulesOf}
+use Rattle.rule_tables.specs.Acceptance.{Accepted}
 use Rattle.answer_set_theory.specs.Answers as engine
-use Rattle.answer_set_theory.specs.Demand2.{Accepted}
 use Rattle.tight_programs.specs.TightPrograms.{Tight}
 use Rattle.tight_programs.specs.LiteralCompletion.{Formula, Completion}
 use Rattle.completion_theory.specs.LevelLists.{levelOf}

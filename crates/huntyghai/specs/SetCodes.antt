@@ -10,7 +10,8 @@ use Rattle.logic_programs.specs.Literals.{Lits, setOf}
 use Rattle.logic_programs.specs.Rules.{Rule}
 use Rattle.logic_programs.specs.AnswerSets.{AnswerSet}
 use Rattle.logic_programs.specs.Words.{rulesOf}
-use Rattle.answer_set_theory.specs.Demand2.{Accepted, Clashing, BrokenAt, Unfounded}
+use Rattle.rule_tables.specs.Acceptance.{Accepted}
+use Rattle.answer_set_theory.specs.Demand2.{Clashing, BrokenAt, Unfounded}
 use Rattle.answer_codes.specs.Codes.{coded}
 
 -- the number for the program Π and the set X over n atoms

@@ -122,5 +122,7 @@ definitions-hold = record {
   one-value = (inl refl, (inr refl, tt));
   not-one-value = (not-one 0 (λ e. omega arith) (λ e. omega arith), (not-one 3 (λ e. omega arith) (λ e. omega arith), tt));
   none-or-both = refl;
+  faults = refl;
+  said = refl;
   complements = complements;
 }

@@ -4,10 +4,11 @@
 use mathlib.Core.Path.{_≡_}
 use mathlib.Core.Bool.{true, false, _||_}
 use mathlib.Core.List.{List, [], _∷_, map}
-use Prim.Native.Nat.{ℕ}
+use Prim.Native.Nat.{ℕ, _+_}
 use lib.Dec.{eqb}
 use Rattle.basics.specs.Search.{Each, chosen, range}
 use Rattle.logic_programs.specs.Literals.{Lits, complement, setOf, OneValue, noneOrBoth}
+use Rattle.logic_programs.specs.ValueFaults.{missing, clash, neither, valueFault, orFault}
 use Rattle.logic_programs.specs.Rules.{Head, lit, falsum, Rule}
 use Rattle.logic_programs.specs.AnswerSets.{PositiveRule, reduct, Closed, ProperSubset, Consistent, AnswerSet}
 use Rattle.logic_programs.specs.AnswerSets.{literalHeaded, IsLeastClosed}
@@ -131,8 +132,13 @@ recipeWords =
     ∷ 0 ∷ 1 ∷ 0 ∷ 1
     ∷ []
 
+-- values, and what is said of them: both below none, none below both, and one value each
+abbrev pub faulty : List (List ℕ)
+faulty = (1 ∷ 3 ∷ 0 ∷ []) ∷ (2 ∷ 0 ∷ 3 ∷ []) ∷ (1 ∷ 2 ∷ []) ∷ []
+
 -- all of it: each set is an answer set or is not, for the reason given; the reduct and its least closed set; the words of
--- the rules and back; the literals that four value bytes stand for, which values are one value, and complements
+-- the rules and back; the literals that four value bytes stand for, which values are one value, the fault of values and what is
+-- said of it, and complements
 pub record DefinitionsHold : Type 0 where
   pub answer-sets : Each IsAnswerSet answerSets
   pub other-sets : Each IsOther otherSets
@@ -146,4 +152,6 @@ pub record DefinitionsHold : Type 0 where
   pub one-value : Each OneValue (1 ∷ 2 ∷ [])
   pub not-one-value : Each (λ v. OneValue v → ⊥) (0 ∷ 3 ∷ [])
   pub none-or-both : map noneOrBoth (0 ∷ 1 ∷ 2 ∷ 3 ∷ []) ≡ true ∷ false ∷ false ∷ true ∷ []
+  pub faults : map valueFault faulty ≡ clash 1 ∷ missing 1 ∷ neither ∷ []
+  pub said : map (λ vs. orFault (valueFault vs) (λ a. 10 + a) (λ a. 20 + a) 0) faulty ≡ 21 ∷ 11 ∷ 0 ∷ []
   pub complements : map complement (p ∷ ¬p ∷ r ∷ 5 ∷ []) ≡ ¬p ∷ p ∷ 5 ∷ r ∷ []

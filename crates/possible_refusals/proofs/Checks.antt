@@ -16,11 +16,11 @@ use Rattle.basics.proofs.Tests.{all-each}
 use Rattle.logic_programs.specs.Literals.{setOf, badValue}
 use Rattle.answer_set_theory.specs.Verdicts.{verdict}
 use Rattle.logic_programs.specs.Words.{rulesOf, badRule}
-use Rattle.answer_set_theory.specs.Answers.{tooManyValues, answer}
+use Rattle.rule_tables.specs.Acceptance.{tooManyValues, afterTests}
+use Rattle.answer_set_theory.specs.Answers.{answer}
 use Rattle.completion_theory.specs.Findings as findings
 use Rattle.completion_theory.specs.LevelLists.{badLevels}
 use Rattle.completion_theory.specs.Answers as completed
-use Rattle.completion_theory.specs.Answers.{afterTests}
 use Rattle.action_language.specs.declared.Law.{Law}
 use Rattle.action_language.specs.declared.Description.{Description}
 use Rattle.action_language.specs.Laws.{lawsOf}

@@ -14,8 +14,34 @@ use Rattle.basics.specs.Search.{all}
 use Rattle.basics.proofs.Loops.{to-the-end}
 use Rattle.logic_programs.specs.Literals.{Lits}
 use Rattle.logic_programs.specs.Words.{ruleSize, ruleAt, ruleFits, headFits, partsFit}
-use Rattle.rule_tables.specs.Bodies.{applies, frontApplies}
+use Rattle.rule_tables.specs.Bodies.{applies, frontNegated, frontPlain, frontApplies}
 use Rattle.rule_tables.proofs.Fitting.{badRuleFrom, badRuleFrom-cons, badRuleFrom-nil, ruleFits-iff}
+
+-- the parts that the code takes of a whole rule are the rule's; of one that runs past the end it takes none
+module _ (ws : List ℕ) where
+  pub negated-taken : take (3 + getD ws 1 0 - 3) (drop 3 ws) ≡ ruleAt ws .negated
+  negated-taken = let e : 3 + getD ws 1 0 - 3 ≡ getD ws 1 0 = omega arith in ap (λ (k : ℕ). take k (drop 3 ws)) e
+
+  pub plain-taken : take (3 + getD ws 1 0 + getD ws 2 0 - (3 + getD ws 1 0)) (drop (3 + getD ws 1 0) ws) ≡ ruleAt ws .plain
+  plain-taken =
+      let e : 3 + getD ws 1 0 + getD ws 2 0 - (3 + getD ws 1 0) ≡ getD ws 2 0 = omega arith in
+      ap (λ (k : ℕ). take k (drop (3 + getD ws 1 0) ws)) e
+
+  pub negated-short : length ws < ruleSize ws → [] ≡ frontNegated ws
+  unfolding frontNegated
+  negated-short h = rw (lt-leb (ruleSize ws) (length ws) h)
+
+  pub plain-short : length ws < ruleSize ws → [] ≡ frontPlain ws
+  unfolding frontPlain
+  plain-short h = rw (lt-leb (ruleSize ws) (length ws) h)
+
+  pub negated-whole : ruleSize ws ≤ length ws → ruleAt ws .negated ≡ frontNegated ws
+  unfolding frontNegated
+  negated-whole h = rw (le-leb (ruleSize ws) (length ws) h)
+
+  pub plain-whole : ruleSize ws ≤ length ws → ruleAt ws .plain ≡ frontPlain ws
+  unfolding frontPlain
+  plain-whole h = rw (le-leb (ruleSize ws) (length ws) h)
 
 -- a rule that runs past the end does not apply; of a whole one, its body decides
 module _ (X Y : Lits) (ws : List ℕ) where
@@ -28,21 +54,14 @@ module _ (X Y : Lits) (ws : List ℕ) where
   whole-applies h e = rw (le-leb (ruleSize ws) (length ws) h) at e
 
 -- a rule applies: first its negated parts are looked at, then its plain ones
-module _ (X Y : Lits) (ws : List ℕ) (r : Bool) (is : r ≡ all (λ c. not (X c)) (take (3 + getD ws 1 0 - 3) (drop 3 ws))) where
-  negated : r ≡ all (λ c. not (X c)) (ruleAt ws .negated)
-  negated = let e : 3 + getD ws 1 0 - 3 ≡ getD ws 1 0 = omega arith in rw e at is
-
+module _ (X Y : Lits) (ws : List ℕ) (r : Bool) (is : r ≡ all (λ c. not (X c)) (ruleAt ws .negated)) where
   pub applies-stop : ruleSize ws ≤ length ws → not r ≡ true → false ≡ frontApplies X Y ws
   unfolding frontApplies
-  applies-stop h e = rw (le-leb (ruleSize ws) (length ws) h, ← negated, not-true r e)
+  applies-stop h e = rw (le-leb (ruleSize ws) (length ws) h, ← is, not-true r e)
 
-  pub applies-go : (q : Bool) → ruleSize ws ≤ length ws → not r ≡ false
-      → q ≡ all Y (take (3 + getD ws 1 0 + getD ws 2 0 - (3 + getD ws 1 0)) (drop (3 + getD ws 1 0) ws))
-      → q ≡ frontApplies X Y ws
+  pub applies-go : (q : Bool) → ruleSize ws ≤ length ws → not r ≡ false → q ≡ all Y (ruleAt ws .plain) → q ≡ frontApplies X Y ws
   unfolding frontApplies
-  applies-go q h e plain =
-      let size : 3 + getD ws 1 0 + getD ws 2 0 - (3 + getD ws 1 0) ≡ getD ws 2 0 = omega arith in
-      rw (le-leb (ruleSize ws) (length ws) h, ← negated, not-false r e) (rw size at plain)
+  applies-go q h e plain = rw (le-leb (ruleSize ws) (length ws) h, ← is, not-false r e) plain
 
 -- a code is below 2 × atoms where its atom is below atoms
 pub half-below : (c n : ℕ) → ltb (c / 2) n ≡ ltb c (2 * n)

@@ -4,4 +4,5 @@ pub mod Fitting
 pub mod Fronts
 pub mod Lookups
 pub mod MarkExamples
+pub mod Testing
 pub mod Walking

@@ -1,7 +1,7 @@
 -- Bodies and heads of rules looked up in sets of literals: what the functions on a rule table tell.
 -- Assumes nothing.
-use mathlib.Core.Bool.{Bool, true, false, not, _&&_}
-use mathlib.Core.List.{List}
+use mathlib.Core.Bool.{Bool, true, false, cond, not, _&&_}
+use mathlib.Core.List.{List, []}
 use Prim.Native.Nat.{ℕ}
 use lib.Dec.{leb}
 use lib.ListN.{length}
@@ -24,6 +24,13 @@ abbrev pub is : Bool → Bool → Bool
 is true b = b
 is false b = not b
 
--- the rule at the front of a list of words does not run past the end, and applies
+-- the negated and the plain parts of the rule at the front of a list of words; none where it runs past the end
+unfoldable pub frontNegated : List ℕ → List ℕ
+frontNegated ws = cond (leb (ruleSize ws) (length ws)) (ruleAt ws .negated) []
+
+unfoldable pub frontPlain : List ℕ → List ℕ
+frontPlain ws = cond (leb (ruleSize ws) (length ws)) (ruleAt ws .plain) []
+
+-- the rule at the front does not run past the end, and applies
 unfoldable pub frontApplies : Lits → Lits → List ℕ → Bool
 frontApplies X Y ws = leb (ruleSize ws) (length ws) && applies X Y (ruleAt ws)

@@ -2,12 +2,12 @@
 use crate::marks;
 use basics::Found;
 ghost use mathlib.Core.Path.{_≡_};
-ghost use Prim.Native.Nat.{_<_};
-ghost use lib.ListN.{getD};
-ghost use Rattle.basics.specs.Search.{placeOf};
-ghost use Rattle.rule_tables.specs.Bodies.{headIn, frontApplies};
+ghost use Prim.Native.Nat.{_≤_, _<_};
+ghost use lib.ListN.{length, getD};
+ghost use Rattle.basics.specs.Replies.{refusalOf, refusal};
+ghost use Rattle.rule_tables.specs.Bodies.{headIn, frontNegated, frontPlain, frontApplies};
 ghost use Rattle.rule_tables.specs.Marks.{marked};
-ghost use Rattle.logic_programs.specs.Words.{ruleSize, ruleFits, headFits, headOf, partsFit, badRule};
+ghost use Rattle.logic_programs.specs.Words.{ruleSize, ruleAt, ruleFits, headFits, headOf, partsFit, badRule};
 
 // A word, or 0 past the end.
 pub fn word(words: &[u16], i: usize) -> usize
@@ -65,9 +65,9 @@ fn rule_fits(rest: &[u16], atoms: usize) -> bool
     parts_fit(&rest[3..size], atoms)
 }
 
-// The word where the first rule starts that does not fit, or that would be the 4,097th.
+// Refusal 12: the word where the first rule starts that does not fit, or that would be the 4,097th.
 pub fn bad_rule(table: &[u16], atoms: usize) -> Found
-    ensures { λ r. ⌜ placeOf r ≡ badRule atoms (now (table .entry)) ⌝ }
+    ensures { λ r. ⌜ refusalOf 12 r ≡ refusal 12 (badRule atoms (now (table .entry))) ⌝ }
 {
     let mut rest = table;
     let mut at: usize = 0;
@@ -87,6 +87,45 @@ pub fn bad_rule(table: &[u16], atoms: usize) -> Found
     Found::Nothing
 }
 
+// The negated parts of the rule at the front, which is whole.
+fn whole_negated(rest: &[u16]) -> &[u16]
+    requires { ⌜ ruleSize (now rest) ≤ length (now rest) ⌝ }
+    ensures { λ r. ⌜ now r ≡ (ruleAt (now (rest .entry)) .negated) ⌝ }
+{
+    let end = 3 + (rest[1] as usize);
+    &rest[3..end]
+}
+
+// Its plain parts.
+fn whole_plain(rest: &[u16]) -> &[u16]
+    requires { ⌜ ruleSize (now rest) ≤ length (now rest) ⌝ }
+    ensures { λ r. ⌜ now r ≡ (ruleAt (now (rest .entry)) .plain) ⌝ }
+{
+    let start = 3 + (rest[1] as usize);
+    let end = start + (rest[2] as usize);
+    &rest[start..end]
+}
+
+// The negated parts of the rule at the front; none where it runs past the end.
+pub fn negated_parts(rest: &[u16]) -> &[u16]
+    ensures { λ r. ⌜ now r ≡ frontNegated (now (rest .entry)) ⌝ }
+{
+    if rest.len() < rule_size(rest) {
+        return &rest[..0];
+    }
+    whole_negated(rest)
+}
+
+// The plain parts of the rule at the front; none where it runs past the end.
+pub fn plain_parts(rest: &[u16]) -> &[u16]
+    ensures { λ r. ⌜ now r ≡ frontPlain (now (rest .entry)) ⌝ }
+{
+    if rest.len() < rule_size(rest) {
+        return &rest[..0];
+    }
+    whole_plain(rest)
+}
+
 // Whether the rule at the front is whole, no negated part of it is in x and every plain part is in y.
 pub fn rule_applies(rest: &[u16], x: &[u64], y: &[u64]) -> bool
     ensures { λ r. ⌜ r ≡ frontApplies (marked (now (x .entry))) (marked (now (y .entry))) (now (rest .entry)) ⌝ }
@@ -94,12 +133,10 @@ pub fn rule_applies(rest: &[u16], x: &[u64], y: &[u64]) -> bool
     if rest.len() < rule_size(rest) {
         return false;
     }
-    let middle = 3 + (rest[1] as usize);
-    let end = middle + (rest[2] as usize);
-    if !marks::all_are(&rest[3..middle], x, false) {
+    if !marks::all_are(whole_negated(rest), x, false) {
         return false;
     }
-    marks::all_are(&rest[middle..end], y, true)
+    marks::all_are(whole_plain(rest), y, true)
 }
 
 // Whether a head is a literal of the set; false never is.

@@ -4,6 +4,8 @@ ghost use mathlib.Core.Path.{_≡_};
 ghost use Rattle.basics.specs.Search.{first, placeOf};
 ghost use Rattle.basics.specs.Replies.{refusalOf, refusal};
 ghost use Rattle.logic_programs.specs.Literals.{setOf, holdsTrue, holdsFalse, noneOrBoth, badValue};
+ghost use Rattle.logic_programs.specs.ValueFaults.{valueFault};
+ghost use Rattle.rule_tables.specs.Faults.{faultOf};
 
 // Refusal 11: the lowest index of a byte over 3.
 pub fn bad_value(values: &[u8]) -> Found
@@ -38,6 +40,26 @@ pub fn first_none_or_both(values: &[u8]) -> Found
         i += 1;
     }
     Found::Nothing
+}
+
+// An atom without a value, an atom with both, or neither: each atom has one value.
+pub enum Fault {
+    Missing(usize),
+    Clash(usize),
+    Neither,
+}
+
+// The lowest atom without one value, and which fault it is.
+pub fn first_fault(values: &[u8]) -> Fault
+    ensures { λ r. ⌜ faultOf r ≡ valueFault (now (values .entry)) ⌝ }
+{
+    if let Found::At(atom) = first_none_or_both(values) {
+        if values[atom] == 0 {
+            return Fault::Missing(atom);
+        }
+        return Fault::Clash(atom);
+    }
+    Fault::Neither
 }
 
 // Whether a value makes its atom true.

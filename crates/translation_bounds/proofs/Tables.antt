@@ -10,10 +10,10 @@ use borrow.Author.Tests.{le-ltb}
 use lib.ListN.{length}
 use Rattle.basics.specs.Replies.{answered}
 use Rattle.logic_programs.specs.Literals.{setOf, badValue}
-use Rattle.answer_set_theory.specs.Verdicts.{verdict}
 use Rattle.logic_programs.specs.Words.{rulesOf, badRule}
+use Rattle.rule_tables.specs.Acceptance as acceptance
+use Rattle.answer_set_theory.specs.Verdicts.{verdict}
 use Rattle.answer_set_theory.specs.Answers as engine
-use Rattle.answer_set_theory.specs.Demand2 as engine-meaning
 use Rattle.answer_set_theory.proofs.Decoding.{words-accepted}
 use Rattle.answer_set_theory.proofs.Theorems.{accepted-judged}
 use Rattle.action_language.specs.declared.Law.{Law}
@@ -45,7 +45,7 @@ module _ (d : Description) (ls : List Law) (lent room : ℕ) {a r w : ℕ} (e : 
       (codes-below (d .fluents) (d .actions) (d .horizon) (lawsOf d ls) fit)
       (at-most-4096 (d .fluents) (d .actions) (d .horizon) (lawsOf d ls) (l .0) (l .1) (l .3) (accepted-few d ls lent (accepted .taken))))
 
-  pub engine-accepts : (vs : List ℕ) → length vs ≡ a → badValue vs ≡ none → engine-meaning.Accepted vs (tableFor d ls)
+  pub engine-accepts : (vs : List ℕ) → length vs ≡ a → badValue vs ≡ none → acceptance.Accepted vs (tableFor d ls)
   engine-accepts vs size small = (
     ap (λ (b : Bool). cond b (some (length vs)) none) (le-ltb 1024 (length vs) (omega (arith, few-atoms))),
     small,

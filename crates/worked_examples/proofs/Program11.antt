@@ -18,7 +18,8 @@ use Rattle.logic_programs.specs.Literals.{setOf, holdsTrue, holdsFalse, badValu
 use Rattle.logic_programs.specs.AnswerSets.{AnswerSet}
 use Rattle.answer_set_theory.specs.Verdicts.{Verdict, clash, broken, unfounded, passes, verdict}
 use Rattle.logic_programs.specs.Words.{rulesOf, badRule}
-use Rattle.answer_set_theory.specs.Answers.{tooManyValues, answer}
+use Rattle.rule_tables.specs.Acceptance.{tooManyValues}
+use Rattle.answer_set_theory.specs.Answers.{answer}
 use Rattle.answer_set_theory.proofs.Theorems.{passes-exactly}
 use Rattle.worked_examples.specs.Program11.{program11, answerSets11, allValues, isPass, passing}
 

@@ -1,9 +1,10 @@
 -- `completion::check_by_levels` meets its contract.
 -- Assumes nothing.
 use mathlib.Core.Path.{sym, ap, _∙_}
+use Rattle.basics.specs.Replies.{testedOf}
 use Rattle.basics.proofs.Loops.{at-place, no-place}
-use Rattle.completion.specs.Internal.{testedOf}
-use Rattle.completion.proofs.Testing.{accepts, says-tested, says-13, says-levelled, judge-ready, levels-ready}
+use Rattle.rule_tables.proofs.Testing.{accepts}
+use Rattle.completion.proofs.Testing.{says-tested, says-13, says-levelled, judge-ready, levels-ready}
 use Rattle.completion_theory.proofs.Theorems.{keeps-levels}
 use borrow.Author.Needs.{needs}
 use Rattle.completion.proofs.check_by_levels.Statement.{statement}

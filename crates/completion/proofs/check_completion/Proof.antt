@@ -1,8 +1,9 @@
 -- `completion::check_completion` meets its contract.
 -- Assumes nothing.
 use mathlib.Core.Path.{sym, ap, _∙_}
-use Rattle.completion.specs.Internal.{testedOf}
-use Rattle.completion.proofs.Testing.{accepts, says-refused, says-found, judge-ready}
+use Rattle.basics.specs.Replies.{testedOf}
+use Rattle.rule_tables.proofs.Testing.{accepts}
+use Rattle.completion.proofs.Testing.{says-refused, says-found, judge-ready}
 use Rattle.completion_theory.proofs.Theorems.{keeps-formulas}
 use borrow.Author.Needs.{needs}
 use Rattle.completion.proofs.check_completion.Statement.{statement}

@@ -47,7 +47,9 @@ mark-of-requires : tie.Need-mark-of-requires Inv-loop μ-loop
 mark-of-requires c κs = tt
 
 body-holds-requires : tie.Need-body-holds-requires Inv-loop μ-loop
-body-holds-requires c κs = tt
+body-holds-requires c κs =
+    let t = c .before .before in
+    sound-size _ (t .loop-test .taken) (t .before .loop .inv .1)
 
 array-write-held : tie.Need-array-write-held Inv-loop μ-loop
 array-write-held c =

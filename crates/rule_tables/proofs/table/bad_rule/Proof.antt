@@ -1,9 +1,10 @@
 -- `rule_tables::table::bad_rule` meets its contract.
 -- Assumes nothing.
 use native.Mathlib.Omega.{arith}
-use mathlib.Core.Path.{_≡_, sym}
+use mathlib.Core.Path.{_≡_, sym, ap}
 use Prim.Native.Nat.{_≤_, _+_}
 use lib.ListN.{length, length-drop}
+use Rattle.basics.specs.Replies.{refusal}
 use Rattle.logic_programs.specs.Words.{ruleSize, badRule}
 use Rattle.rule_tables.proofs.Fitting.{badRuleFrom, badRule-from}
 use Rattle.rule_tables.proofs.Fronts.{bad-many, bad-stop, bad-go, bad-end, fits-size, left-behind, shorter}
@@ -22,7 +23,8 @@ loop-holds c = (omega arith, omega arith, sym (badRule-from _ _))
 
 returns : tie.Need-returns Inv-loop μ-loop
 returns c =
-    bad-many _ _ _ (c .before .before .loop .rest .now) (c .before .loop-test .taken) (c .before .before .loop .inv .2) (c .if1 .taken)
+    ap (refusal 12)
+    (bad-many _ _ _ (c .before .before .loop .rest .now) (c .before .loop-test .taken) (c .before .before .loop .inv .2) (c .if1 .taken))
 
 rule-fits-requires : tie.Need-rule-fits-requires Inv-loop μ-loop
 rule-fits-requires c κs = tt
@@ -31,7 +33,8 @@ returns-2 : tie.Need-returns-2 Inv-loop μ-loop
 returns-2 c =
     let c3 = c .before .before .before in
     let c4 = c3 .before in
-    bad-stop _ _ _ (c4 .loop .rest .now) _ (c3 .loop-test .taken) (c4 .loop .inv .2) (c .before .rule-fits .ensures) (c .if2 .taken)
+    ap (refusal 12)
+    (bad-stop _ _ _ (c4 .loop .rest .now) _ (c3 .loop-test .taken) (c4 .loop .inv .2) (c .before .rule-fits .ensures) (c .if2 .taken))
 
 rule-size-requires : tie.Need-rule-size-requires Inv-loop μ-loop
 rule-size-requires c κs = tt
@@ -91,7 +94,7 @@ loop-again c =
     )
 
 returns-3 : tie.Need-returns-3 Inv-loop μ-loop
-returns-3 c = bad-end _ _ _ (c .before .loop .rest .now) (c .loop-test .left) (c .before .loop .inv .2)
+returns-3 c = ap (refusal 12) (bad-end _ _ _ (c .before .loop .rest .now) (c .loop-test .left) (c .before .loop .inv .2))
 
 pub bad-rule-spec : {M : Type 1} → statement M
 bad-rule-spec =

@@ -1,10 +1,10 @@
--- `completion::test` meets its contract.
+-- `rule_tables::acceptance::test` meets its contract.
 -- Assumes nothing.
-use Rattle.basics.proofs.Loops.{at-place, no-place, refused-at, not-refused}
-use Rattle.completion.proofs.Testing.{says-10, says-11, says-12, says-accepted}
+use Rattle.basics.proofs.Loops.{refused-at, not-refused}
+use Rattle.rule_tables.proofs.Testing.{says-10, says-11, says-12, says-accepted}
 use borrow.Author.Needs.{needs}
-use Rattle.completion.proofs.test.Statement.{statement}
-use Rattle.completion.proofs.test.Tie as tie
+use Rattle.rule_tables.proofs.acceptance.test.Statement.{statement}
+use Rattle.rule_tables.proofs.acceptance.test.Tie as tie
 
 returns : tie.Need-returns
 returns c = says-10 _ _ (c .if1 .taken)
@@ -35,7 +35,7 @@ returns-3 c =
     let c4 = c3 .before in
     let c6 = c4 .before .before in
     says-12 _ _ (c6 .before .if1 .left) (not-refused 11 (c6 .bad-value .ensures) (c4 .enum-told .given .1))
-    (at-place (c3 .bad-rule .ensures) (c .before .place2 .given .1))
+    (refused-at 12 (c3 .bad-rule .ensures) (c .before .place2 .given .1))
 
 enum-told-2 : tie.Need-enum-told-2
 enum-told-2 c = search needs
@@ -46,7 +46,7 @@ returns-4 c =
     let c3 = c2 .before in
     let c5 = c3 .before .before in
     says-accepted _ _ (c5 .before .if1 .left) (not-refused 11 (c5 .bad-value .ensures) (c3 .enum-told .given .1))
-    (no-place (c2 .bad-rule .ensures) (c .enum-told2 .given .1))
+    (not-refused 12 (c2 .bad-rule .ensures) (c .enum-told2 .given .1))
 
 pub test-spec : {M : Type 1} → statement M
 test-spec =
