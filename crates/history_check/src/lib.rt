@@ -57,8 +57,8 @@ pub fn check_history(
     ensures answers { λ r. ⌜ replyOf r ≡ checked d laws lent (now (values .entry)) (length (now (table .entry))) ⌝ }
     ensures leaves { λ _. ⌜ now (table .exit) ≡ tableAfter d laws lent (now (values .entry)) (now (table .entry)) ⌝ }
 {
-    let tested = Tested::Accepted;
-    let written = translation::translate_for_history(d, laws, lent, values, tested, table);
+    let later = Tested::Accepted;
+    let written = translation::translate_for_history(d, laws, lent, values, later, table);
     match written {
         Translated::Refused(number, place) => Checked::Refused(number, place),
         Translated::Written(_atoms, _rules, words) => verdict(values, &table[..words]),

@@ -76,7 +76,11 @@ pub fn read_input(input: &[u8]) -> Input
             atoms: 0,
         },
         Answer::Read(bytes, lines) => {
-            let atoms = action_language::atom_count(description.fluents, description.actions, description.horizon);
+            let atoms = action_language::atom_count(
+                description.fluents,
+                description.actions,
+                description.horizon,
+            );
             let said = history_reader::read_history(input, &input[bytes..], &mut values[..atoms]);
             let answer = moved_up(lines, said);
             Input {

@@ -9,7 +9,7 @@ use Rattle.history_reader.proofs.histories.atom_count.Statement.{statem
 use Rattle.history_reader.proofs.histories.atom_count.Tie as tie
 
 sub-atom-count : tie.Need-sub-atom-count
-sub-atom-count c = c .before .before .pre .declared
+sub-atom-count c = c .before .before .before .pre .declared
 
 atom-count-requires : tie.Need-atom-count-requires
 atom-count-requires c κs = search needs
