@@ -1,7 +1,7 @@
 -- `descriptions::read_alone` meets its contract: a refusal, or what was read.
 -- Assumes nothing.
 use native.Mathlib.Omega.{arith}
-use mathlib.Core.Path.{_≡_, refl, sym, ap, subst, _∙_}
+use mathlib.Core.Path.{refl, sym, ap, subst, _∙_}
 use Prim.Native.Nat.{ℕ}
 use Rattle.text.specs.declared.names.Names.{Names}
 use Rattle.description_reader.specs.declared.descriptions.Declarations.{Declarations}

@@ -255,7 +255,8 @@ lines-again c =
       omega arith,
       m .line-step .ensures .1 .sound,
       m .line-step .ensures .1 .follows _ (rw (h .loop .inv .0) (n .lines .inv .3)),
-      sym (goes-left (text-at h) s on (lent-at h) (n .lines .at) (n .lines .line) (line-at h .next) e (line-fits _ _ (l .line-at .ensures) .within))
+      sym (goes-left (text-at h) s on (lent-at h) (n .lines .at) (n .lines .line) (line-at h .next) e
+          (line-fits _ _ (l .line-at .ensures) .within))
           ∙ sym (stepped-left (text-at h) (lent-at h) (state-at h) (n .lines .at) (n .lines .line) (line-at h)
           (line-answers _ _ (l .line-at .ensures)) s _ (made m) (read-list m))
           ∙ n .lines .inv .4,

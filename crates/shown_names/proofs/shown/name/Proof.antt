@@ -14,7 +14,6 @@ use Rattle.description_reader.specs.declared.descriptions.Declarations.{Declara
 use Rattle.description_reader.proofs.Answering.{Declared, declared-refused, declared-read}
 use Rattle.shown_names.proofs.Showing.{part-refused, part-no-action, part-action, part-no-fluent, part-fluent}
 use Rattle.shown_names.proofs.Showing.{value-shown, shown-part}
-use borrow.Author.Needs.{needs}
 use Rattle.shown_names.proofs.shown.name.Statement.{statement}
 use Rattle.shown_names.proofs.shown.name.Tie as tie
 
@@ -74,7 +73,7 @@ returns-2 c =
     (c .no-part2 .ensures)
 
 add-place : tie.Need-add-place
-add-place c = let n = c .before .before in omega (arith, declared n .limits .few, c .if3 .left)
+add-place c = let n = c .before .before .before in omega (arith, declared n .limits .few, c .before .if3 .left)
 
 no-part-requires-3 : tie.Need-no-part-requires-3
 no-part-requires-3 c κs = tt
