@@ -2,5 +2,6 @@
 pub mod Gathering
 pub mod Deciding
 pub mod Stepping
+pub mod Joining
 pub mod Walking
 pub mod Answering

@@ -32,7 +32,7 @@ use Rattle.description_reader.specs.LineSteps.{literalLine, nonexecutabl
 use Rattle.line_values.specs.declared.law_forms.Places.{Places}
 use Rattle.line_values.specs.ShortLaws.{nonexecutableLaw}
 use Rattle.line_values.specs.Internal.{placesOf}
-use Rattle.description_reader.specs.Internal.{dueOf, draftOf, HasRoom, Sound, Padded, Pushed, Follows, Limits}
+use Rattle.description_reader.specs.Internal.{dueOf, draftOf, HasRoom, Sound, Padded, Pushed, Follows}
 
 at-most-64 : (due : Due) (n : ℕ) → HasRoom due n → n ≤ 64
 at-most-64 horizonDue n h = h
@@ -57,9 +57,6 @@ room-any (byDue l) n h = h
 
 pub sound-64 : {due : Due} {r : HeldDraft} → Sound due r → r .run .count ≤ 64
 sound-64 {due} {r} s = at-most-64 due (r .run .count) (s .room)
-
-pub sound-limits : {due : Due} {r : HeldDraft} → Sound due r → Limits r
-sound-limits s = record { time = s .time; few = s .few; declared = s .declared; actions = s .actions }
 
 or-left : (a b : Bool) → a ≡ true → (a || b) ≡ true
 or-left a b e = or-iff a b .1 (inl e)

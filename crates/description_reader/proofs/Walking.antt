@@ -27,10 +27,11 @@ use Rattle.description_reader.specs.declared.states.HeldDraft.{HeldDraft
 use Rattle.description_reader.specs.declared.states.ReaderState.{ReaderState}
 use Rattle.text.specs.Lists as lists
 use Rattle.text.specs.Lists.{Listed, codes, listFrom, listOf}
-use Rattle.text.specs.Internal.{lineOf, spelled, itemsAt}
+use Rattle.text.specs.Internal.{spelled, itemsAt}
 use Rattle.description_reader.specs.Internal.{dueAt, draftOf, stepOf, stepWith, isListKey, itemsFrom, highFor}
 use Rattle.description_reader.specs.Internal.{takenOf, blankState, Sound}
 use Rattle.text.proofs.Cutting.{first-inside}
+use Rattle.text.proofs.Placing.{lineOf}
 use Rattle.text.proofs.Spelling.{spelled-length}
 use Rattle.text.proofs.Items.{items-start, items-end, items-none}
 use Rattle.description_reader.proofs.Stepping.{room-here}

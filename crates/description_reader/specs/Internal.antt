@@ -13,6 +13,7 @@ use Rattle.description_reader.specs.declared.Run.{Run}
 use Rattle.description_reader.specs.declared.states.HeldDraft.{HeldDraft}
 use Rattle.description_reader.specs.declared.states.ReaderState.{ReaderState}
 use Rattle.description_reader.specs.declared.descriptions.Ending.{Ending}
+use Rattle.description_reader.specs.declared.descriptions.Declarations.{Declarations}
 use Rattle.description_reader.specs.declared.states.Due as code
 use Rattle.description_reader.specs.declared.states.Due.the-variants as code-due
 use Rattle.description_reader.specs.declared.codes.Codes.{Codes}
@@ -21,6 +22,7 @@ use Rattle.text.specs.Lines.{defaultKey, inertialKey, causesKey, byKey, nonexec
 use Rattle.text.specs.Lists as lists
 use Rattle.text.specs.Lists.{Listed, codes, added}
 use Rattle.text.specs.Internal.{spelled}
+use Rattle.text.specs.NamePlaces.{noNames, joined, namesIn}
 use Rattle.description_reader.specs.LineSteps.{Due, horizonDue, firstFluentDue, fluentDue, actionDue, lawDue}
 use Rattle.description_reader.specs.LineSteps.{ifDue, afterDue, byDue, Draft, allowed}
 use Rattle.description_reader.specs.LineSteps as step
@@ -106,10 +108,17 @@ pub record Sound (due : Due) (r : HeldDraft) : Type 0 where
 abbrev pub Follows : List Law → Run → Type 0
 Follows old run = drop (run .count) (run .laws) ≡ drop (run .count) old
 
--- what every line's step keeps
+-- what every line's step keeps that declares no name
 pub record Goes (s r : ReaderState) : Type 0 where
   pub sound : Sound (dueAt r) (r .draft)
   pub follows : (old : List Law) → Follows old (s .draft .run) → Follows old (r .draft .run)
+  pub names : r .draft .names ≡ s .draft .names
+
+-- the same of a line whose value joins the names if it declares one, unless the line is refused
+pub record Joins (declares : Bool) (from size : ℕ) (s r : ReaderState) : Type 0 where
+  pub sound : Sound (dueAt r) (r .draft)
+  pub follows : (old : List Law) → Follows old (s .draft .run) → Follows old (r .draft .run)
+  pub names : r .refused ≡ 0 → r .draft .names ≡ joined declares from size (s .draft .names)
 
 -- whether one more action, or one more fluent, can be declared
 abbrev pub hasPlace : Bool → ℕ → ℕ → Bool
@@ -174,7 +183,7 @@ blankState laws =
           record {
             horizon = 0;
             fluents = 0;
-            names = record { starts = replicate 32 0; lengths = replicate 32 0; count = 0 };
+            names = noNames;
             run = record { laws = laws; count = 0 };
           };
     }
@@ -200,10 +209,19 @@ pub record Ended (old : List Law) (text : List ℕ) (e : Ending) : Type 0 where
   pub sound : Sound (dueAt (e .state)) (e .state .draft)
   pub follows : Follows old (e .state .draft .run)
   pub within : e .at ≤ length text
+  pub names : e .state .refused ≡ 0 → e .state .draft .names ≡ namesIn (e .line) text
 
--- the limits of a description that was read
-pub record Limits (r : HeldDraft) : Type 0 where
+-- the draft that declarations make with some laws, and the limits that they keep to
+abbrev pub draftBy : List ℕ → List Law → Declarations → Draft
+draftBy text laws r = record { horizon = r .horizon; fluents = r .fluents; names = spelled text (r .names); laws = laws }
+
+pub record Limits (r : Declarations) : Type 0 where
   pub time : r .horizon ≤ 30
   pub few : r .fluents ≤ 24
   pub declared : r .fluents ≤ r .names .count
   pub actions : r .names .count ≤ r .fluents + 8
+
+-- a refusal has a number; else the names that stand at the places are those of the draft, whose declarations keep to the limits
+abbrev pub Declares : List ℕ → Declarations → Reply Taken → Type 0
+Declares text r (refused number line) = 0 < number
+Declares text r (answered (read d rest lines)) = (d ≡ draftBy text (d .laws) r) × Limits r

@@ -2,4 +2,5 @@
 pub mod LineSteps
 pub mod Descriptions
 pub mod Answers
+pub mod Declarations
 pub mod Internal

@@ -20,24 +20,42 @@ ghost use lib.Dec.{ltb};
 ghost use lib.ListN.{length};
 ghost use Rattle.action_language.specs.declared.Law.{Law};
 ghost use Rattle.description_reader.specs.Descriptions.{described};
-ghost use Rattle.description_reader.specs.Internal.{dueOf, blankState, isListKey, itemsFrom, highFor, takenOf, Ended, Limits};
+ghost use Rattle.text.specs.NamePlaces.{noNames};
+ghost use Rattle.description_reader.specs.Declarations.{declarations};
+ghost use Rattle.description_reader.specs.Internal.{dueOf, blankState, isListKey, itemsFrom, highFor, takenOf, Ended, Declares};
 
 // Where the reader stopped: its state, the line, and the place behind the line.
-pub struct Ending {
+pub(crate) struct Ending {
     pub state: ReaderState,
     pub line: usize,
     pub at: usize,
+}
+
+// What a text declares: the horizon, how many of the names are fluents, and the names, where each stands in the text. A text that is
+// refused declares nothing; `refused` is then the refusal's number (else 0) and `line` its place (else how many lines were read).
+pub struct Declarations {
+    pub refused: u8,
+    pub line: usize,
+    pub horizon: usize,
+    pub fluents: usize,
+    pub names: Names,
+}
+
+fn no_names() -> Names
+    ensures { λ r. ⌜ r ≡ noNames ⌝ }
+{
+    Names {
+        starts: [0; 32],
+        lengths: [0; 32],
+        count: 0,
+    }
 }
 
 // Nothing is read yet.
 fn begun(laws: [Law; 64]) -> ReaderState
     ensures { λ r. ⌜ r ≡ blankState laws ⌝ }
 {
-    let names = Names {
-        starts: [0; 32],
-        lengths: [0; 32],
-        count: 0,
-    };
+    let names = no_names();
     let run = Run { laws, count: 0 };
     let law = law_forms::new_law(Kind::Static, Head::Lit(0));
     let draft = HeldDraft {
@@ -166,9 +184,28 @@ fn no_laws() -> [Law; 64] {
 }
 
 // Reads a description where no law run counts, for its names.
-pub fn read_alone(text: &[u8]) -> Ending
-    ensures answers { λ r. ⌜ takenOf (now (text .entry)) r ≡ described 64 (now (text .entry)) ⌝ }
-    ensures bounded { λ r. ⌜ Limits (r .state .draft) ⌝ }
+pub fn read_alone(text: &[u8]) -> Declarations
+    ensures answers { λ r. ⌜ r ≡ declarations (now (text .entry)) (described 64 (now (text .entry))) ⌝ }
+    ensures bounded { λ r. ⌜ Declares (now (text .entry)) r (described 64 (now (text .entry))) ⌝ }
 {
-    read(text, no_laws(), 64)
+    let end = read(text, no_laws(), 64);
+    let state = end.state;
+    if 0 < state.refused {
+        return Declarations {
+            refused: state.refused,
+            line: end.line,
+            horizon: 0,
+            fluents: 0,
+            names: no_names(),
+        };
+    }
+    let draft = state.draft;
+    let names = draft.names;
+    Declarations {
+        refused: 0,
+        line: end.line,
+        horizon: draft.horizon,
+        fluents: draft.fluents,
+        names,
+    }
 }

@@ -1,7 +1,7 @@
 // Reading a description from text.
 mod codes;
 pub mod descriptions;
-pub mod states;
+mod states;
 mod steps;
 
 use action_language::Description;

@@ -11,7 +11,7 @@ ghost use Rattle.description_reader.specs.LineSteps.{lawDue, startsLaw, 
 ghost use Rattle.description_reader.specs.Internal.{dueOf};
 
 // What is due.
-pub enum Due {
+pub(crate) enum Due {
     Horizon,
     FirstFluent,
     Fluent,
@@ -23,7 +23,7 @@ pub enum Due {
 }
 
 // What has been read: the horizon, how many of the names are fluents, the names, and the laws.
-pub struct HeldDraft {
+pub(crate) struct HeldDraft {
     pub horizon: usize,
     pub fluents: usize,
     pub names: Names,
@@ -32,7 +32,7 @@ pub struct HeldDraft {
 
 // Where the reader is: a refusal's number (0: none), whether the end line is read, what is due, the law whose lists are due, and
 // what has been read.
-pub struct ReaderState {
+pub(crate) struct ReaderState {
     pub refused: u8,
     pub ended: bool,
     pub due: Due,

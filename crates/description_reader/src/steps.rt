@@ -18,7 +18,7 @@ use text::lines;
 use text::names;
 use text::names::Names;
 ghost use mathlib.Core.Path.{_≡_};
-ghost use mathlib.Core.Bool.{cond};
+ghost use mathlib.Core.Bool.{true, cond};
 ghost use mathlib.Core.List.{List, [], _∷_, _++_};
 ghost use Prim.Native.Nat.{ℕ, suc, _+_, _≤_, _<_, min};
 ghost use lib.Dec.{ltb};
@@ -27,6 +27,7 @@ ghost use Rattle.action_language.specs.declared.Law.{Law};
 ghost use lib.ListN.{length, take, drop};
 ghost use Rattle.text.specs.Lists.{codes};
 ghost use Rattle.text.specs.Internal.{spelled};
+ghost use Rattle.text.specs.NamePlaces.{withName, declaresName};
 ghost use Rattle.line_values.specs.HorizonText.{horizonOf};
 ghost use Rattle.line_values.specs.ShortLaws.{defaultLaw, inertialLaw, causesLaw};
 ghost use Rattle.line_values.specs.Internal.{placesOf};
@@ -36,7 +37,7 @@ ghost use Rattle.description_reader.specs.LineSteps.{horizonLine, nameLi
 ghost use Rattle.description_reader.specs.LineSteps.{Draft, begun, readHead, whole, ifLine, afterLine};
 ghost use Rattle.description_reader.specs.LineSteps.{wholeByList, literalLine, nonexecutableLine, endLine};
 ghost use Rattle.description_reader.specs.Internal.{dueOf, dueAt, draftOf, stepOf, stepWith, otherLine};
-ghost use Rattle.description_reader.specs.Internal.{shortLine, hasPlace, Sound, Goes, Padded, Pushed, StandsAt};
+ghost use Rattle.description_reader.specs.Internal.{shortLine, hasPlace, Sound, Goes, Joins, Padded, Pushed, StandsAt};
 ghost use Rattle.description_reader.specs.Internal.{begunWith, HeadFits};
 
 // A line that is refused.
@@ -84,7 +85,7 @@ fn has_place(action: bool, fluents: usize, names: usize) -> bool
 // The names and one more, at a place of the text.
 fn with_name(names: Names, start: usize, length: usize) -> Names
     requires { ⌜ names .count < 32 ⌝ }
-    ensures { λ r. ⌜ r .count ≡ names .count + 1 ⌝ }
+    ensures { λ r. ⌜ r ≡ withName names start length ⌝ }
     ensures { λ r. ⌜ ((text : List ℕ) → spelled text r ≡ spelled text names ++ (take length (drop start text) ∷ [])) ⌝ }
 {
     let count = names.count;
@@ -112,7 +113,7 @@ fn name_line(
         (hasPlace action (state .draft .fluents) (state .draft .names .count)) (cond action actionDue fluentDue)
         (cond action (state .draft .fluents) (suc (state .draft .fluents)))
         (draftOf (now (text .entry)) (state .draft)) (now (value .entry)) ⌝ }
-    ensures { λ r. ⌜ Goes state r ⌝ }
+    ensures { λ r. ⌜ Joins true from (length (now (value .entry))) state r ⌝ }
 {
     let mut draft = state.draft;
     let names = draft.names;
@@ -415,7 +416,7 @@ fn other_line(
 ) -> ReaderState
     requires { ⌜ StandsAt (now text) from (now value) × Sound (dueAt state) (state .draft) ⌝ }
     ensures { λ r. ⌜ stepOf (now (text .entry)) r ≡ otherLine lent (draftOf (now (text .entry)) (state .draft)) key (now (value .entry)) ⌝ }
-    ensures { λ r. ⌜ Goes state r ⌝ }
+    ensures { λ r. ⌜ Joins (declaresName key) from (length (now (value .entry))) state r ⌝ }
 {
     if key == lines::HORIZON {
         return horizon_line(value, state);
@@ -449,7 +450,7 @@ pub(crate) fn line_step(
     ensures { λ r. ⌜ stepOf (now (text .entry)) r
         ≡ stepWith lent (dueAt state) (draftOf (now (text .entry)) (state .draft)) key (now (value .entry))
         (codes (take (list .count) (list .codes))) ⌝ }
-    ensures { λ r. ⌜ Goes state r ⌝ }
+    ensures { λ r. ⌜ Joins (declaresName key) from (length (now (value .entry))) state r ⌝ }
 {
     let due = state.due;
     if !states::is_allowed(due, key) {

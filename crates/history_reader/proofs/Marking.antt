@@ -12,7 +12,8 @@ use lib.Dec.{eqb, ltb}
 use lib.ListN.{length, getD, set}
 use Rattle.basics.specs.Replies.{Reply, refused, answered}
 use Rattle.text.specs.Lines.{noKey, Line, keyed, firstLine}
-use Rattle.text.specs.Internal.{keyIn, itemAt, nextAt, itemsAt}
+use Rattle.text.specs.Internal.{itemAt, nextAt, itemsAt}
+use Rattle.text.proofs.Placing.{keyIn}
 use Rattle.text.proofs.Items.{items-next, items-end, items-start, items-none}
 use Rattle.text.specs.Lists as lists
 use Rattle.text.specs.Lists.{Listed, codes, items, listFrom, listOf}

@@ -12,7 +12,8 @@ use lib.Dec.{ltb}
 use lib.ListN.{length, getD, take, drop, set, replicate, length-append, drop-of-length-le}
 use lib.Seq.{length-take-le, take-suc, drop-cons, set-at}
 use Rattle.text.specs.declared.lines.LineAt.{LineAt}
-use Rattle.description_reader.specs.declared.states.HeldDraft.{HeldDraft}
+use Rattle.action_language.specs.declared.Law.{Law}
+use Rattle.description_reader.specs.declared.descriptions.Declarations.{Declarations}
 use Rattle.history_reader.specs.declared.histories.EndAt.{EndAt}
 use Rattle.history_reader.specs.declared.histories.Lines.{Lines}
 use Rattle.history_reader.specs.declared.histories.Record.{Record}
@@ -27,10 +28,11 @@ use Rattle.description_reader.specs.Descriptions.{read}
 use Rattle.history_values.specs.Values.{withLiterals, filled}
 use Rattle.history_values.proofs.Filling.{take-marked, take-filled}
 use Rattle.history_reader.specs.Histories.{historyEnd, listed, listLine, most, statesFrom, byNames}
-use Rattle.text.specs.Internal.{lineOf, spelled, itemAt, nextAt, itemsAt}
-use Rattle.description_reader.specs.Internal.{draftOf}
+use Rattle.text.specs.Internal.{spelled, itemAt, nextAt, itemsAt}
 use Rattle.history_reader.specs.Internal.{recordFrom, keyAt, lowAt, highAt, baseAt, filledAt, wantedAt, placeFrom}
 use Rattle.history_reader.specs.Internal.{leftOf, endingOf, valuesRead, atomsOf}
+use Rattle.description_reader.specs.Internal.{draftBy}
+use Rattle.text.proofs.Placing.{lineOf}
 use Rattle.text.proofs.Spelling.{spelled-length}
 use Rattle.text.proofs.Items.{next-later}
 use Rattle.history_reader.proofs.Marking.{marked-more, item-marked, item-refused, list-done, list-all}
@@ -59,37 +61,37 @@ marked-one names w list start i old new m inside short c next e f more one =
     }
 
 -- one line of literals
-module _ (names-text text : List ℕ) (r : HeldDraft) (m line at : ℕ) (vs : List ℕ) (l : LineAt)
+module _ (names-text text : List ℕ) (laws : List Law) (r : Declarations) (m line at : ℕ) (vs : List ℕ) (l : LineAt)
     (is : lineOf text l ≡ firstLine (drop at text)) where
   abbrev Here : Reply (List ℕ)
-  Here = recordFrom (suc m) (draftOf names-text r) line vs (drop at text)
+  Here = recordFrom (suc m) (draftBy names-text laws r) line vs (drop at text)
 
   -- the line, with the count of names
   counted : (o : Option Line) → lineOf text l ≡ o
-      → recordFrom (suc m) (draftOf names-text r) line vs (drop at text)
-      ≡ listLine (draftOf names-text r) (keyAt line) (lowAt (r .fluents) line)
+      → recordFrom (suc m) (draftBy names-text laws r) line vs (drop at text)
+      ≡ listLine (draftBy names-text laws r) (keyAt line) (lowAt (r .fluents) line)
       (highAt (r .fluents) (r .names .count) line) (lineOf text l) line (baseAt (r .names .count) line) vs
-      (λ ws rest. recordFrom m (draftOf names-text r) (suc line) (filledAt (r .fluents) (r .names .count) line ws) rest)
+      (λ ws rest. recordFrom m (draftBy names-text laws r) (suc line) (filledAt (r .fluents) (r .names .count) line ws) rest)
   counted o e = rw (spelled-length names-text (r .names), is)
 
   pub turn-other : (l .key ≡ keyAt line → ⊥) → Here ≡ refused 2 line
   unfolding lineOf
   turn-other h =
       counted (lineOf text l) refl
-      ∙ sym (line-other (draftOf names-text r) (keyAt line) _ _ line _ vs _
+      ∙ sym (line-other (draftBy names-text laws r) (keyAt line) _ _ line _ vs _
       (take (l .to - l .from) (drop (l .from) text)) (drop (l .next) text) (l .key) h)
 
   module _ (same : l .key ≡ keyAt line) where
     due : Here ≡ listed (listOf (spelled names-text (r .names)) (lowAt (r .fluents) line)
         (highAt (r .fluents) (r .names .count) line) most (take (l .to - l .from) (drop (l .from) text)))
         line (baseAt (r .names .count) line) vs
-        (λ ws. recordFrom m (draftOf names-text r) (suc line) (filledAt (r .fluents) (r .names .count) line ws) (drop (l .next) text))
+        (λ ws. recordFrom m (draftBy names-text laws r) (suc line) (filledAt (r .fluents) (r .names .count) line ws) (drop (l .next) text))
     unfolding lineOf
     due =
         counted (lineOf text l) refl
-        ∙ sym (line-due (draftOf names-text r) (keyAt line) (lowAt (r .fluents) line)
+        ∙ sym (line-due (draftBy names-text laws r) (keyAt line) (lowAt (r .fluents) line)
         (highAt (r .fluents) (r .names .count) line) line (baseAt (r .names .count) line) vs
-        (λ ws rest. recordFrom m (draftOf names-text r) (suc line) (filledAt (r .fluents) (r .names .count) line ws) rest)
+        (λ ws rest. recordFrom m (draftBy names-text laws r) (suc line) (filledAt (r .fluents) (r .names .count) line ws) rest)
         (take (l .to - l .from) (drop (l .from) text)) (drop (l .next) text) (l .key) same (key-below line))
 
     pub turn-refused : listOf (spelled names-text (r .names)) (lowAt (r .fluents) line)
@@ -103,20 +105,20 @@ module _ (names-text text : List ℕ) (r : HeldDraft) (m line at : ℕ) (vs : Li
         most (take (l .to - l .from) (drop (l .from) text))
         ≡ codes done
         → Here
-        ≡ recordFrom m (draftOf names-text r) (suc line)
+        ≡ recordFrom m (draftBy names-text laws r) (suc line)
         (filledAt (r .fluents) (r .names .count) line (withLiterals (baseAt (r .names .count) line) vs done))
         (drop (l .next) text)
     turn-read done e = due ∙ rw e
 
 -- the same, as the loops find it: w is what the line must be
-module _ (names-text text : List ℕ) (r : HeldDraft) (m line at : ℕ) (old : List ℕ) (l : LineAt)
+module _ (names-text text : List ℕ) (laws : List Law) (r : Declarations) (m line at : ℕ) (old : List ℕ) (l : LineAt)
     (is : lineOf text l ≡ firstLine (drop at text))
     (w : Wanted) (is-due : w ≡ wantedAt (r .fluents) (r .names .count) line) where
   abbrev Left : ℕ → Reply (List ℕ)
-  Left n = recordFrom (suc m) (draftOf names-text r) line (take n old) (drop at text)
+  Left n = recordFrom (suc m) (draftBy names-text laws r) line (take n old) (drop at text)
 
   pub line-wrong : (l .key ≡ w .key → ⊥) → (n : ℕ) → Left n ≡ refused 2 line
-  line-wrong h n = turn-other names-text text r m line at (take n old) l is (λ e. h (e ∙ sym (ap (λ v. v .key) is-due)))
+  line-wrong h n = turn-other names-text text laws r m line at (take n old) l is (λ e. h (e ∙ sym (ap (λ v. v .key) is-due)))
 
   module _ (same : l .key ≡ w .key) (start i : ℕ) (new : List ℕ)
       (starts : start ≡ placeFrom (length (take (l .to - l .from) (drop (l .from) text))))
@@ -146,13 +148,13 @@ module _ (names-text text : List ℕ) (r : HeldDraft) (m line at : ℕ) (old : L
 
     pub line-read : length (take (l .to - l .from) (drop (l .from) text)) < i
         → (full : List ℕ) → full ≡ filled (w .base + r .fluents) (w .high - r .fluents) new → (n : ℕ)
-        → Left n ≡ recordFrom m (draftOf names-text r) (suc line) (take n full) (drop (l .next) text)
+        → Left n ≡ recordFrom m (draftBy names-text laws r) (suc line) (take n full) (drop (l .next) text)
     line-read past full e n =
         let value = take (l .to - l .from) (drop (l .from) text) in
         let names = spelled names-text (r .names) in
-        turn-read names-text text r m line at (take n old) l is (same ∙ ap (λ v. v .key) is-due) (passed .done)
+        turn-read names-text text laws r m line at (take n old) l is (same ∙ ap (λ v. v .key) is-due) (passed .done)
         (whole (list-done names (w .low) (w .high) value i (passed .done) past (passed .left)))
-        ∙ ap (λ vs. recordFrom m (draftOf names-text r) (suc line) vs (drop (l .next) text)) (sym (filled-first full e n))
+        ∙ ap (λ vs. recordFrom m (draftBy names-text laws r) (suc line) vs (drop (l .next) text)) (sym (filled-first full e n))
 
     pub line-refused : i ≤ length (take (l .to - l .from) (drop (l .from) text))
         → length (take (l .to - l .from) (drop (l .from) text)) ≤ 65535
@@ -161,7 +163,7 @@ module _ (names-text text : List ℕ) (r : HeldDraft) (m line at : ℕ) (old : L
     line-refused inside short e n =
         let value = take (l .to - l .from) (drop (l .from) text) in
         let names = spelled names-text (r .names) in
-        turn-refused names-text text r m line at (take n old) l is (same ∙ ap (λ v. v .key) is-due)
+        turn-refused names-text text laws r m line at (take n old) l is (same ∙ ap (λ v. v .key) is-due)
         (whole (sym (item-refused names (w .low) (w .high) value i inside (passed .done) (omega (arith, passed .few)) (passed .left) e)))
 
 -- bounds
@@ -225,15 +227,15 @@ unfolding valuesRead
 record-values n r h = rw (eq-eqb (r .refused) 0 (omega arith))
 
 -- a history behind a description that was read: 10, then 1, then its lines
-module _ (names-text : List ℕ) (r : HeldDraft) (rest : List ℕ) (line : ℕ) (text : List ℕ) (room : ℕ) where
-  pub history-room : (room ≡ atomsOf r → ⊥) → byNames (answered (read (draftOf names-text r) rest line)) text room ≡ refused 10 room
+module _ (names-text : List ℕ) (laws : List Law) (r : Declarations) (rest : List ℕ) (line : ℕ) (text : List ℕ) (room : ℕ) where
+  pub history-room : (room ≡ atomsOf r → ⊥) → byNames (answered (read (draftBy names-text laws r) rest line)) text room ≡ refused 10 room
   history-room h = rw (spelled-length names-text (r .names), ne-eqb room (atomsOf r) h)
 
   pub history-long : room ≡ atomsOf r → 65535 < length text
-      → byNames (answered (read (draftOf names-text r) rest line)) text room ≡ refused 1 0
+      → byNames (answered (read (draftBy names-text laws r) rest line)) text room ≡ refused 1 0
   history-long e h = rw (spelled-length names-text (r .names), eq-eqb room (atomsOf r) e, lt-ltb 65535 (length text) h)
 
   pub history-lines : room ≡ atomsOf r → length text ≤ 65535
-      → byNames (answered (read (draftOf names-text r) rest line)) text room
-      ≡ statesFrom (r .horizon) (draftOf names-text r) 0 1 (replicate room 0) text
+      → byNames (answered (read (draftBy names-text laws r) rest line)) text room
+      ≡ statesFrom (r .horizon) (draftBy names-text laws r) 0 1 (replicate room 0) text
   history-lines e h = rw (spelled-length names-text (r .names), eq-eqb room (atomsOf r) e, le-ltb 65535 (length text) h, e)

@@ -11,7 +11,7 @@ use Rattle.action_language.specs.Atoms.{atomCount}
 use Rattle.history_reader.specs.declared.histories.Record.{Record}
 use Rattle.history_reader.specs.declared.histories.Lines.{Lines}
 use Rattle.history_reader.specs.declared.histories.Wanted.{Wanted}
-use Rattle.description_reader.specs.declared.states.HeldDraft.{HeldDraft}
+use Rattle.description_reader.specs.declared.descriptions.Declarations.{Declarations}
 use Rattle.text.specs.Lines.{firstLine, stateKey, actKey}
 use Rattle.description_reader.specs.LineSteps.{Draft}
 use Rattle.history_values.specs.Values.{filled}
@@ -67,5 +67,5 @@ pub record LinesFit (text : List ℕ) (r : Lines) : Type 0 where
 unfoldable pub valuesRead : ℕ → Record → Reply (List ℕ)
 valuesRead n r = cond (eqb (r .refused) 0) (answered (take n (r .values))) (refused (r .refused) (r .line))
 
-abbrev pub atomsOf : HeldDraft → ℕ
+abbrev pub atomsOf : Declarations → ℕ
 atomsOf r = atomCount (r .fluents) (r .names .count - r .fluents) (r .horizon)

@@ -1,6 +1,6 @@
 // Reading a history: state and act lines in turn, then the end line.
 use basics::Found;
-use description_reader::states::HeldDraft;
+use description_reader::descriptions::Declarations;
 use text::lines;
 use text::lists;
 ghost use mathlib.Core.Path.{_≡_};
@@ -9,9 +9,9 @@ ghost use Prim.Native.Nat.{ℕ, _+_, _≤_, _<_};
 ghost use lib.ListN.{length, drop, replicate};
 ghost use Rattle.text.specs.Lines.{firstLine};
 ghost use Rattle.history_reader.specs.Histories.{historyEnd, statesFrom, valuesLeft};
-ghost use Rattle.description_reader.specs.Internal.{draftOf};
 ghost use Rattle.history_reader.specs.Internal.{endingOf, wantedAt, placeFrom, leftOf, LinesFit, valuesRead, atomsOf};
-ghost use Rattle.description_reader.specs.Internal.{Limits};
+ghost use Rattle.description_reader.specs.Internal.{draftBy, Limits};
+ghost use Rattle.action_language.specs.declared.Law.{Law};
 
 // How the end line is: a refusal's number (0: none) and place.
 struct EndAt {
@@ -55,7 +55,7 @@ struct Wanted {
 }
 
 // Odd lines are states, even ones acts.
-fn line_due(draft: HeldDraft, line: usize) -> Wanted
+fn line_due(draft: Declarations, line: usize) -> Wanted
     requires { ⌜ Limits draft × (1 ≤ line) × (line < 100) ⌝ }
     ensures { λ r. ⌜ r ≡ wantedAt (draft .fluents) (draft .names .count) line ⌝ }
 {
@@ -97,11 +97,11 @@ struct Lines {
 }
 
 // Reads the state and act lines up to the end line or to the first bad line, by the names of the description.
-fn read_lines(description: &[u8], text: &[u8], draft: HeldDraft) -> Lines
+fn read_lines(description: &[u8], text: &[u8], draft: Declarations) -> Lines
     requires { ⌜ (length (now text) ≤ 65535) × Limits draft ⌝ }
-    ensures { λ r. ⌜ ((n : ℕ) → n ≤ 1024
+    ensures { λ r. ⌜ ((laws : List Law) (n : ℕ) → n ≤ 1024
         → leftOf (now (text .entry)) n r
-        ≡ statesFrom (draft .horizon) (draftOf (now (description .entry)) draft) 0 1 (replicate n 0)
+        ≡ statesFrom (draft .horizon) (draftBy (now (description .entry)) laws draft) 0 1 (replicate n 0)
         (now (text .entry))) ⌝ }
     ensures { λ r. ⌜ LinesFit (now (text .entry)) r ⌝ }
 {
@@ -154,11 +154,11 @@ pub(crate) struct Record {
 }
 
 // Reads a history of at most 65,535 bytes by the names of the description.
-pub(crate) fn read(description: &[u8], text: &[u8], draft: HeldDraft) -> Record
+pub(crate) fn read(description: &[u8], text: &[u8], draft: Declarations) -> Record
     requires { ⌜ (length (now text) ≤ 65535) × Limits draft ⌝ }
-    ensures { λ r. ⌜ ((n : ℕ) → n ≤ 1024
+    ensures { λ r. ⌜ ((laws : List Law) (n : ℕ) → n ≤ 1024
         → valuesRead n r
-        ≡ statesFrom (draft .horizon) (draftOf (now (description .entry)) draft) 0 1 (replicate n 0)
+        ≡ statesFrom (draft .horizon) (draftBy (now (description .entry)) laws draft) 0 1 (replicate n 0)
         (now (text .entry))) ⌝ }
 {
     let found = read_lines(description, text, draft);
@@ -179,7 +179,7 @@ pub(crate) fn read(description: &[u8], text: &[u8], draft: HeldDraft) -> Record
 }
 
 // How many atoms there are.
-pub(crate) fn atom_count(draft: HeldDraft) -> usize
+pub(crate) fn atom_count(draft: Declarations) -> usize
     requires { ⌜ Limits draft ⌝ }
     ensures { λ r. ⌜ (r ≡ atomsOf draft) × (r ≤ 1024) ⌝ }
 {

@@ -21,12 +21,10 @@ pub fn read_history(description: &[u8], text: &[u8], values: &mut [u8]) -> Histo
         (now (values .entry)) ⌝ }
     ensures filled { λ r. ⌜ ActionsFilled (now (description .entry)) r (now (values .exit)) ⌝ }
 {
-    let end = descriptions::read_alone(description);
-    let state = end.state;
-    if 0 < state.refused {
-        return HistoryAnswer::Refused(state.refused, end.line);
+    let draft = descriptions::read_alone(description);
+    if 0 < draft.refused {
+        return HistoryAnswer::Refused(draft.refused, draft.line);
     }
-    let draft = state.draft;
     let room = values.len();
     if room != histories::atom_count(draft) {
         return HistoryAnswer::Refused(10, room);

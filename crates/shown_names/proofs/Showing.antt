@@ -3,15 +3,14 @@
 use mathlib.Core.Path.{_≡_, refl, sym, ap, _∙_}
 use mathlib.Core.Bool.{Bool, true, false, cond}
 use mathlib.Core.List.{List, []}
-use mathlib.Core.Option.{some}
 use Prim.Native.Nat.{ℕ, suc, _+_, _≤_, _<_}
 use native.Mathlib.Numerals.{add-one}
 use borrow.Author.Tests.{lt-ltb, le-ltb}
 use denote.Ref.{RefT, ptr, now}
 use lib.ListN.{length, getD, List·getD-eq-default}
 use Rattle.basics.specs.Replies.{Reply, refused, answered}
-use Rattle.text.specs.Lines.{Line}
-use Rattle.text.specs.Places.{lineNumber, startOfValue, LiesAt}
+use Rattle.text.specs.Places.{valueOfLine, startOfValue, LiesAt}
+use Rattle.text.proofs.Placing.{line-value}
 use Rattle.description_reader.specs.LineSteps.{Draft}
 use Rattle.description_reader.specs.Descriptions.{Taken, read, described}
 use Rattle.shown_names.specs.Shown.{fluentName, actionName, shownBy, shownFluent, shownAction, fluentStart}
@@ -54,12 +53,13 @@ module _ (text r : RefT (List ℕ)) where
   -- the value of the line behind the horizon's that stands at the name's place
   pub value-shown : (d : Draft) (rest : List ℕ) (lines : ℕ) → described 64 (now text) ≡ answered (read d rest lines)
       → (i : ℕ) → i < length (d .names)
-      → ((l : Line) → lineNumber (i + 1) (now text) ≡ some l → (now r ≡ l .value) × LiesAt (startOfValue (i + 1) (now text)) text r)
+      → (now r ≡ valueOfLine (i + 1) (now text)) × LiesAt (startOfValue (i + 1) (now text)) text r
       → (now r ≡ getD (d .names) i []) × LiesAt (startOfValue (suc i) (now text)) text r
   value-shown d rest lines is i below gives =
-      let there = declared-at (now text) 64 d rest lines is i below in
-      let found = gives (there .line) (ap (λ n. lineNumber n (now text)) (add-one i) ∙ there .is) in
-      (found .0 ∙ there .value, found .1 ∙ ap {B = ℕ × ℕ} (λ n. (ptr text .0, startOfValue n (now text) + ptr text .1)) (add-one i))
+      let there = declared-at (now text) 64 d rest lines is i below in (
+        gives .0 ∙ ap (λ n. valueOfLine n (now text)) (add-one i) ∙ line-value (suc i) (now text) (there .line) (there .is) ∙ there .value,
+        gives .1 ∙ ap {B = ℕ × ℕ} (λ n. (ptr text .0, startOfValue n (now text) + ptr text .1)) (add-one i),
+      )
 
   pub shown-part : (action : Bool) (i : ℕ) (o : Reply Taken) → described 64 (now text) ≡ o → (bytes : List ℕ) (start : ℕ)
       → Part (now text) action i o bytes start → (now r ≡ bytes) × LiesAt start text r

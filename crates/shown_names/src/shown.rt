@@ -14,12 +14,10 @@ pub(crate) fn name(text: &[u8], action: bool, number: usize) -> &[u8]
         (cond action (shownActionStart (now (text .entry)) number) (shownFluentStart (now (text .entry)) number))
         (text .entry) r ⌝ }
 {
-    let end = descriptions::read_alone(text);
-    let state = end.state;
-    if 0 < state.refused {
+    let draft = descriptions::read_alone(text);
+    if 0 < draft.refused {
         return lines::no_part(text);
     }
-    let draft = state.draft;
     let names = draft.names;
     if action {
         if 8 <= number {

@@ -5,12 +5,14 @@ use mathlib.Core.Path.{_≡_, refl}
 use mathlib.Core.List.{List, [], _∷_, map}
 use mathlib.Core.Option.{Option, some}
 use Prim.Native.Nat.{ℕ}
+use lib.ListN.{replicate}
 use Rattle.basics.specs.Quoted.{bytes}
 use Rattle.text.specs.Bytes.{cut}
 use Rattle.text.specs.Lines.{keys, horizonKey, fluentKey, actionKey, staticKey, dynamicKey, ifKey, afterKey}
 use Rattle.text.specs.Lines.{stateKey, actKey, endKey, defaultKey, inertialKey, causesKey, byKey}
 use Rattle.text.specs.Lines.{nonexecutableKey, keyNumber, firstLine}
-use Rattle.text.specs.Places.{lineSize, startOfLine, valueFrom, startOfValue, lineNumber}
+use Rattle.text.specs.Places.{lineSize, startOfLine, lineAt, startOfValue, lineNumber}
+use Rattle.text.specs.NamePlaces.{namesIn}
 use Rattle.text.specs.Names.{literal}
 use Rattle.text.specs.Lists.{refused, codes, items, listOf}
 
@@ -32,12 +34,18 @@ line-read = refl
 -- line 1 begins at byte 7, its value at byte 11; behind the last line nothing follows
 pub line-placed : (startOfLine 1 two-lines ≡ 7) × (startOfValue 0 two-lines ≡ 3) × (startOfValue 1 two-lines ≡ 11)
     × (startOfLine 3 two-lines ≡ 12)
-unfolding lineSize valueFrom
+unfolding lineSize lineAt
 line-placed = (refl, refl, refl, refl)
 
 pub line-numbered : lineNumber 1 two-lines ≡ some (record { key = actKey; value = []; rest = [] })
 unfolding firstLine cut keyNumber lineSize
 line-numbered = refl
+
+-- three lines, of which two declare a name: a stands at byte 17, b at byte 26
+pub names-placed : namesIn 3 (bytes "horizon=1\nfluent=a\naction=b\n")
+    ≡ record { starts = 17 ∷ 26 ∷ replicate 30 0; lengths = 1 ∷ 1 ∷ replicate 30 0; count = 2 }
+unfolding lineSize lineAt keyNumber
+names-placed = refl
 
 abbrev names : List (List ℕ)
 names = bytes "a" ∷ []

@@ -4,4 +4,5 @@ pub mod Lines
 pub mod Places
 pub mod Names
 pub mod Lists
+pub mod NamePlaces
 pub mod Internal

@@ -4,13 +4,11 @@ use basics::Found;
 use spelling;
 ghost use mathlib.Core.Path.{_≡_};
 ghost use mathlib.Core.List.{[]};
-ghost use mathlib.Core.Option.{some};
 ghost use Prim.Native.Nat.{_≤_, _<_};
-ghost use lib.ListN.{length, getD, drop};
+ghost use lib.ListN.{length, getD};
 ghost use Rattle.spelling.specs.Letters.{same};
-ghost use Rattle.text.specs.Lines.{keys, noKey, keyNumber, Line, firstLine};
-ghost use Rattle.text.specs.Places.{lineSize, startOfLine, startOfValue, lineNumber, LiesAt};
-ghost use Rattle.text.specs.Internal.{keyIn, noLine, lineOf, LineFits};
+ghost use Rattle.text.specs.Lines.{keys, noKey, keyNumber};
+ghost use Rattle.text.specs.Places.{lineSize, startOfLine, numberOr, noLine, lineAt, valueOfLine, startOfValue, LiesAt};
 
 // The fifteen keys in the order of their numbers, 14 bytes each: the key's length, then its bytes.
 const KEYS: [u8; 210] = *b"\
@@ -64,6 +62,7 @@ pub const NONEXECUTABLE: usize = 14;
 pub const NO_KEY: usize = 15;
 
 // A line: its key's number (NO_KEY where the line or the key is lacking), where its value begins and ends, and where the next line begins.
+// Where the line is lacking, all places are at the text's end.
 pub struct LineAt {
     pub key: usize,
     pub from: usize,
@@ -84,7 +83,7 @@ fn is_key(front: &[u8], k: usize) -> bool
 
 // The number of the key that some bytes are, or NO_KEY.
 fn key_number(front: &[u8]) -> usize
-    ensures { λ r. ⌜ keyIn r ≡ keyNumber (now (front .entry)) ⌝ }
+    ensures { λ r. ⌜ r ≡ numberOr (keyNumber (now (front .entry))) ⌝ }
 {
     let mut k = 0;
     while k < NO_KEY {
@@ -108,10 +107,9 @@ fn no_line(at: usize) -> LineAt
     }
 }
 
-// The line that begins at a place; behind the end of the text there is none.
+// The line that begins at a place; there is none where its ending byte or its equals sign is lacking, as behind the end of the text.
 pub fn line_at(text: &[u8], at: usize) -> LineAt
-    ensures answers { λ r. ⌜ lineOf (now (text .entry)) r ≡ firstLine (drop at (now (text .entry))) ⌝ }
-    ensures lies { λ r. ⌜ LineFits (now (text .entry)) at r ⌝ }
+    ensures { λ r. ⌜ r ≡ lineAt (now (text .entry)) at ⌝ }
 {
     let end = text.len();
     let rest = bytes::part(text, at, end);
@@ -154,10 +152,10 @@ fn line_start(text: &[u8], n: usize) -> usize
     at
 }
 
-// The value of line n: the part of the text behind its equals sign.
+// The value of line n, whatever its key: the part of the text behind its equals sign; nothing, at the text's end, where there is no line n.
 pub fn value_of_line(text: &[u8], n: usize) -> &[u8]
-    ensures { λ r. ⌜ ((l : Line) → lineNumber n (now (text .entry)) ≡ some l
-        → (now r ≡ l .value) × LiesAt (startOfValue n (now (text .entry))) (text .entry) r) ⌝ }
+    ensures answers { λ r. ⌜ now r ≡ valueOfLine n (now (text .entry)) ⌝ }
+    ensures lies { λ r. ⌜ LiesAt (startOfValue n (now (text .entry))) (text .entry) r ⌝ }
 {
     let at = line_start(text, n);
     let line = line_at(text, at);

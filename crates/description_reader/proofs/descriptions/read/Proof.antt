@@ -7,6 +7,7 @@ use borrow.Author.Tests.{lt-ltb}
 use Rattle.description_reader.specs.Descriptions.{described}
 use Rattle.description_reader.specs.Internal.{dueAt, Sound}
 use Rattle.description_reader.proofs.Walking.{outcome-refused, blank-sound}
+use Rattle.description_reader.proofs.Joining.{has-number}
 use borrow.Author.Needs.{needs}
 use Rattle.description_reader.proofs.descriptions.read.Statement.{statement}
 use Rattle.description_reader.proofs.descriptions.read.Tie as tie
@@ -30,6 +31,7 @@ returns c =
         sound = c .refused .ensures .1 .sound;
         follows = c .refused .ensures .1 .follows (a .args .laws) (rw (c .before .begun .ensures));
         within = omega arith;
+        names = λ z. absurd (has-number (a .args .text .now) (c .refused .result) 1 (c .refused .ensures .0 (a .args .text .now)) z);
       },
     )
 

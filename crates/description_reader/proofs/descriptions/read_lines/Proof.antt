@@ -14,12 +14,16 @@ use Rattle.text.specs.Lists.{listFrom}
 use Rattle.description_reader.specs.Descriptions.{described}
 use Rattle.description_reader.specs.Internal.{dueAt, draftOf, Padded, Sound, Follows, stepOf, stepWith}
 use Rattle.text.specs.Internal.{spelled, itemsAt}
+use Rattle.text.specs.Lines.{noKey}
+use Rattle.text.specs.NamePlaces.{declaresName, joined}
+use Rattle.text.proofs.Placing.{line-answers, line-fits}
 use Rattle.text.proofs.Spelling.{literal-small}
 use Rattle.text.proofs.Items.{next-later}
 use Rattle.description_reader.proofs.Gathering.{turn-on, turn-off, turn-done}
 use Rattle.description_reader.proofs.Walking.{leftAt, left-start, listHere, refused-left, stepped, stepped-left}
-use Rattle.description_reader.proofs.Walking.{stop-outcome, goes-key, goes-left, outcome-refused, list-here}
+use Rattle.description_reader.proofs.Walking.{stop-outcome, goes-refused, goes-key, goes-left, outcome-refused, list-here}
 use Rattle.description_reader.proofs.Walking.{part-stands, high-32, from-bound, blank-sound}
+use Rattle.description_reader.proofs.Joining.{has-number, Placed, names-behind, placed-behind}
 use Rattle.description_reader.proofs.descriptions.read_lines.Statement.{statement}
 use Rattle.description_reader.proofs.descriptions.read_lines.Tie as tie
 
@@ -37,6 +41,7 @@ Inv-lines text lent state₀ at₀ line₀ state at line =
     (at ≤ length text) × (line ≤ at + 1) × Sound (dueAt state) (state .draft)
     × Follows (state₀ .draft .run .laws) (state .draft .run)
     × (leftAt text lent state at line ≡ leftAt text lent state₀ 0 1)
+    × Placed text at line (state .draft .names)
 
 abbrev μ-lines : tie.MeasureT-lines
 μ-lines text lent state₀ at₀ line₀ state at line = length text - at
@@ -46,20 +51,26 @@ begun-requires c κs = tt
 
 lines-holds : tie.Need-lines-holds Inv-loop μ-loop Inv-lines μ-lines
 lines-holds c =
-    let a = c .before .before in
-    (omega arith, omega arith, rw (c .begun .ensures) (blank-sound (a .args .laws) (a .good .1 .0 .1 .0 .1)), rw (c .begun .ensures), refl)
+    let a = c .before .before in (
+      omega arith,
+      omega arith,
+      rw (c .begun .ensures) (blank-sound (a .args .laws) (a .good .1 .0 .1 .0 .1)),
+      rw (c .begun .ensures),
+      refl,
+      rw (c .begun .ensures) (record { before = 0; counts = refl; starts = refl; places = refl }),
+    )
 
 line-at-requires : tie.Need-line-at-requires Inv-loop μ-loop Inv-lines μ-lines
 line-at-requires c κs = tt
 
 sub-list : tie.Need-sub-list Inv-loop μ-loop Inv-lines μ-lines
-sub-list c = c .line-at .ensures .1 .ordered
+sub-list c = line-fits _ _ (c .line-at .ensures) .ordered
 
 part-list-start : tie.Need-part-list-start Inv-loop μ-loop Inv-lines μ-lines
-part-list-start c = c .line-at .ensures .1 .ordered
+part-list-start c = line-fits _ _ (c .line-at .ensures) .ordered
 
 part-list-end : tie.Need-part-list-end Inv-loop μ-loop Inv-lines μ-lines
-part-list-end c = c .line-at .ensures .1 .inside
+part-list-end c = line-fits _ _ (c .line-at .ensures) .inside
 
 sort-end-requires : tie.Need-sort-end-requires Inv-loop μ-loop Inv-lines μ-lines
 sort-end-requires c κs = tt
@@ -193,25 +204,42 @@ old-laws h =
     let n = h .before .before .before .before .before .before .before .before .before in
     rw (h .loop .inv .0) (rw (n .before .begun .ensures) at (n .lines .inv .3))
 
+-- the names behind the line
+named : (c : tie.After-line-step Inv-loop μ-loop Inv-lines μ-lines) → let h = c .before .before in
+    c .line-step .result .refused ≡ 0
+    → c .line-step .result .draft .names
+    ≡ joined (declaresName (line-at h .key)) (line-at h .from) (length (list-at h)) (state-at h .draft .names)
+named c z =
+    let h = c .before .before in
+    _∙_
+    {b = joined (declaresName (line-at h .key)) (line-at h .from) (length (list-at h)) (h .loop .state .draft .names)}
+    (c .line-step .ensures .1 .names z)
+    (ap (λ s. joined (declaresName (line-at h .key)) (line-at h .from) (length (list-at h)) (s .draft .names)) (h .loop .inv .0))
+
 -- a line that goes on has a key, and the next begins behind it
-later : (c : tie.Else2 Inv-loop μ-loop Inv-lines μ-lines) → let h = c .before .before .before .before in
-    h .before .before .before .before .before .before .before .before .before .lines .at < line-at h .next
-later c =
+keyed : (c : tie.Else2 Inv-loop μ-loop Inv-lines μ-lines) → let h = c .before .before .before .before in line-at h .key < noKey
+keyed c =
     let m = c .before .before in
     let h = m .before .before in
     let l = h .before .before .before .before .before .before .before .before in
     let step =
-    stepped (text-at h) (lent-at h) (state-at h) (l .before .lines .at) 0 (line-at h) (l .line-at .ensures .0)
+    stepped (text-at h) (lent-at h) (state-at h) (l .before .lines .at) 0 (line-at h) (line-answers _ _ (l .line-at .ensures))
     (m .line-step .result) _ (made m) (read-list m) in
-    l .line-at .ensures .1 .later
-    (goes-key (text-at h) (m .line-step .result) (sym (c .before .stops .ensures) ∙ c .if2 .left) _ _ _ _ _ step)
+    goes-key (text-at h) (m .line-step .result) (sym (c .before .stops .ensures) ∙ c .if2 .left) _ _ _ _ _ step
+
+later : (c : tie.Else2 Inv-loop μ-loop Inv-lines μ-lines) → let h = c .before .before .before .before in
+    h .before .before .before .before .before .before .before .before .before .lines .at < line-at h .next
+later c =
+    let h = c .before .before .before .before in
+    line-fits _ _ (h .before .before .before .before .before .before .before .before .line-at .ensures) .later (keyed c)
 
 lines-less : tie.Need-lines-less Inv-loop μ-loop Inv-lines μ-lines
 lines-less c =
     let e = later c in
     omega (
       arith,
-      c .before .before .before .before .before .before .before .before .before .before .before .before .line-at .ensures .1 .within,
+      line-fits _ _ (c .before .before .before .before .before .before .before .before .before .before .before .before .line-at .ensures)
+          .within,
     )
 
 lines-again : tie.Need-lines-again Inv-loop μ-loop Inv-lines μ-lines
@@ -223,14 +251,16 @@ lines-again c =
     let s = m .line-step .result in
     let on = sym (c .before .stops .ensures) ∙ c .if2 .left in
     let e = later c in (
-      l .line-at .ensures .1 .within,
+      line-fits _ _ (l .line-at .ensures) .within,
       omega arith,
       m .line-step .ensures .1 .sound,
       m .line-step .ensures .1 .follows _ (rw (h .loop .inv .0) (n .lines .inv .3)),
-      sym (goes-left (text-at h) s on (lent-at h) (n .lines .at) (n .lines .line) (line-at h .next) e (l .line-at .ensures .1 .within))
+      sym (goes-left (text-at h) s on (lent-at h) (n .lines .at) (n .lines .line) (line-at h .next) e
+          (line-fits _ _ (l .line-at .ensures) .within))
           ∙ sym (stepped-left (text-at h) (lent-at h) (state-at h) (n .lines .at) (n .lines .line) (line-at h)
-          (l .line-at .ensures .0) s _ (made m) (read-list m))
+          (line-answers _ _ (l .line-at .ensures)) s _ (made m) (read-list m))
           ∙ n .lines .inv .4,
+      placed-behind (n .lines .inv .5) (l .line-at .ensures) _ (named m (goes-refused (text-at h) s on)) (keyed c),
     )
 
 returns : tie.Need-returns Inv-loop μ-loop Inv-lines μ-lines
@@ -246,9 +276,14 @@ returns c =
     (h .loop .inv .3 ∙ here h) (i .next-item .ensures .0) (w .with-item .ensures .0) (c .before .if1 .taken) in (
       outcome-refused (text-at h) (c .refused .result) (n .lines .line) (n .lines .at) k (c .refused .ensures .0 (text-at h))
           ∙ sym (refused-left (text-at h) (lent-at h) (state-at h) (n .lines .at) (n .lines .line) (line-at h)
-          (l .line-at .ensures .0) k fails)
+          (line-answers _ _ (l .line-at .ensures)) k fails)
           ∙ before h,
-      record { sound = c .refused .ensures .1 .sound; follows = c .refused .ensures .1 .follows _ (old-laws h); within = n .lines .inv .0 },
+      record {
+        sound = c .refused .ensures .1 .sound;
+        follows = c .refused .ensures .1 .follows _ (old-laws h);
+        within = n .lines .inv .0;
+        names = λ z. absurd (has-number (text-at h) (c .refused .result) k (c .refused .ensures .0 (text-at h)) z);
+      },
     )
 
 returns-2 : tie.Need-returns-2 Inv-loop μ-loop Inv-lines μ-lines
@@ -261,12 +296,13 @@ returns-2 c =
       sym (stop-outcome (text-at h) (lent-at h) (n .lines .at) (n .lines .line) s (line-at h .next)
           (sym (c .before .stops .ensures) ∙ c .if2 .taken))
           ∙ sym (stepped-left (text-at h) (lent-at h) (state-at h) (n .lines .at) (n .lines .line) (line-at h)
-          (l .line-at .ensures .0) s _ (made m) (read-list m))
+          (line-answers _ _ (l .line-at .ensures)) s _ (made m) (read-list m))
           ∙ before h,
       record {
         sound = m .line-step .ensures .1 .sound;
         follows = m .line-step .ensures .1 .follows _ (old-laws h);
-        within = l .line-at .ensures .1 .within;
+        within = line-fits _ _ (l .line-at .ensures) .within;
+        names = λ z. names-behind (n .lines .inv .5) (l .line-at .ensures) _ (named m z);
       },
     )
 

@@ -1,5 +1,6 @@
 -- `steps::horizon_line` meets its contract: no horizon, or one.
 -- Assumes nothing.
+use mathlib.Core.Path.{refl}
 use Rattle.basics.proofs.Loops.{at-place, no-place}
 use Rattle.description_reader.specs.Internal.{stepOf}
 use Rattle.line_values.proofs.Digits.{horizon-30}
@@ -42,6 +43,7 @@ returns-2 c =
           held = s .held;
         };
         follows = λ old f. f;
+        names = refl;
       },
     )
 

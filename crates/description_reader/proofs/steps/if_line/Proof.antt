@@ -1,6 +1,6 @@
 -- `steps::if_line` meets its contract: a static law is whole, a dynamic one goes on.
 -- Assumes nothing.
-use mathlib.Core.Path.{_∙_, ap}
+use mathlib.Core.Path.{refl, _∙_, ap}
 use lib.ListN.{take}
 use Rattle.action_language.specs.declared.Kind.the-variants.{Static, Dynamic}
 use Rattle.description_reader.specs.LineSteps.{next, lawDue, afterDue, whole}
@@ -48,6 +48,7 @@ returns-2 c =
       record {
         sound = record { time = h .time; few = h .few; declared = h .declared; actions = h .actions; room = a .pre .0; held = h .held };
         follows = λ old f. f;
+        names = refl;
       },
     )
 

@@ -1,6 +1,6 @@
 -- `steps::law_line` meets its contract: a refusal, or a law begins.
 -- Assumes nothing.
-use mathlib.Core.Path.{_≡_, sym, _∙_, ap}
+use mathlib.Core.Path.{_≡_, refl, sym, _∙_, ap}
 use mathlib.Core.Bool.{cond}
 use Rattle.description_reader.specs.LineSteps.{next, lawLine, ifDue, byDue}
 use Rattle.description_reader.specs.Internal.{dueOf, draftOf, begunWith, stepOf}
@@ -74,6 +74,7 @@ returns-2 c =
           held = s .held;
         };
         follows = λ old f. f;
+        names = refl;
       },
     )
 

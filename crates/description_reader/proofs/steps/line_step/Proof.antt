@@ -2,11 +2,13 @@
 -- Assumes nothing.
 use mathlib.Core.Path.{_≡_, sym, _∙_}
 use mathlib.Core.Bool.{true}
+use mathlib.Core.List.{[]}
 use Prim.Native.Nat.{_<_}
 use borrow.Author.Tests.{eq-eqb, ne-eqb, not-true, not-false}
 use Rattle.description_reader.specs.LineSteps.{allowed, lawIn}
 use Rattle.description_reader.specs.Internal.{dueAt, stepWith}
 use Rattle.description_reader.proofs.Stepping.{if-begun, after-begun, by-begun}
+use Rattle.description_reader.proofs.Joining.{refused-joins, stays}
 use borrow.Author.Needs.{needs}
 use Rattle.description_reader.proofs.steps.line_step.Statement.{statement}
 use Rattle.description_reader.proofs.steps.line_step.Tie as tie
@@ -23,7 +25,7 @@ returns c =
     let d = c .before .before in (
       rw (← d .is-allowed .ensures (d .before .before .before .args .state .law), not-true (d .is-allowed .result) (c .before .if1 .taken))
           (c .refused .ensures .0 _),
-      c .refused .ensures .1,
+      refused-joins _ _ (c .refused .ensures .1) _ [] 2 (c .refused .ensures .0 []),
     )
 
 -- the key is allowed
@@ -47,7 +49,7 @@ returns-2 : tie.Need-returns-2
 unfolding stepWith
 returns-2 c = (
   rw (may (c .before .before), eq-eqb _ _ (c .before .if2 .taken), if-law (c .before) .1) (c .if-line .ensures .0 _),
-  c .if-line .ensures .1,
+  stays _ _ (c .if-line .ensures .1) _ (rw (c .before .if2 .taken)),
 )
 
 after-law : (c : tie.Then3)
@@ -69,7 +71,7 @@ returns-3 c = (
     eq-eqb _ _ (c .before .if3 .taken),
     after-law (c .before) .1,
   ) (c .after-line .ensures .0 _),
-  c .after-line .ensures .1,
+  stays _ _ (c .after-line .ensures .1) _ (rw (c .before .if3 .taken)),
 )
 
 by-law : (c : tie.Then4)
@@ -93,7 +95,7 @@ returns-4 c =
         eq-eqb _ _ (c .before .if4 .taken),
         by-law (c .before) .1,
       ) (c .by-line .ensures .0 _),
-      c .by-line .ensures .1,
+      stays _ _ (c .by-line .ensures .1) _ (rw (c .before .if4 .taken)),
     )
 
 nonexecutable-line-requires : tie.Need-nonexecutable-line-requires
@@ -110,7 +112,7 @@ returns-5 c =
         ne-eqb _ _ (c .before .before .if4 .left),
         eq-eqb _ _ (c .before .if5 .taken),
       ) (c .nonexecutable-line .ensures .0 _),
-      c .nonexecutable-line .ensures .1,
+      stays _ _ (c .nonexecutable-line .ensures .1) _ (rw (c .before .if5 .taken)),
     )
 
 other-line-requires : tie.Need-other-line-requires

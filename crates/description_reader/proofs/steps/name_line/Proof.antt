@@ -1,13 +1,15 @@
 -- `steps::name_line` meets its contract: a ninth action or 25th fluent, no new name, or one.
 -- Assumes nothing.
-use mathlib.Core.Path.{_≡_, sym, _∙_}
+use mathlib.Core.Path.{_≡_, sym, ap, _∙_}
 use mathlib.Core.Bool.{Bool, true, false}
+use mathlib.Core.List.{[]}
 use Prim.Native.Nat.{ℕ, _+_, _≤_, _<_}
 use native.Mathlib.Omega.{arith}
 use native.Mathlib.Numerals.{add-one}
 use borrow.Author.Tests.{ltb-true, not-true, not-false}
 use Rattle.description_reader.specs.Internal.{hasPlace, stepOf}
 use Rattle.description_reader.proofs.Stepping.{sound-64}
+use Rattle.description_reader.proofs.Joining.{refused-joins}
 use borrow.Author.Needs.{needs}
 use Rattle.description_reader.proofs.steps.name_line.Statement.{statement}
 use Rattle.description_reader.proofs.steps.name_line.Tie as tie
@@ -31,7 +33,7 @@ returns : tie.Need-returns
 returns c =
     let p = c .before .before in (
       rw (← p .has-place .ensures, not-true (p .has-place .result) (c .before .if1 .taken)) (c .refused .ensures .0 _),
-      c .refused .ensures .1,
+      refused-joins _ _ (c .refused .ensures .1) true [] 5 (c .refused .ensures .0 []),
     )
 
 is-new-requires : tie.Need-is-new-requires
@@ -44,7 +46,7 @@ returns-2 : tie.Need-returns-2
 returns-2 c =
     let n = c .before .before in (
       rw (place (n .before), ← n .is-new .ensures, not-true (n .is-new .result) (c .before .if2 .taken)) (c .refused2 .ensures .0 _),
-      c .refused2 .ensures .1,
+      refused-joins _ _ (c .refused2 .ensures .1) true [] 4 (c .refused2 .ensures .0 []),
     )
 
 with-name-requires : tie.Need-with-name-requires
@@ -64,7 +66,8 @@ returns-3 c =
     let a = n .before .before .before .before .before .before .before in
     let s = a .pre .1 in
     let fluent = not-true (a .args .action) (c .before .if3 .taken) in
-    let left = ltb-true (a .args .state .draft .fluents) 24 (rw fluent at (place (n .before))) in (
+    let left = ltb-true (a .args .state .draft .fluents) 24 (rw fluent at (place (n .before))) in
+    let more = ap (λ v. v .count) (w .with-name .ensures .0) in (
       rw (
         place (n .before),
         ← n .is-new .ensures,
@@ -78,12 +81,13 @@ returns-3 c =
         sound = record {
           time = s .time;
           few = omega arith;
-          declared = omega (arith, w .with-name .ensures .0, s .declared);
-          actions = omega (arith, w .with-name .ensures .0, s .actions);
+          declared = omega (arith, more, s .declared);
+          actions = omega (arith, more, s .actions);
           room = sound-64 s;
           held = s .held;
         };
         follows = λ old f. f;
+        names = λ z. w .with-name .ensures .0;
       },
     )
 
@@ -95,7 +99,8 @@ returns-4 c =
     let a = n .before .before .before .before .before .before .before in
     let s = a .pre .1 in
     let action = not-false (a .args .action) (c .if3 .left) in
-    let left = ltb-true (a .args .state .draft .names .count) (a .args .state .draft .fluents + 8) (rw action at (place (n .before))) in (
+    let left = ltb-true (a .args .state .draft .names .count) (a .args .state .draft .fluents + 8) (rw action at (place (n .before))) in
+    let more = ap (λ v. v .count) (w .with-name .ensures .0) in (
       rw (
         place (n .before),
         ← n .is-new .ensures,
@@ -108,12 +113,13 @@ returns-4 c =
         sound = record {
           time = s .time;
           few = s .few;
-          declared = omega (arith, w .with-name .ensures .0, s .declared);
-          actions = omega (arith, w .with-name .ensures .0);
+          declared = omega (arith, more, s .declared);
+          actions = omega (arith, more);
           room = sound-64 s;
           held = s .held;
         };
         follows = λ old f. f;
+        names = λ z. w .with-name .ensures .0;
       },
     )
 

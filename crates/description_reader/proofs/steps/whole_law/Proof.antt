@@ -19,6 +19,7 @@ returns c =
       record {
         sound = pushed-sound (a .args .state .draft) _ (a .pre .1) (a .pre .0) (c .with-law .ensures .1);
         follows = c .with-law .ensures .1 .follows;
+        names = c .with-law .ensures .1 .names;
       },
     )
 

@@ -14,7 +14,7 @@ returns : tie.Need-returns
 returns c =
     let l = c .before .before .before in
     let a = l .before .before .before .args in
-    λ n few. record-refused (a .text .now) n (l .read-lines .result) (c .if1 .taken) ∙ l .read-lines .ensures .0 n few
+    λ laws n few. record-refused (a .text .now) n (l .read-lines .result) (c .if1 .taken) ∙ l .read-lines .ensures .0 laws n few
 
 end-at-requires : tie.Need-end-at-requires
 end-at-requires c κs = search needs
@@ -24,9 +24,9 @@ returns-2 c =
     let l = c .before .before .before .before in
     let a = l .before .before .before .args in
     let r = l .read-lines .result in
-    λ n few. record-ended (a .text .now) n r (c .before .if1 .left) (c .end-at .result)
+    λ laws n few. record-ended (a .text .now) n r (c .before .if1 .left) (c .end-at .result)
     (c .end-at .ensures (take n (r .values)))
-    ∙ l .read-lines .ensures .0 n few
+    ∙ l .read-lines .ensures .0 laws n few
 
 pub read-spec : {M : Type 1} → statement M
 read-spec = tie.close (tie.spec read-lines-requires returns end-at-requires returns-2)

@@ -15,8 +15,10 @@ use Rattle.text.specs.declared.lines.LineAt.{LineAt}
 use Rattle.history_reader.specs.declared.histories.Wanted.{Wanted}
 use Rattle.history_reader.specs.Histories.{statesFrom}
 use Rattle.text.specs.Internal.{spelled, itemAt}
-use Rattle.description_reader.specs.Internal.{draftOf}
+use Rattle.action_language.specs.declared.Law.{Law}
+use Rattle.description_reader.specs.Internal.{draftBy}
 use Rattle.history_reader.specs.Internal.{recordFrom, leftOf}
+use Rattle.text.proofs.Placing.{line-answers, line-fits}
 use Rattle.text.proofs.Items.{next-later}
 use Rattle.history_reader.proofs.Recording.{Marked, marked-none, marked-one, line-wrong, line-read, line-refused}
 use Rattle.history_reader.proofs.Recording.{place-bound, record-starts, left-done}
@@ -33,9 +35,9 @@ abbrev μ-loop : tie.MeasureT-loop
 abbrev Inv-lines : tie.InvT-lines
 Inv-lines description text draft names last values₀ refused₀ at₀ line₀ values refused at line =
     (refused ≡ 0) × (1 ≤ line) × (line ≤ last + 1) × (at ≤ length text)
-    × ((n : ℕ) → n ≤ 1024
-    → recordFrom (last + 1 - line) (draftOf description draft) line (take n values) (drop at text)
-    ≡ statesFrom (draft .horizon) (draftOf description draft) 0 1 (replicate n 0) text)
+    × ((laws : List Law) (n : ℕ) → n ≤ 1024
+    → recordFrom (last + 1 - line) (draftBy description laws draft) line (take n values) (drop at text)
+    ≡ statesFrom (draft .horizon) (draftBy description laws draft) 0 1 (replicate n 0) text)
 
 abbrev μ-lines : tie.MeasureT-lines
 μ-lines description text draft names last values₀ refused₀ at₀ line₀ values refused at line = last + 1 - line
@@ -56,7 +58,7 @@ lines-holds c =
       omega arith,
       omega arith,
       omega arith,
-      λ n h. record-starts (a .args .draft .horizon) (draftOf (a .args .description .now) (a .args .draft)) n
+      λ laws n h. record-starts (a .args .draft .horizon) (draftBy (a .args .description .now) laws (a .args .draft)) n
           (a .args .text .now) _ (c .no-values .ensures) h,
     )
 
@@ -70,13 +72,13 @@ line-due-requires c κs =
     (a .pre .1, n .lines .inv .1, omega (arith, a .pre .1 .time, c .before .lines-test .taken))
 
 sub-list : tie.Need-sub-list Inv-loop μ-loop Inv-lines μ-lines
-sub-list c = c .before .before .before .before .line-at .ensures .1 .ordered
+sub-list c = line-fits _ _ (c .before .before .before .before .line-at .ensures) .ordered
 
 part-list-start : tie.Need-part-list-start Inv-loop μ-loop Inv-lines μ-lines
-part-list-start c = c .before .before .before .before .line-at .ensures .1 .ordered
+part-list-start c = line-fits _ _ (c .before .before .before .before .line-at .ensures) .ordered
 
 part-list-end : tie.Need-part-list-end Inv-loop μ-loop Inv-lines μ-lines
-part-list-end c = c .before .before .before .before .line-at .ensures .1 .inside
+part-list-end c = line-fits _ _ (c .before .before .before .before .line-at .ensures) .inside
 
 first-place-requires : tie.Need-first-place-requires Inv-loop μ-loop Inv-lines μ-lines
 first-place-requires c κs =
@@ -160,17 +162,17 @@ loop-again c =
 
 -- the lines left at the start of the line, one of them this one
 one-left : (n : tie.At-lines Inv-loop μ-loop Inv-lines μ-lines) → let a = entry n .args in let last = 2 * a .draft .horizon + 1 in
-    n .lines .line ≤ last → (k : ℕ) → k ≤ 1024
-    → recordFrom (suc (last + 1 - suc (n .lines .line))) (draftOf (a .description .now) (a .draft)) (n .lines .line)
+    n .lines .line ≤ last → (laws : List Law) (k : ℕ) → k ≤ 1024
+    → recordFrom (suc (last + 1 - suc (n .lines .line))) (draftBy (a .description .now) laws (a .draft)) (n .lines .line)
     (take k (n .lines .values)) (drop (n .lines .at) (a .text .now))
-    ≡ statesFrom (a .draft .horizon) (draftOf (a .description .now) (a .draft)) 0 1 (replicate k 0) (a .text .now)
-one-left n more k few =
+    ≡ statesFrom (a .draft .horizon) (draftBy (a .description .now) laws (a .draft)) 0 1 (replicate k 0) (a .text .now)
+one-left n more laws k few =
     let a = entry n .args in
     let e : suc (2 * a .draft .horizon + 1 + 1 - suc (n .lines .line))
     ≡ 2 * a .draft .horizon + 1 + 1 - n .lines .line = omega (arith, more) in
-    ap (λ m. recordFrom m (draftOf (a .description .now) (a .draft)) (n .lines .line) (take k (n .lines .values))
+    ap (λ m. recordFrom m (draftBy (a .description .now) laws (a .draft)) (n .lines .line) (take k (n .lines .values))
     (drop (n .lines .at) (a .text .now))) e
-    ∙ n .lines .inv .4 k few
+    ∙ n .lines .inv .4 laws k few
 
 fill-absent-requires : tie.Need-fill-absent-requires Inv-loop μ-loop Inv-lines μ-lines
 fill-absent-requires c κs = search needs
@@ -197,18 +199,18 @@ lines-again c =
       h .loop .inv .0 ∙ n .lines .inv .0,
       omega arith,
       omega (arith, t),
-      l .line-at .ensures .1 .within,
-      λ k few. ap (λ q. recordFrom (2 * a .draft .horizon + 1 + 1 - q) (draftOf (a .description .now) (a .draft)) q
+      line-fits _ _ (l .line-at .ensures) .within,
+      λ laws k few. ap (λ q. recordFrom (2 * a .draft .horizon + 1 + 1 - q) (draftBy (a .description .now) laws (a .draft)) q
           (take k full) (drop (line-at h .next) (a .text .now)))
           (add-one (n .lines .line))
-          ∙ sym (line-read (a .description .now) (a .text .now) (a .draft)
+          ∙ sym (line-read (a .description .now) (a .text .now) laws (a .draft)
           (2 * a .draft .horizon + 1 + 1 - suc (n .lines .line)) (n .lines .line) (n .lines .at) (n .lines .values)
-          (line-at h) (l .line-at .ensures .0) (due-at h)
+          (line-at h) (line-answers _ _ (l .line-at .ensures)) (due-at h)
           (h .before .before .before .before .before .before .line-due .ensures) (h .before .before .before .if1 .left)
           _ (h .loop .i) (h .loop .values) (h .before .first-place .ensures) (h .loop .inv .2)
           (c .before .loop-test .left)
           full (c .fill-absent .ensures) k)
-          ∙ one-left n t k few,
+          ∙ one-left n t laws k few,
     )
 
 returns : tie.Need-returns Inv-loop μ-loop Inv-lines μ-lines
@@ -216,11 +218,11 @@ returns c =
     let n = c .before in
     let a = entry n .args in
     let zero-left : 2 * a .draft .horizon + 1 + 1 - n .lines .line ≡ 0 = omega (arith, c .lines-test .left) in (
-      λ k few. left-done (a .text .now) k _ (draftOf (a .description .now) (a .draft)) (n .lines .inv .0)
-          ∙ ap (λ m. recordFrom m (draftOf (a .description .now) (a .draft)) (n .lines .line)
+      λ laws k few. left-done (a .text .now) k _ (draftBy (a .description .now) laws (a .draft)) (n .lines .inv .0)
+          ∙ ap (λ m. recordFrom m (draftBy (a .description .now) laws (a .draft)) (n .lines .line)
           (take k (n .lines .values)) (drop (n .lines .at) (a .text .now)))
           (sym zero-left)
-          ∙ n .lines .inv .4 k few,
+          ∙ n .lines .inv .4 laws k few,
       record { within = n .lines .inv .3; few = omega (arith, n .lines .inv .2, entry n .pre .1 .time) },
     )
 
@@ -231,11 +233,11 @@ returns-2 c =
     let n = l .before .before in
     let a = entry n .args in
     let t = l .before .lines-test .taken in (
-      λ k few. sym (line-wrong (a .description .now) (a .text .now) (a .draft)
+      λ laws k few. sym (line-wrong (a .description .now) (a .text .now) laws (a .draft)
           (2 * a .draft .horizon + 1 + 1 - suc (n .lines .line)) (n .lines .line) (n .lines .at) (n .lines .values)
-          (l .line-at .result) (l .line-at .ensures .0) (c .before .before .before .line-due .result)
+          (l .line-at .result) (line-answers _ _ (l .line-at .ensures)) (c .before .before .before .line-due .result)
           (c .before .before .before .line-due .ensures) (c .if1 .taken) k)
-          ∙ one-left n t k few,
+          ∙ one-left n t laws k few,
       record { within = n .lines .inv .3; few = omega (arith, t, entry n .pre .1 .time) },
     )
 
@@ -248,13 +250,13 @@ returns-3 c =
     let n = start-at h in
     let a = entry n .args in
     let t = l .before .lines-test .taken in (
-      λ k few. sym (line-refused (a .description .now) (a .text .now) (a .draft)
+      λ laws k few. sym (line-refused (a .description .now) (a .text .now) laws (a .draft)
           (2 * a .draft .horizon + 1 + 1 - suc (n .lines .line)) (n .lines .line) (n .lines .at) (n .lines .values)
-          (line-at h) (l .line-at .ensures .0) (due-at h)
+          (line-at h) (line-answers _ _ (l .line-at .ensures)) (due-at h)
           (h .before .before .before .before .before .before .line-due .ensures) (h .before .before .before .if1 .left)
           _ (h .loop .i) (h .loop .values) (h .before .first-place .ensures) (h .loop .inv .2)
           (i .before .loop-test .taken) (short h) (no-place {found = item-at h} (i .next-item .ensures .0) (c .enum-told .given .1)) k)
-          ∙ one-left n t k few,
+          ∙ one-left n t laws k few,
       record { within = n .lines .inv .3; few = omega (arith, t, entry n .pre .1 .time) },
     )
 

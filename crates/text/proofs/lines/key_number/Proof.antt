@@ -1,15 +1,15 @@
 -- `lines::key_number` meets its contract. The loop's invariant: the first key that the bytes are is the first of those not yet passed.
 -- Assumes nothing.
 use native.Mathlib.Omega.{arith}
-use mathlib.Core.Path.{_≡_, refl, sym, _∙_}
+use mathlib.Core.Path.{_≡_, refl, sym, ap, _∙_}
 use mathlib.Core.List.{[]}
 use Prim.Native.Nat.{_≤_, _-_}
-use borrow.Author.Tests.{lt-ltb}
 use lib.ListN.{drop}
 use Rattle.basics.specs.Search.{first}
 use Rattle.basics.proofs.Loops.{first-stop, first-go, first-done}
 use Rattle.spelling.specs.Letters.{same}
 use Rattle.text.specs.Lines.{keys, noKey, keyNumber}
+use Rattle.text.specs.Places.{numberOr}
 use Rattle.text.proofs.lines.key_number.Statement.{statement}
 use Rattle.text.proofs.lines.key_number.Tie as tie
 
@@ -29,7 +29,7 @@ is-key-requires c κs = omega arith
 returns : tie.Need-returns Inv-loop μ-loop
 returns c =
     let h = c .before .before .before in
-    rw (lt-ltb _ _ (c .before .before .loop-test .taken))
+    ap numberOr
     (first-stop _ keys (h .loop .k) [] (c .before .before .loop-test .taken) (h .loop .inv .1)
     (sym (c .before .is-key .ensures) ∙ c .if1 .taken))
 
@@ -48,7 +48,7 @@ loop-again c =
     )
 
 returns-2 : tie.Need-returns-2 Inv-loop μ-loop
-returns-2 c = first-done _ keys (c .before .loop .k) [] (c .loop-test .left) (c .before .loop .inv .1)
+returns-2 c = ap numberOr (first-done _ keys (c .before .loop .k) [] (c .loop-test .left) (c .before .loop .inv .1))
 
 pub key-number-spec : {M : Type 1} → statement M
 key-number-spec =

@@ -5,9 +5,8 @@ use mathlib.Core.Path.{_≡_, _∙_}
 use Prim.Native.Nat.{_+_, _<_}
 use lib.ListN.{length, drop}
 use Rattle.basics.proofs.Loops.{at-place, no-place}
-use Rattle.text.specs.Internal.{lineOf}
 use Rattle.text.proofs.Runs.{part-all}
-use Rattle.text.proofs.Cutting.{cut-size, line-none, line-bare, line-whole, line-inside, sign-inside, line-fits, none-fits}
+use Rattle.text.proofs.Cutting.{cut-size, line-none, line-bare, line-whole, line-inside, sign-inside}
 use borrow.Author.Needs.{needs}
 use Rattle.text.proofs.lines.line_at.Statement.{statement}
 use Rattle.text.proofs.lines.line_at.Tie as tie
@@ -32,14 +31,11 @@ no-line-requires : tie.Need-no-line-requires
 no-line-requires c κs = search needs
 
 returns : tie.Need-returns
-unfolding lineOf
 returns c =
     let h = c .before .before .before in
     let a = h .before .before .before .args in
-    rw (c .no-line .ensures) (
-      line-none (a .text .now) (a .at) _ (rest (h .before)) (no-place (h .find .ensures) (c .before .enum-told .given .1)),
-      none-fits (a .text .now) (a .at),
-    )
+    c .no-line .ensures
+    ∙ line-none (a .text .now) (a .at) _ (rest (h .before)) (no-place (h .find .ensures) (c .before .enum-told .given .1))
 
 slice-aggregate-line : tie.Need-slice-aggregate-line
 slice-aggregate-line c =
@@ -59,16 +55,13 @@ no-line-requires-2 : tie.Need-no-line-requires-2
 no-line-requires-2 c κs = search needs
 
 returns-2 : tie.Need-returns-2
-unfolding lineOf
 returns-2 c =
     let s = c .before .before .before .before .before .before in
     let a = s .before .before .before .before .before .args in
-    rw (c .no-line2 .ensures) (
-      line-bare (a .text .now) (a .at) _ (rest (s .before .before .before)) _
-          (at-place (s .before .before .find .ensures) (s .size .given .1))
-          (no-place (c .before .before .before .find2 .ensures) (c .before .enum-told2 .given .1)),
-      none-fits (a .text .now) (a .at),
-    )
+    c .no-line2 .ensures
+    ∙ line-bare (a .text .now) (a .at) _ (rest (s .before .before .before)) _
+    (at-place (s .before .before .find .ensures) (s .size .given .1))
+    (no-place (c .before .before .before .find2 .ensures) (c .before .enum-told2 .given .1))
 
 slice-aggregate-key-number : tie.Need-slice-aggregate-key-number
 slice-aggregate-key-number c =
@@ -113,10 +106,8 @@ returns-3 c =
     let a = s .before .before .before .before .before .args in
     let r = rest (s .before .before .before) in
     let ends = at-place (s .before .before .find .ensures) (s .size .given .1) in
-    let splits = at-place (e .before .before .find2 .ensures) (e .equals .given .1) in (
-      line-whole (a .text .now) (a .at) _ r _ ends _ splits _ (c .key-number .ensures),
-      line-fits (a .text .now) (a .at) _ r _ ends _ splits _,
-    )
+    let splits = at-place (e .before .before .find2 .ensures) (e .equals .given .1) in
+    line-whole (a .text .now) (a .at) _ r _ ends _ splits _ (c .key-number .ensures)
 
 pub line-at-spec : {M : Type 1} → statement M
 line-at-spec =
