@@ -51,25 +51,27 @@ TextChecks text vs room number =
     → (number ≡ coded 64 0 ↔ IsPath d vs)
     × (number ≡ coded 64 0 ↔ replyCode formulaCode (completion.answer vs (wordsFor d)) ≡ coded 72 0)
 
--- the same, whatever the values: as many bytes as atoms, each at most 3
+-- of the same, where the bytes are as many as the atoms and each at most 3: which missing or clash the number names
 unfoldable pub TextSaysValues : List ℕ → List ℕ → ℕ → ℕ → Type 0
 TextSaysValues text vs room number =
     (d : Draft) (rest : List ℕ) (lines : ℕ) → described 64 text ≡ answered (read d rest lines)
     → length vs ≡ atoms d → Each (λ v. v ≤ 3) vs → length (wordsFor d) ≤ room → NumberedByValues vs number
 
--- of an input and the number answered, where the readers take a description and a history of it, one value an atom: 80 exactly if
--- the set is a path
+-- of an input and the number answered, where a description and a history with one value for each atom are read: 80 exactly if the set is
+-- a path
 unfoldable pub InputReads : List ℕ → ℕ → Type 0
 InputReads input number =
     (d : Draft) (rest : List ℕ) (lines : ℕ) → described 64 input ≡ answered (read d rest lines)
     → (vs : List ℕ) → recordedIn input ≡ answered vs
     → Each OneValue vs → number ≡ coded 80 0 ↔ IsPath d vs
 
--- and else the fault: 81 with the time and the law that contradicts, 82 with the time and the uncaused fluent, each in 16 bits
+-- what the number says where it names a fault: 81 the time and the law that contradicts, 82 the time and the uncaused fluent, each in 16
+-- bits
 pub record FaultNumbered (n m T : ℕ) (ls : List Law) (vs : List ℕ) (number : ℕ) : Type 0 where
   pub contradicted-exactly : (t i : ℕ) → t < 65536 → i < 65536 → number ≡ coded 81 (pair t i) ↔ ContradictedFirst n m T ls vs t i
   pub uncaused-exactly : (t f : ℕ) → t < 65536 → f < 65536 → number ≡ coded 82 (pair t f) ↔ UncausedFirst n m T ls vs t f
 
+-- of an input and the number answered, as above
 unfoldable pub InputFault : List ℕ → ℕ → Type 0
 InputFault input number =
     (d : Draft) (rest : List ℕ) (lines : ℕ) → described 64 input ≡ answered (read d rest lines)
