@@ -28,6 +28,7 @@ NAMES = {
     "demand_3": "passes, holds or path comes exactly if the set is a path of causally explained transitions",
     "by_formulas": "what the answer says of the completion formulas",
     "by_levels": "what the answer says of the levels lent, and with them of the formulas and of the engine",
+    "by_values": "missing or clash comes exactly at the lowest atom that has no value or both",
     "fault": "which contradicted or uncaused the causal reading names",
     "printed": "what the output says of the input, by the meaning of C",
     "accepted": "what the reader takes is refused neither by 8 nor by 3",

@@ -1,18 +1,21 @@
--- The completion formulas and the history check name the same atoms without a value and with both.
+-- The completion formulas and the history check name the same atoms without a value and with both. And what a history check that
+-- refuses nothing promises of it.
 -- Assumes nothing.
 use mathlib.Core.Path.{_≡_, refl, sym, _∙_}
 use mathlib.Core.Logic.{_↔_, _⊎_, inl, inr, Iff·trans, Iff·symm}
 use mathlib.Core.Bool.{true}
 use mathlib.Core.List.{List}
-use Prim.Native.Nat.{ℕ}
+use mathlib.Core.Option.{none}
+use Prim.Native.Nat.{ℕ, _≤_}
 use native.Mathlib.Omega.{arith}
-use borrow.Author.Tests.{eqb-true}
-use lib.Dec.{eqb}
+use borrow.Author.Tests.{eqb-true, eq-eqb, le-ltb}
+use lib.Dec.{eqb, ltb}
 use lib.ListN.{length, getD}
 use Rattle.basics.specs.Search.{Lowest}
 use Rattle.basics.specs.Replies.{Reply, refused, answered}
-use Rattle.basics.proofs.Tests.{or-iff}
-use Rattle.logic_programs.specs.Literals.{setOf, holdsTrue, holdsFalse}
+use Rattle.basics.proofs.Tests.{or-iff, each-map}
+use Rattle.basics.proofs.Lists.{none-iff}
+use Rattle.logic_programs.specs.Literals.{setOf, holdsTrue, holdsFalse, badValue}
 use Rattle.logic_programs.specs.ValueFaults as faults
 use Rattle.logic_programs.specs.ValueFaults.{ValueFault, valueFault, orFault}
 use Rattle.logic_programs.proofs.Values.{nowhere-none-or-both, missing-iff, clash-iff, neither-iff}
@@ -24,8 +27,16 @@ use Rattle.answer_set_theory.proofs.Theorems.{demand-2}
 use Rattle.logic_programs.specs.Literals.{NoValue, BothValues, NoneOrBoth}
 use Rattle.completion_theory.proofs.Tightness.{even-in, odd-in}
 use Rattle.completion_theory.proofs.Theorems.{says}
+use Rattle.action_language.specs.declared.Law.{Law}
+use Rattle.action_language.specs.declared.Description.{Description}
+use Rattle.action_language.specs.Atoms.{atomCount}
+use Rattle.translation.specs.Translated.{written, rulesFor, tableFor, outcome}
+use Rattle.translation.proofs.Outcomes.{accepted-written}
+use Rattle.translation_bounds.proofs.Tables.{few-atoms, engine-accepts}
+use Rattle.history_check.specs.declared.Checked.{Checked}
 use Rattle.history_check.specs.Checks as history
-use Rattle.correctness.specs.MissingAndClash.{MissingAndClash}
+use Rattle.correctness.specs.MissingAndClash.{ByValues, MissingAndClash}
+use Rattle.correctness.specs.Promises.{NothingRefused, SaysByValues}
 
 -- a value that makes its atom true and false is 3
 both-values : (v : ℕ) → ((holdsTrue v ≡ true) × (holdsFalse v ≡ true)) ↔ v ≡ 3
@@ -93,8 +104,34 @@ module _ (vs ws : List ℕ) (accepted : Accepted vs ws) where
 
 pub missing-and-clash : MissingAndClash
 missing-and-clash vs ws accepted = record {
-  missing-exactly = missing-said vs ws accepted;
-  clash-exactly = clash-said vs ws accepted;
+  by-values = record { missing-exactly = missing-said vs ws accepted; clash-exactly = clash-said vs ws accepted };
   missing-same = λ a. Iff·trans (says vs ws accepted .missing-exactly a) (Iff·symm (missing-said vs ws accepted a));
   clash-same = λ a. Iff·trans (says vs ws accepted .clash-exactly a) (Iff·symm (clash-said vs ws accepted a));
 }
+
+-- What a history check promises of its own answer
+
+module _ (d : Description) (ls : List Law) (lent : ℕ) (vs : List ℕ) (room : ℕ) (taken : NothingRefused d ls lent vs room) where
+  is-written : outcome d ls lent room
+      ≡ answered (written (atomCount (d .fluents) (d .actions) (d .horizon)) (length (rulesFor d ls)) (length (tableFor d ls)))
+  is-written = accepted-written d ls lent room (taken .records) (taken .horizon) (taken .enough)
+
+  bytes : badValue vs ≡ none
+  bytes = none-iff (ltb 3) 0 vs .1 (each-map (λ v b. le-ltb 3 v b) vs (taken .bytes))
+
+  pub few : length vs ≤ 1024
+  few = omega (arith, taken .size, few-atoms d ls lent room is-written)
+
+  is-found : history.checked d ls lent vs room ≡ history.finding vs (tableFor d ls)
+  unfolding history.checked
+  is-found = rw (is-written, eq-eqb (length vs) _ (taken .size), bytes)
+
+  pub by-values : ByValues vs (history.checked d ls lent vs room)
+  by-values =
+      rw is-found
+      (missing-and-clash vs (tableFor d ls) (engine-accepts d ls lent room is-written vs (taken .size) bytes) .by-values)
+
+pub says-by-values : (d : Description) (ls : List Law) (lent : ℕ) (vs : List ℕ) (room : ℕ) (r : Checked)
+    → history.replyOf r ≡ history.checked d ls lent vs room → SaysByValues d ls lent vs room r
+unfolding SaysByValues
+says-by-values d ls lent vs room r e taken = rw e (by-values d ls lent vs room taken)

@@ -43,12 +43,18 @@ UncausedAt n m ls vs (suc t) f = NotCaused n (stateAt n m vs t) (actionAt n m vs
 abbrev pub NoFaultBefore : ℕ → ℕ → List Law → List ℕ → ℕ → Type 0
 NoFaultBefore n m ls vs t = (u : ℕ) → u < t → Nowhere (ContradictedAt n m ls vs u) (length ls) × Nowhere (UncausedAt n m ls vs u) n
 
--- what a reply on a history of T steps says where it names a fault
+-- the fault of a history of T steps that is named: law i contradicts, or fluent f is uncaused where no law contradicts, at time t
+abbrev pub ContradictedFirst : ℕ → ℕ → ℕ → List Law → List ℕ → ℕ → ℕ → Type 0
+ContradictedFirst n m T ls vs t i = (t ≤ T) × NoFaultBefore n m ls vs t × Lowest (ContradictedAt n m ls vs t) (length ls) i
+
+abbrev pub UncausedFirst : ℕ → ℕ → ℕ → List Law → List ℕ → ℕ → ℕ → Type 0
+UncausedFirst n m T ls vs t f =
+    (t ≤ T) × NoFaultBefore n m ls vs t × Nowhere (ContradictedAt n m ls vs t) (length ls) × Lowest (UncausedAt n m ls vs t) n f
+
+-- what a reply says where it names a fault
 pub record FaultNamed (n m T : ℕ) (ls : List Law) (vs : List ℕ) (r : Reply Causal) : Type 0 where
-  pub contradicted-exactly : (t i : ℕ) → r ≡ answered (contradicted t i)
-      ↔ ((t ≤ T) × NoFaultBefore n m ls vs t × Lowest (ContradictedAt n m ls vs t) (length ls) i)
-  pub uncaused-exactly : (t f : ℕ) → r ≡ answered (uncaused t f)
-      ↔ ((t ≤ T) × NoFaultBefore n m ls vs t × Nowhere (ContradictedAt n m ls vs t) (length ls) × Lowest (UncausedAt n m ls vs t) n f)
+  pub contradicted-exactly : (t i : ℕ) → r ≡ answered (contradicted t i) ↔ ContradictedFirst n m T ls vs t i
+  pub uncaused-exactly : (t f : ℕ) → r ≡ answered (uncaused t f) ↔ UncausedFirst n m T ls vs t f
 
 -- of a causal reading's answer, for an accepted description and a set with one value for each atom
 unfoldable pub NamesFault : Description → List Law → ℕ → List ℕ → Reading → Type 0

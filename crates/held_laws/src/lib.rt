@@ -13,7 +13,7 @@ ghost use Rattle.history_check.specs.Checks;
 ghost use Rattle.causal_reading.specs.Readings;
 ghost use Rattle.description_reader.specs.Descriptions.{described};
 ghost use Rattle.description_reader.specs.Answers.{replyOf, replied, recordOf, lawsLeft};
-ghost use Rattle.correctness.specs.Promises.{TranslatesExactly, PassesExactly, PathExactly};
+ghost use Rattle.correctness.specs.Promises.{TranslatesExactly, PassesExactly, SaysByValues, PathExactly};
 ghost use Rattle.correctness.specs.CausalFaults.{NamesFault};
 ghost use Rattle.lent_laws.specs.Taking.{TakesAccepted};
 
@@ -57,6 +57,7 @@ pub fn judge(d: Description, laws: [Law; 64], values: &[u8], table: &mut [u16]) 
     ensures reading { λ r. ⌜ Readings.replyOf (r .reading) ≡ Readings.reading d laws 64 (now (values .entry)) ⌝ }
     ensures leaves { λ _. ⌜ now (table .exit) ≡ Checks.tableAfter d laws 64 (now (values .entry)) (now (table .entry)) ⌝ }
     ensures demand_3_checked { λ r. ⌜ PassesExactly d laws 64 (now (values .entry)) (length (now (table .entry))) (r .checked) ⌝ }
+    ensures by_values_checked { λ r. ⌜ SaysByValues d laws 64 (now (values .entry)) (length (now (table .entry))) (r .checked) ⌝ }
     ensures demand_3_reading { λ r. ⌜ PathExactly d laws 64 (now (values .entry)) (r .reading) ⌝ }
     ensures fault { λ r. ⌜ NamesFault d laws 64 (now (values .entry)) (r .reading) ⌝ }
 {

@@ -25,7 +25,7 @@ use Rattle.completion_theory.proofs.Formulas as formulas
 use Rattle.answer_codes.specs.Codes.{coded, replyCode}
 use Rattle.answer_codes.specs.FormulaCodes.{formulaCode}
 use Rattle.huntyghai.specs.FormulaNumbers.{NumberedByFormulas, CompletionNumbered, LevelsNumbered}
-use Rattle.huntyghai.proofs.SetCodes.{same-value, other-code, passes-told}
+use Rattle.huntyghai.proofs.SetCodes.{Coded, one-answer, passes-told}
 
 -- a reply's code and value
 abbrev tag : Reply FormulaFinding → ℕ
@@ -81,21 +81,20 @@ number-of (answered (clash a)) = refl
 number-of (answered (fails h)) = refl
 number-of (answered holds) = refl
 
-bounds : (r : Reply FormulaFinding) → Within r → (tag r < 256) × (value r < 72057594037927936)
-bounds (refused k p) w = (omega (arith, w .0), w .1)
-bounds (answered (missing a)) w = (omega arith, w)
-bounds (answered (clash a)) w = (omega arith, w)
-bounds (answered (fails (lit c))) w = (omega arith, omega arith)
-bounds (answered (fails falsum)) w = (omega arith, omega arith)
-bounds (answered holds) w = (omega arith, omega arith)
+bounds : (r : Reply FormulaFinding) → Within r → Coded tag value reply r
+bounds r w = record { code-fits = fits r w .0; value-fits = fits r w .1; back = back r w }
+  where
+    fits : (s : Reply FormulaFinding) → Within s → (tag s < 256) × (value s < 72057594037927936)
+    fits (refused k p) u = (omega (arith, u .0), u .1)
+    fits (answered (missing a)) u = (omega arith, u)
+    fits (answered (clash a)) u = (omega arith, u)
+    fits (answered (fails (lit c))) u = (omega arith, omega arith)
+    fits (answered (fails falsum)) u = (omega arith, omega arith)
+    fits (answered holds) u = (omega arith, omega arith)
 
 -- equal numbers are of equal replies
 told : (r s : Reply FormulaFinding) → Within r → Within s → replyCode formulaCode r ≡ replyCode formulaCode s → r ≡ s
-told r s w u e =
-    let same : coded (tag r) (value r) ≡ coded (tag s) (value s) = sym (number-of r) ∙ e ∙ number-of s in
-    let tags : tag r ≡ tag s = other-code (tag r) (tag s) (value r) (value s) (bounds r w .0) (bounds s u .0) same in
-    let values : value r ≡ value s = same-value (tag s) (value r) (value s) (bounds r w .1) (bounds s u .1) (rw tags at same) in
-    sym (back r w) ∙ ap (λ (k : ℕ). reply k (value r)) tags ∙ ap (reply (tag s)) values ∙ back s u
+told r s w u e = one-answer tag value reply r s (bounds r w) (bounds s u) (sym (number-of r) ∙ e ∙ number-of s)
 
 module _ (r : Reply FormulaFinding) (number : ℕ) (is : number ≡ replyCode formulaCode r) (within : Within r) where
   tells : (s : Reply FormulaFinding) → Within s → number ≡ replyCode formulaCode s ↔ r ≡ s
@@ -103,8 +102,10 @@ module _ (r : Reply FormulaFinding) (number : ℕ) (is : number ≡ replyCode fo
 
   by-formulas : (vs ws : List ℕ) → length vs ≤ 1024 → ByFormulas vs (rulesOf ws) r → NumberedByFormulas vs (rulesOf ws) number
   by-formulas vs ws few by = record {
-    missing-exactly = λ a b. Iff·trans (tells (answered (missing a)) (omega arith)) (by .missing-exactly a);
-    clash-exactly = λ a b. Iff·trans (tells (answered (clash a)) (omega arith)) (by .clash-exactly a);
+    by-values = record {
+      missing-exactly = λ a b. Iff·trans (tells (answered (missing a)) (omega arith)) (by .missing-exactly a);
+      clash-exactly = λ a b. Iff·trans (tells (answered (clash a)) (omega arith)) (by .clash-exactly a);
+    };
     fails-exactly = λ c b. Iff·trans (tells (answered (fails (lit c))) (omega arith)) (by .fails-exactly c);
     false-exactly = Iff·trans (tells (answered (fails falsum)) tt) (by .false-exactly);
     holds-exactly = Iff·trans (tells (answered holds) tt) (by .holds-exactly);

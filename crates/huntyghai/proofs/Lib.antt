@@ -3,3 +3,4 @@ pub mod SetCodes
 pub mod FormulaNumbers
 pub mod CodeLists
 pub mod TextReadings
+pub mod CausalNumbers

@@ -1,4 +1,4 @@
--- Demand 2 on numbers: a code and a value below 2 to the 56 are one verdict's alone.
+-- What a number tells: its code and, below 2 to the 56, its value. And demand 2 on numbers: both are one verdict's alone.
 -- Assumes nothing.
 use mathlib.Core.Path.{_≡_, refl, sym, ap, _∙_}
 use mathlib.Core.Logic.{_↔_, Iff·trans}
@@ -30,6 +30,20 @@ same-value k x y p q e =
 pub other-code : (k j x y : ℕ) → k < 256 → j < 256 → coded k x ≡ coded j y → k ≡ j
 unfolding coded
 other-code k j x y p q e = omega (arith, e)
+
+-- an answer whose code and value are within bounds and lead back to it
+pub record Coded {A : Type 0} (code value : A → ℕ) (from : ℕ → ℕ → A) (a : A) : Type 0 where
+  pub code-fits : code a < 256
+  pub value-fits : value a < 72057594037927936
+  pub back : from (code a) (value a) ≡ a
+
+-- two such answers with one number are one answer
+pub one-answer : {A : Type 0} (code value : A → ℕ) (from : ℕ → ℕ → A) (a b : A) → Coded code value from a → Coded code value from b
+    → coded (code a) (value a) ≡ coded (code b) (value b) → a ≡ b
+one-answer code value from a b p q e =
+    let codes : code a ≡ code b = other-code (code a) (code b) (value a) (value b) (p .code-fits) (q .code-fits) e in
+    let values : value a ≡ value b = same-value (code b) (value a) (value b) (p .value-fits) (q .value-fits) (rw codes at e) in
+    sym (p .back) ∙ ap (λ (k : ℕ). from k (value a)) codes ∙ ap (from (code b)) values ∙ q .back
 
 -- the value that a verdict names is within bounds, so a number below the bound tells the verdict
 abbrev Small : Verdict → Type 0

@@ -1,5 +1,5 @@
 -- What the numbers that huntyghai_check_completion and huntyghai_check_by_levels answer say: 72 holds, 73 fails, 68 missing, 65 clash,
--- 13 a refusal by the levels.
+-- 13 a refusal by the levels. Missing and clash are huntyghai_check_history's too.
 -- Assumes nothing.
 use mathlib.Core.Path.{_≡_}
 use mathlib.Core.Logic.{_↔_}
@@ -19,12 +19,16 @@ use Rattle.logic_programs.specs.Literals.{NoValue, BothValues, NoneOrBoth}
 use Rattle.completion_theory.specs.Meaning.{NotAbove}
 use Rattle.answer_codes.specs.Codes.{coded, replyCode, verdictCode}
 
--- the number for values and a program
-pub record NumberedByFormulas (vs : List ℕ) (Π : List Rule) (number : ℕ) : Type 0 where
+-- the number for values, whatever the program: missing or clash exactly at the lowest atom that has no value or both
+pub record NumberedByValues (vs : List ℕ) (number : ℕ) : Type 0 where
   pub missing-exactly : (a : ℕ) → a < length vs → number ≡ coded 68 a
       ↔ (Lowest (NoneOrBoth vs) (length vs) a × NoValue vs a)
   pub clash-exactly : (a : ℕ) → a < length vs → number ≡ coded 65 a
       ↔ (Lowest (NoneOrBoth vs) (length vs) a × BothValues vs a)
+
+-- the number for values and a program
+pub record NumberedByFormulas (vs : List ℕ) (Π : List Rule) (number : ℕ) : Type 0 where
+  pub by-values : NumberedByValues vs number
   pub fails-exactly : (c : ℕ) → c < 2 * length vs → number ≡ coded 73 c
       ↔ (Each OneValue vs × Lowest (λ d. Formula Π (setOf vs) (lit d) → ⊥) (2 * length vs) c)
   pub false-exactly : number ≡ coded 73 65535

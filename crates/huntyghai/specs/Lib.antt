@@ -1,5 +1,5 @@
--- The library for C: what the functions on texts answer and leave, demand 2 on the engine's numbers, what
--- the numbers by the completion formulas say, demand 3 on numbers, and which codes can come.
+-- The library for C: what the functions on texts answer and leave, demand 2 on the engine's numbers, what the numbers by the
+-- completion formulas say, demand 3 and the fault on numbers, and which codes can come.
 pub mod Texts
 pub mod SetCodes
 pub mod FormulaNumbers

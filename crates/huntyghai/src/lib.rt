@@ -17,7 +17,7 @@ ghost use Rattle.answer_codes.specs.FormulaCodes.{formulaCode};
 ghost use Rattle.huntyghai.specs.Texts.{translatedText, tableOfText, checkedText, tableOfCheck, readingOfInput};
 ghost use Rattle.huntyghai.specs.SetCodes.{SetNumbered};
 ghost use Rattle.huntyghai.specs.FormulaNumbers.{CompletionNumbered, LevelsNumbered};
-ghost use Rattle.huntyghai.specs.TextReadings.{TextTranslates, TextChecks};
+ghost use Rattle.huntyghai.specs.TextReadings.{TextTranslates, TextChecks, TextSaysValues, InputReads, InputFault};
 ghost use Rattle.huntyghai.specs.CodeLists.{CodeAmong};
 
 // What the program check prints for an input, as far as the buffer goes; the result is the whole output's length, at most 400.
@@ -103,6 +103,7 @@ pub extern "C" fn huntyghai_check_history(text: &[u8], values: &[u8], table: &mu
     ensures leaves { λ _. ⌜ now (table .exit) ≡ tableOfCheck (now (text .entry)) (now (values .entry)) (now (table .entry)) ⌝ }
     ensures possible_codes { λ r. ⌜ CodeAmong (1 ∷ 2 ∷ 3 ∷ 4 ∷ 5 ∷ 6 ∷ 9 ∷ 10 ∷ 11 ∷ 64 ∷ 65 ∷ 66 ∷ 67 ∷ 68 ∷ []) r ⌝ }
     ensures demand_3 { λ r. ⌜ TextChecks (now (text .entry)) (now (values .entry)) (length (now (table .entry))) r ⌝ }
+    ensures by_values { λ r. ⌜ TextSaysValues (now (text .entry)) (now (values .entry)) (length (now (table .entry))) r ⌝ }
 {
     let run = held_laws::read_run(text, law_runs::no_laws());
     let read = run.read;
@@ -122,6 +123,8 @@ pub extern "C" fn huntyghai_check_history(text: &[u8], values: &[u8], table: &mu
 pub extern "C" fn huntyghai_causal_reading(input: &[u8]) -> u64
     ensures answers { λ r. ⌜ r ≡ readingOfInput (now (input .entry)) ⌝ }
     ensures possible_codes { λ r. ⌜ CodeAmong (1 ∷ 2 ∷ 3 ∷ 4 ∷ 5 ∷ 6 ∷ 7 ∷ 11 ∷ 80 ∷ 81 ∷ 82 ∷ []) r ⌝ }
+    ensures demand_3 { λ r. ⌜ InputReads (now (input .entry)) r ⌝ }
+    ensures fault { λ r. ⌜ InputFault (now (input .entry)) r ⌝ }
 {
     let whole = inputs::read_input(input);
     let answer = whole.answer;

@@ -13,7 +13,7 @@ ghost use Rattle.history_check.specs.Checks;
 ghost use Rattle.causal_reading.specs.Readings;
 ghost use Rattle.description_reader.specs.Descriptions.{described};
 ghost use Rattle.description_reader.specs.Answers.{replyOf, replied, recordOf, lawsLeft};
-ghost use Rattle.correctness.specs.Promises.{TranslatesExactly, PassesExactly, PathExactly};
+ghost use Rattle.correctness.specs.Promises.{TranslatesExactly, PassesExactly, SaysByValues, PathExactly};
 ghost use Rattle.correctness.specs.CausalFaults.{NamesFault};
 ghost use Rattle.lent_laws.specs.Taking.{TakesAccepted};
 
@@ -84,6 +84,8 @@ pub fn check_history(d: Description, laws: &[Law], values: &[u8], table: &mut [u
         ≡ Checks.tableAfter d (now (laws .entry)) (length (now (laws .entry))) (now (values .entry)) (now (table .entry)) ⌝ }
     ensures demand_3 { λ r.
         ⌜ PassesExactly d (now (laws .entry)) (length (now (laws .entry))) (now (values .entry)) (length (now (table .entry))) r ⌝ }
+    ensures by_values { λ r.
+        ⌜ SaysByValues d (now (laws .entry)) (length (now (laws .entry))) (now (values .entry)) (length (now (table .entry))) r ⌝ }
 {
     history_check::check_history(d, law_runs::gather(laws), laws.len(), values, table)
 }

@@ -158,8 +158,8 @@ module _ (input : List ℕ) (d : Draft) (rest : List ℕ) (lines : ℕ) (vs : Li
       says = missing-and-clash vs (tableFor D ls) (engine-accepts D ls 64 room out-written vs size bytes)
 
       go : (f : Finding) → finding vs (tableFor D ls) ≡ answered f → missingOrClash f ≡ false
-      go (missing a) h = let low = says .missing-exactly a .0 h .0 in absurd (clear a (low .0) (low .1))
-      go (judged (clash a)) h = let low = says .clash-exactly a .0 h .0 in absurd (clear a (low .0) (low .1))
+      go (missing a) h = let low = says .by-values .missing-exactly a .0 h .0 in absurd (clear a (low .0) (low .1))
+      go (judged (clash a)) h = let low = says .by-values .clash-exactly a .0 h .0 in absurd (clear a (low .0) (low .1))
       go (judged (broken r)) h = refl
       go (judged (unfounded c)) h = refl
       go (judged passes) h = refl

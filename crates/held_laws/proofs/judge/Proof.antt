@@ -58,7 +58,7 @@ use Rattle.causal_reading.specs.Readings as causal
 use Rattle.causal_reading.proofs.Reading as RE
 use Rattle.causal_reading.proofs.Reading.Laws as RE′
 use Rattle.held_laws.specs.declared.Judged.{Judged}
-use Rattle.correctness.specs.Promises.{PassesExactly, PathExactly}
+use Rattle.correctness.specs.Promises.{PassesExactly, SaysByValues, PathExactly}
 use Rattle.correctness.specs.CausalFaults.{NamesFault}
 use Rattle.held_laws.proofs.Judged as S
 use Rattle.held_laws.proofs.Judged.Laws as S′
@@ -142,7 +142,8 @@ module _ {M : Type 1} (𝓤 : URA M) (H : Heap 𝓤) (A : Atoms 𝓤) (W : Given
   abbrev Checked-as : Checked → List ℕ → ℕ → Type 0
   Checked-as r zs n =
       (history.replyOf r ≡ history.checked d ls n (values .now) (length (t .now)))
-      × ((zs ≡ history.tableAfter d ls n (values .now) (t .now)) × PassesExactly d ls n (values .now) (length (t .now)) r)
+      × ((zs ≡ history.tableAfter d ls n (values .now) (t .now))
+      × (PassesExactly d ls n (values .now) (length (t .now)) r × SaysByValues d ls n (values .now) (length (t .now)) r))
 
   abbrev Read-as : Reading → ℕ → Type 0
   Read-as r n =
@@ -197,7 +198,8 @@ module _ {M : Type 1} (𝓤 : URA M) (H : Heap 𝓤) (A : Atoms 𝓤) (W : Given
         (says-both 𝓤 (factI 𝓤 _ _ (said .0))
         (says-both 𝓤 (factI 𝓤 _ _ (said′ .0))
         (says-both 𝓤 (factI 𝓤 _ _ (said .1 .0))
-        (says-both 𝓤 (factI 𝓤 _ _ (said .1 .1)) (says-both 𝓤 (factI 𝓤 _ _ (said′ .1 .0)) (factI 𝓤 _ _ (said′ .1 .1)))))))) $
+        (says-both 𝓤 (factI 𝓤 _ _ (said .1 .1 .0))
+        (says-both 𝓤 (factI 𝓤 _ _ (said .1 .1 .1)) (says-both 𝓤 (factI 𝓤 _ _ (said′ .1 .0)) (factI 𝓤 _ _ (said′ .1 .1))))))))) $
         -- [the table's last list; true; the tokens]
         move ! (2 ∷ 3 ∷ []) $ use2 W both (rejoined 𝓤 H A W 1 κ q (κ′, tt) (q′, tt)) $ frame ! $
         nothing ! $ move ! (1 ∷ 0 ∷ []) $ fjoin ! $ nothing ! $ fjoin ! $ nothing ! $ fjoin ! $ nothing ! $ fjoin ! $ frame ! $ drop ! $
@@ -249,7 +251,7 @@ module _ {M : Type 1} (𝓤 : URA M) (H : Heap 𝓤) (A : Atoms 𝓤) (W : Given
         (and-then ! (load ! (from ! (stop !)) (look ! 19 refl)) (and-then ! (load ! (from ! (stop !)) (look ! 4 refl)) (no-more !)))))
         (λ w.
         answers ! tt checks.ended (checks.clauses 𝓤 H A μ run) (at-check l₅ (α ∷ []) γ) w
-        (λ r ws. Checked-as r (ws .1 .1 .1 .0) (length ls)) (λ r ws. and-said 𝓤 _ (both-said 𝓤 _ _))
+        (λ r ws. Checked-as r (ws .1 .1 .1 .0) (length ls)) (λ r ws. and-said 𝓤 _ (and-said 𝓤 _ (both-said 𝓤 _ _)))
         (λ r ws r-is said.
         -- [the result; all tokens; the table's last list; the run; what is kept of it; values; _11; …; ..; _6; …; _5's; _4; …; ..; _0; …]
         land ! (from ! (stop !)) (init ! 14 refl (EL.lawful CH.the-type CH′.the-laws 𝓤 H A W tt .typed r (w ∷ []) r-is .0)) $ drop ! $

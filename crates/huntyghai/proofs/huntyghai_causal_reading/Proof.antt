@@ -7,6 +7,7 @@ use Rattle.history_reader.specs.Histories.{historyReplyOf}
 use Rattle.answer_codes.specs.Codes.{replyCode, causalCode}
 use Rattle.huntyghai.proofs.Texts.{reading-refused, reading-read}
 use Rattle.huntyghai.proofs.CodeLists.{as-listed, causalCodes, causal-codes}
+use Rattle.huntyghai.proofs.CausalNumbers.{input-reads, input-fault}
 use borrow.Author.Needs.{needs}
 use Rattle.huntyghai.proofs.huntyghai_causal_reading.Statement.{statement}
 use Rattle.huntyghai.proofs.huntyghai_causal_reading.Tie as tie
@@ -43,7 +44,7 @@ returns c =
     let i = told .before .before in
     let input = i .before .before .args .input .now in
     let is = c .number .ensures ∙ reading-refused input (sym (ap historyReplyOf (told .answer .given .1)) ∙ i .read-input .ensures .0) in
-    (is, as-listed causalCodes is (causal-codes input))
+    (is, (as-listed causalCodes is (causal-codes input), (input-reads input _ is, input-fault input _ is)))
 
 returns-2 : tie.Need-returns-2
 returns-2 c =
@@ -56,7 +57,7 @@ returns-2 c =
     ∙ ap (replyCode causalCode) (cr .causal-reading .ensures)
     ∙ reading-read input (replicate (i .read-input .result .atoms) 0) (e .1 .0) (e .1 .1 .0) (e .1 .1 .1 .1 .0)
     (sym (ap historyReplyOf (told .enum-told .given .1)) ∙ e .0) in
-    (is, as-listed causalCodes is (causal-codes input))
+    (is, (as-listed causalCodes is (causal-codes input), (input-reads input _ is, input-fault input _ is)))
 
 pub huntyghai-causal-reading-spec : {M : Type 1} → statement M
 huntyghai-causal-reading-spec =

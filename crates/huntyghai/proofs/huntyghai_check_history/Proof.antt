@@ -6,7 +6,7 @@ use Rattle.description_reader.specs.Answers.{replyOf}
 use Rattle.answer_codes.specs.Codes.{replyCode, findingCode}
 use Rattle.huntyghai.proofs.Texts.{check-refused, check-table-refused, check-read, check-table-read}
 use Rattle.huntyghai.proofs.CodeLists.{as-listed, checkCodes, check-codes}
-use Rattle.huntyghai.proofs.TextReadings.{text-checks}
+use Rattle.huntyghai.proofs.TextReadings.{text-checks, text-says-values}
 use borrow.Author.Needs.{needs}
 use Rattle.huntyghai.proofs.huntyghai_check_history.Statement.{statement}
 use Rattle.huntyghai.proofs.huntyghai_check_history.Tie as tie
@@ -38,15 +38,13 @@ returns c =
     let rd = told .before .before .before in
     let a = rd .before .before .before .before .before .args in
     let text = a .text .now in
+    let vs = a .values .now in
+    let room = length (a .table .now) in
     let e = sym (rd .read-run .ensures .0) ∙ ap replyOf (told .answer .given .1) in
-    let is = c .number .ensures ∙ check-refused text e (a .values .now) (length (a .table .now)) in
-    let listed = as-listed checkCodes is (check-codes text (a .values .now) (length (a .table .now))) in (
-      is,
-      (
-        check-table-refused text e (a .values .now) (a .table .now),
-        (listed, text-checks text (a .values .now) (length (a .table .now)) _ is),
-      ),
-    )
+    let is = c .number .ensures ∙ check-refused text e vs room in
+    let left = check-table-refused text e vs (a .table .now) in
+    let listed = as-listed checkCodes is (check-codes text vs room) in
+    (is, (left, (listed, (text-checks text vs room _ is, text-says-values text vs room _ is))))
 
 same-length : tie.Need-same-length
 same-length c = search needs
@@ -58,16 +56,18 @@ returns-2 c =
     let rd = told .before .before .before in
     let a = rd .before .before .before .before .before .args in
     let text = a .text .now in
+    let vs = a .values .now in
+    let room = length (a .table .now) in
     let old = rd .before .no-laws .result in
     let e = sym (rd .read-run .ensures .0) ∙ ap replyOf (told .answer2 .given .1) in
     let dis = rd .read-run .ensures .1 .0 in
     let lis = rd .read-run .ensures .1 .1 .0 in
     let is =
     c .of-checked .ensures ∙ ap (replyCode findingCode) (t .check-history .ensures .0)
-    ∙ check-read text old e dis lis (a .values .now) (length (a .table .now)) in
-    let left = t .check-history .ensures .1 ∙ check-table-read text old e dis lis (a .values .now) (a .table .now) in
-    let listed = as-listed checkCodes is (check-codes text (a .values .now) (length (a .table .now))) in
-    (is, (left, (listed, text-checks text (a .values .now) (length (a .table .now)) _ is)))
+    ∙ check-read text old e dis lis vs room in
+    let left = t .check-history .ensures .1 ∙ check-table-read text old e dis lis vs (a .table .now) in
+    let listed = as-listed checkCodes is (check-codes text vs room) in
+    (is, (left, (listed, (text-checks text vs room _ is, text-says-values text vs room _ is))))
 
 pub huntyghai-check-history-spec : {M : Type 1} → statement M
 huntyghai-check-history-spec =

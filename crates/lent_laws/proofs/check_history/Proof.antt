@@ -54,6 +54,7 @@ use Rattle.history_check.proofs.check_history.Symbol as core-def
 use Rattle.history_check.proofs.check_history.Symbol.{name as #core}
 use Rattle.history_check.proofs.check_history.Met as core-thm
 use Rattle.correctness.proofs.Demand3.{passes-exactly}
+use Rattle.correctness.proofs.MissingAndClash.{says-by-values}
 use Rattle.law_runs.specs.Internal.{gathered}
 use Rattle.lent_laws.proofs.Agreement.{same-checked, same-checked-table}
 use Rattle.law_runs.proofs.Walking.{walk-shows}
@@ -154,7 +155,8 @@ module _ {M : Type 1} (𝓤 : URA M) (H : Heap 𝓤) (A : Atoms 𝓤) (W : Given
       (tt, (tt, (tt, (ws .1 .1 .1 .1 .0, tt)))) (tt, (tt, (tt, (l, tt))))
       (says-both 𝓤 (factI 𝓤 _ _ told)
       (says-both 𝓤 (factI 𝓤 _ _ (e .1 ∙ same-checked-table d (s .now) (values .now) (t .now)))
-      (factI 𝓤 _ _ (passes-exactly d (s .now) (length (s .now)) (values .now) (length (t .now)) r told))))) $
+      (says-both 𝓤 (factI 𝓤 _ _ (passes-exactly d (s .now) (length (s .now)) (values .now) (length (t .now)) r told))
+      (factI 𝓤 _ _ (says-by-values d (s .now) (length (s .now)) (values .now) (length (t .now)) r told)))))) $
       -- [the table's last list; true; the result; token; others]
       move ! (3 ∷ 4 ∷ []) $
       use2 W (raw (toks 𝓤 A 3 (κ, (κ′, (κ″, tt))) (q, (q′, (q″, tt))))) (rejoined 𝓤 H A W 2 κ q (κ′, (κ″, tt)) (q′, (q″, tt))) $
