@@ -59,7 +59,7 @@ facts-accepted : (k : ℕ) → k ≤ 4096 → AcceptedTable 1 (facts k)
 facts-accepted k few =
     record {
       rules = replicate k fact;
-      spelled = refl;
+      as-words = refl;
       few = omega (arith, length-replicate k fact);
       over = each-replicate (RuleOver 1) k fact (record { head = omega arith; negated = tt; plain = tt });
     }
@@ -127,7 +127,7 @@ zeros-pass : (n : ℕ) → n ≤ 1024 → answer (replicate n 0) [] ≡ answered
 zeros-pass n few =
     let taken : Accepted (replicate n 0) [] =
     within-limits (replicate n 0) [] .accepted-exactly .1
-    (zeros-accepted n few, record { rules = []; spelled = refl; few = omega arith; over = tt }) in
+    (zeros-accepted n few, record { rules = []; as-words = refl; few = omega arith; over = tt }) in
     passes-exactly (replicate n 0) [] taken .1
     (rw rulesOf-nil
     (record {
@@ -156,7 +156,7 @@ pub limits-hold : LimitsHold
 limits-hold = record {
   nothing = (
     record { few = omega arith; small = tt },
-    record { rules = []; spelled = refl; few = omega arith; over = tt },
+    record { rules = []; as-words = refl; few = omega arith; over = tt },
     nothing-passes,
   );
   accepted = all-accepted;

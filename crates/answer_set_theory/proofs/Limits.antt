@@ -21,7 +21,7 @@ use Rattle.answer_set_theory.specs.Limits.{LiteralOver, HeadOver, RuleOv
 use Rattle.answer_set_theory.proofs.Least.{HeadBelow}
 use Rattle.answer_set_theory.proofs.Decoding.{RuleBelow, CodesBelow, codes-coded, rules-words, words-accepted}
 use Rattle.answer_set_theory.proofs.Decoding.{accepted-below, accepted-count, accepted-words}
-use Rattle.answer_set_theory.proofs.Theorems.{few-values}
+use Rattle.rule_tables.proofs.Testing.{few-values}
 
 -- Values
 
@@ -59,16 +59,16 @@ module _ (n : ℕ) where
   table-iff ws = (
     λ e. record {
       rules = rulesOf ws;
-      spelled = accepted-words n ws e;
+      as-words = accepted-words n ws e;
       few = omega (arith, accepted-count n ws e);
       over = each-map rule-over (rulesOf ws) (accepted-below n ws e);
     },
-    λ t. rw (← t .spelled) (words-accepted n (t .rules) (rules-below (t .rules) (t .over)) (omega (arith, t .few))),
+    λ t. rw (← t .as-words) (words-accepted n (t .rules) (rules-below (t .rules) (t .over)) (omega (arith, t .few))),
   )
 
   pub table-rules : n ≤ 1024 → (ws : List ℕ) (t : AcceptedTable n ws) → rulesOf ws ≡ t .rules
   table-rules few ws t =
-      ap rulesOf (sym (t .spelled))
+      ap rulesOf (sym (t .as-words))
       ∙ rules-words (t .rules) (codes-coded (2 * n) (t .rules) (rules-below (t .rules) (t .over)) (omega arith))
 
 pub within-limits : (vs ws : List ℕ) → WithinLimits vs ws

@@ -34,7 +34,7 @@ pub record AcceptedValues (vs : List ℕ) : Type 0 where
 -- the words of some rules over n atoms
 pub record AcceptedTable (n : ℕ) (ws : List ℕ) : Type 0 where
   pub rules : List Rule
-  pub spelled : words rules ≡ ws
+  pub as-words : words rules ≡ ws
   pub few : length rules ≤ 4096
   pub over : Each (RuleOver n) rules
 
