@@ -80,7 +80,7 @@ part-read-history-end : tie.Need-part-read-history-end
 part-read-history-end c = search needs
 
 array-borrow-prefix-values : tie.Need-array-borrow-prefix-values
-array-borrow-prefix-values c = search needs
+array-borrow-prefix-values c = omega (arith, counted (c .before) .1)
 
 slice-aggregate-read-history : tie.Need-slice-aggregate-read-history
 slice-aggregate-read-history c =
