@@ -1,6 +1,6 @@
 -- Runs cut at their first byte of a kind, by places: lines and items.
 -- Assumes nothing.
-use mathlib.Core.Path.{_≡_, ap}
+use mathlib.Core.Path.{_≡_, refl, ap}
 use mathlib.Core.Bool.{Bool}
 use mathlib.Core.List.{List, [], _∷_}
 use mathlib.Core.Option.{none, some}
@@ -34,12 +34,12 @@ drop-take (suc j) (suc n) (x ∷ xs) = let e : suc n - suc j ≡ n - j = omega a
 module _ (text : List ℕ) (at : ℕ) (rest : List ℕ) (is : rest ≡ drop at text) where
   pub line-none : first (eqb newline) 0 rest ≡ none → noLine (length text) ≡ lineAt text at
   unfolding lineAt
-  line-none e = rw (← is, e)
+  line-none e = rw (← is, e) refl
 
   module _ (size : ℕ) (ends : first (eqb newline) 0 rest ≡ some size) where
     pub line-bare : first (eqb equalsSign) 0 (take size rest) ≡ none → noLine (length text) ≡ lineAt text at
     unfolding lineAt
-    line-bare e = rw (← is, ends, ← is, e)
+    line-bare e = rw (← is, ends, ← is, e) refl
 
     pub line-inside : at + size < length text
     line-inside = omega (arith, first-inside (eqb newline) rest size ends, ap length is, length-drop at text)
@@ -51,7 +51,7 @@ module _ (text : List ℕ) (at : ℕ) (rest : List ℕ) (is : rest ≡ drop at t
       pub line-whole : (k : ℕ) → k ≡ numberOr (keyNumber (take sign (take size rest)))
           → _≡_ {A = LineAt} (record { key = k; from = at + sign + 1; to = at + size; next = at + size + 1 }) (lineAt text at)
       unfolding lineAt
-      line-whole k is-key = rw (← is, ends, ← is, splits, ← is, is-key)
+      line-whole k is-key = rw (← is, ends, ← is, splits, ← is, is-key) refl
 
 -- the item at a place of a list, where `rest` is the list from there on
 module _ (list : List ℕ) (from : ℕ) (rest : List ℕ) (is : rest ≡ drop from list) where

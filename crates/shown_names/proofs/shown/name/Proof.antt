@@ -73,7 +73,7 @@ returns-2 c =
     (c .no-part2 .ensures)
 
 add-place : tie.Need-add-place
-add-place c = let n = c .before .before .before in omega (arith, declared n .limits .few, c .before .if3 .left)
+add-place c = let l = declared (c .before .before .before) .limits in omega (arith, l .few, l .time, c .before .if3 .left)
 
 no-part-requires-3 : tie.Need-no-part-requires-3
 no-part-requires-3 c κs = tt
@@ -124,8 +124,7 @@ returns-5 c =
 
 add-value-of-line-2 : tie.Need-add-value-of-line-2
 add-value-of-line-2 c =
-    let n = c .before .before .before in
-    omega (arith, declared n .limits .few, c .if5 .left)
+    let l = declared (c .before .before .before) .limits in omega (arith, l .few, l .time, c .if5 .left)
 
 value-of-line-requires-2 : tie.Need-value-of-line-requires-2
 value-of-line-requires-2 c κs = tt
