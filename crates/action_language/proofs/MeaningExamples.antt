@@ -108,6 +108,7 @@ acceptance-examples = record {
   horizon-1 = refl;
   horizon-30 = refl;
   horizon-31 = refl;
+  three-steps = refl;
 }
 
 atom-examples : AtomExamples

@@ -1,4 +1,4 @@
--- The lists of a law record, a record made of its lists, and the laws of a description.
+-- The lists of a law record, a record made of its lists, the laws of a description, and the description for another horizon.
 -- Assumes nothing.
 use mathlib.Core.List.{List, [], _++_}
 use mathlib.Core.Bool.{Bool, true, false}
@@ -45,3 +45,7 @@ noLaw = lawOf Static (Lit 0) [] []
 -- the laws that a description counts, of those lent
 abbrev pub lawsOf : Description → List Law → List Law
 lawsOf d ls = take (d .laws) ls
+
+-- the same description for another number of steps
+abbrev pub withHorizon : Description → ℕ → Description
+withHorizon d T = record { fluents = d .fluents; actions = d .actions; laws = d .laws; horizon = T }

@@ -10,11 +10,11 @@ use lib.Dec.{eqb}
 use Rattle.action_language.specs.declared.Head.the-variants.{Lit, False}
 use Rattle.action_language.specs.declared.Kind.the-variants.{Static, Dynamic}
 use Rattle.action_language.specs.declared.Law.{Law}
-use Rattle.action_language.specs.Laws.{lawOf}
+use Rattle.action_language.specs.Laws.{lawOf, withHorizon}
 use Rattle.action_language.specs.Atoms.{fluentAtom, actionAtom, atomCount, wrongLength}
 use Rattle.action_language.specs.Meaning.{Interpretation, caused, SatisfiesAll, Same, Explained, State, Path}
 use Rattle.action_language.specs.Acceptance.{badRecord, badHorizon}
-use Rattle.action_language.specs.Examples.{recipe, recipeLaws, doorLaws, waterLaws}
+use Rattle.action_language.specs.Examples.{recipe, recipeLaws, door, doorLaws, waterLaws}
 
 -- the interpretation of one fluent or action, and of two
 abbrev pub one : Bool → Interpretation
@@ -78,7 +78,8 @@ pub record RecipeExamples : Type 0 where
   pub reflowed-while-locked : Explained 2 recipeLaws (two true false) (one true) (two true true) → ⊥
   pub nothing-shows : (I : Interpretation) → SatisfiesAll I (caused 2 (two true false) (one true) (two true true) recipeLaws) → ⊥
 
--- which descriptions are refused: a law with an action in its if-list; one law lent too few; horizons
+-- which descriptions are refused: a law with an action in its if-list; one law lent too few; horizons. A description for another
+-- horizon
 pub record AcceptanceExamples : Type 0 where
   pub recipe-accepted : badRecord recipe recipeLaws 6 ≡ none
   pub five-lent : badRecord recipe recipeLaws 5 ≡ some 64
@@ -89,6 +90,7 @@ pub record AcceptanceExamples : Type 0 where
   pub horizon-1 : badHorizon 1 ≡ none
   pub horizon-30 : badHorizon 30 ≡ none
   pub horizon-31 : badHorizon 31 ≡ some 0
+  pub three-steps : withHorizon (door 1) 3 ≡ door 3
 
 -- 2 fluents and 1 action: locked, flowed, reflow, then time 1; the most atoms
 pub record AtomExamples : Type 0 where

@@ -7,6 +7,7 @@ ghost use lib.Dec.{leb};
 ghost use lib.ListN.{take};
 ghost use Rattle.basics.specs.Search.{placeOf};
 ghost use Rattle.basics.specs.Replies.{refusalOf, refusal};
+ghost use Rattle.action_language.specs.Atoms.{atomsWithin};
 ghost use Rattle.action_language.specs.Acceptance.{codesBelow, headFits, afterFits, lawFits, badLaw};
 ghost use Rattle.action_language.specs.Acceptance.{countsFit, badRecord, badHorizon};
 
@@ -160,4 +161,20 @@ pub fn bad_horizon(horizon: usize) -> Found
         return Found::At(0);
     }
     Found::Nothing
+}
+
+// How many atoms there are, or 0 where a number is past its limit.
+pub fn atom_count(fluents: usize, actions: usize, horizon: usize) -> usize
+    ensures { λ r. ⌜ r ≡ atomsWithin fluents actions horizon ⌝ }
+{
+    if 24 < fluents {
+        return 0;
+    }
+    if 8 < actions {
+        return 0;
+    }
+    if 30 < horizon {
+        return 0;
+    }
+    horizon * (fluents + actions) + fluents
 }

@@ -35,6 +35,11 @@ abbrev pub testedOf : Tested → Reply Unit
 testedOf (Refused number place) = refused number place
 testedOf Accepted = answered tt
 
+-- the refusal by what was tested before, else what comes next
+abbrev pub unlessRefused : {A B : Type 0} → Reply A → Reply B → Reply B
+unlessRefused (refused number place) next = refused number place
+unlessRefused (answered a) next = next
+
 -- what lent memory holds afterwards: after a refusal what it held before
 abbrev pub leftAfter : {A B : Type 0} → Reply A → (A → B) → B → B
 leftAfter (refused number place) new old = old

@@ -115,7 +115,7 @@ pub fn causal_reading(d: Description, laws: [Law; 64], lent: usize, values: &[u8
     if let Found::At(place) = horizon_at {
         return Reading::Refused(3, place);
     }
-    let atoms = d.horizon * (d.fluents + d.actions) + d.fluents;
+    let atoms = action_language::atom_count(d.fluents, d.actions, d.horizon);
     if values.len() != atoms {
         return Reading::Refused(10, values.len());
     }

@@ -1,20 +1,21 @@
 -- The completion formulas and the history check name the same atoms without a value and with both.
 -- Assumes nothing.
 use mathlib.Core.Path.{_≡_, refl, sym, _∙_}
-use mathlib.Core.Logic.{_↔_, _⊎_, inl, inr, ⊎-elim, Iff·trans, Iff·symm}
-use mathlib.Core.Bool.{Bool, true, false, cond}
+use mathlib.Core.Logic.{_↔_, _⊎_, inl, inr, Iff·trans, Iff·symm}
+use mathlib.Core.Bool.{true}
 use mathlib.Core.List.{List}
-use mathlib.Core.Option.{Option, none, some}
 use Prim.Native.Nat.{ℕ}
 use native.Mathlib.Omega.{arith}
-use borrow.Author.Tests.{eqb-true, eqb-false}
+use borrow.Author.Tests.{eqb-true}
 use lib.Dec.{eqb}
 use lib.ListN.{length, getD}
-use Rattle.basics.specs.Search.{first, Lowest}
-use Rattle.basics.specs.Replies.{Reply, refused, answered, orElse}
+use Rattle.basics.specs.Search.{Lowest}
+use Rattle.basics.specs.Replies.{Reply, refused, answered}
 use Rattle.basics.proofs.Tests.{or-iff}
-use Rattle.logic_programs.specs.Literals.{setOf, holdsTrue, holdsFalse, noneOrBoth}
-use Rattle.logic_programs.proofs.Values.{lowest-none-or-both, nowhere-none-or-both}
+use Rattle.logic_programs.specs.Literals.{setOf, holdsTrue, holdsFalse}
+use Rattle.logic_programs.specs.ValueFaults as faults
+use Rattle.logic_programs.specs.ValueFaults.{ValueFault, valueFault, orFault}
+use Rattle.logic_programs.proofs.Values.{nowhere-none-or-both, missing-iff, clash-iff, neither-iff}
 use Rattle.rule_tables.specs.Acceptance.{Accepted}
 use Rattle.answer_set_theory.specs.Verdicts.{Verdict, clash}
 use Rattle.answer_set_theory.specs.Answers as engine
@@ -55,58 +56,40 @@ unfolding Demand2
 engine-clash vs ws accepted a =
     Iff·trans (demand-2 vs ws accepted .clash-exactly a) (lowest-iff (Clashing (setOf vs)) (BothValues vs) (clashing-iff vs) (length vs) a)
 
--- what the history check says, from its search and the engine's answer
+-- what the history check says, from the fault of its values and the engine's answer
 module _ (vs ws : List ℕ) (accepted : Accepted vs ws) where
-  abbrev said : Option ℕ → Reply history.Finding
-  said o = orElse o (λ atom. answered (history.faultAt vs atom)) (history.ofEngine (engine.answer vs ws))
+  abbrev said : ValueFault → Reply history.Finding
+  said fault =
+      orFault fault (λ a. answered (history.missing a)) (λ a. answered (history.judged (clash a))) (history.ofEngine (engine.answer vs ws))
 
   missing-said : (a : ℕ) → history.finding vs ws ≡ answered (history.missing a) ↔ (Lowest (NoneOrBoth vs) (length vs) a × NoValue vs a)
-  missing-said a = (
-    λ e. go (first noneOrBoth 0 vs) refl e,
-    λ h. rw (lowest-none-or-both vs a .1 (h .0), h .1) refl,
-  )
+  missing-said a = (λ e. go (valueFault vs) refl e, λ h. rw (missing-iff vs a .1 h) refl)
     where
       engine-not : (r : Reply Verdict) → history.ofEngine r ≡ answered (history.missing a) → ⊥
       engine-not (refused k p) e = let z : _≡_ {A = ℕ} 0 1 = cc in omega arith
       engine-not (answered v) e = let z : _≡_ {A = ℕ} 0 1 = cc in omega arith
 
-      go : (o : Option ℕ) → first noneOrBoth 0 vs ≡ o → said o ≡ answered (history.missing a)
+      go : (fault : ValueFault) → valueFault vs ≡ fault → said fault ≡ answered (history.missing a)
           → Lowest (NoneOrBoth vs) (length vs) a × NoValue vs a
-      go none q e = absurd (engine-not (engine.answer vs ws) e)
-      go (some i) q e = by-value (eqb (getD vs i 0) 0) refl e
-        where
-          by-value : (b : Bool) → eqb (getD vs i 0) 0 ≡ b
-              → answered (cond b (history.missing i) (history.judged (clash i))) ≡ answered (history.missing a)
-              → Lowest (NoneOrBoth vs) (length vs) a × NoValue vs a
-          by-value true t e = let same : i ≡ a = cc in rw (← same) (lowest-none-or-both vs i .0 q, eqb-true (getD vs i 0) 0 t)
-          by-value false f e = let z : _≡_ {A = ℕ} 0 1 = cc in absurd (omega arith)
+      go (faults.missing i) q e = let same : i ≡ a = cc in rw (← same) (missing-iff vs i .0 q)
+      go (faults.clash i) q e = let z : _≡_ {A = ℕ} 0 1 = cc in absurd (omega arith)
+      go faults.neither q e = absurd (engine-not (engine.answer vs ws) e)
 
   clash-said : (a : ℕ) → history.finding vs ws ≡ answered (history.judged (clash a))
       ↔ (Lowest (NoneOrBoth vs) (length vs) a × BothValues vs a)
-  clash-said a = (
-    λ e. go (first noneOrBoth 0 vs) refl e,
-    λ h. rw (lowest-none-or-both vs a .1 (h .0), h .1) refl,
-  )
+  clash-said a = (λ e. go (valueFault vs) refl e, λ h. rw (clash-iff vs a .1 h) refl)
     where
       by-engine : (r : Reply Verdict) → history.ofEngine r ≡ answered (history.judged (clash a)) → r ≡ answered (clash a)
       by-engine (refused k p) e = cc
       by-engine (answered v) e = cc
 
-      go : (o : Option ℕ) → first noneOrBoth 0 vs ≡ o → said o ≡ answered (history.judged (clash a))
+      go : (fault : ValueFault) → valueFault vs ≡ fault → said fault ≡ answered (history.judged (clash a))
           → Lowest (NoneOrBoth vs) (length vs) a × BothValues vs a
-      go none q e =
+      go (faults.missing i) q e = let z : _≡_ {A = ℕ} 0 1 = cc in absurd (omega arith)
+      go (faults.clash i) q e = let same : i ≡ a = cc in rw (← same) (clash-iff vs i .0 q)
+      go faults.neither q e =
           let low = engine-clash vs ws accepted a .0 (by-engine (engine.answer vs ws) e) in
-          absurd (nowhere-none-or-both vs .0 q a (low .0) (inr (low .1)))
-      go (some i) q e = by-value (eqb (getD vs i 0) 0) refl e
-        where
-          by-value : (b : Bool) → eqb (getD vs i 0) 0 ≡ b
-              → answered (cond b (history.missing i) (history.judged (clash i))) ≡ answered (history.judged (clash a))
-              → Lowest (NoneOrBoth vs) (length vs) a × BothValues vs a
-          by-value true t e = let z : _≡_ {A = ℕ} 0 1 = cc in absurd (omega arith)
-          by-value false f e =
-              let same : i ≡ a = cc in
-              let low = lowest-none-or-both vs i .0 q in
-              rw (← same) (low, ⊎-elim (λ z. absurd (eqb-false (getD vs i 0) 0 f z)) (λ t. t) (low .1))
+          absurd (nowhere-none-or-both vs .0 (neither-iff vs .0 q) a (low .0) (inr (low .1)))
 
 pub missing-and-clash : MissingAndClash
 missing-and-clash vs ws accepted = record {

@@ -2,33 +2,34 @@
 -- are joined. The description with another horizon stays accepted.
 -- Assumes nothing.
 use mathlib.Core.Path.{_≡_, refl, sym, _∙_}
-use mathlib.Core.Bool.{Bool, true, false, cond}
 use mathlib.Core.List.{List}
-use mathlib.Core.Option.{Option, none, some}
+use mathlib.Core.Option.{none}
 use Prim.Native.Nat.{ℕ, _+_, _-_, _≤_, _<_}
 use native.Mathlib.Omega.{arith}
-use lib.Dec.{eqb}
-use lib.ListN.{length, getD}
+use lib.ListN.{length}
 use Rattle.basics.specs.Search.{Each, first}
-use Rattle.basics.specs.Replies.{Reply, refused, answered, orElse}
+use Rattle.basics.specs.Replies.{Reply, refused, answered}
 use Rattle.basics.proofs.Replies.{orRefuse-answered}
 use Rattle.logic_programs.specs.Literals.{OneValue, noneOrBoth, badValue}
-use Rattle.logic_programs.proofs.Values.{one-value-iff}
+use Rattle.logic_programs.specs.ValueFaults as faults
+use Rattle.logic_programs.specs.ValueFaults.{ValueFault, valueFault, orFault}
+use Rattle.logic_programs.proofs.Values.{one-value-iff, neither-iff}
 use Rattle.answer_set_theory.specs.Verdicts.{clash, passes}
 use Rattle.answer_set_theory.specs.Answers as engine
 use Rattle.action_language.specs.declared.Law.{Law}
 use Rattle.action_language.specs.declared.Description.{Description}
+use Rattle.action_language.specs.Laws.{withHorizon}
 use Rattle.action_language.specs.Atoms.{atomCount, wrongLength}
 use Rattle.action_language.specs.Acceptance.{badRecord, badHorizon}
 use Rattle.action_language.proofs.Laws.{accepted-horizon, horizon-taken, right-length}
-use Rattle.translation.specs.Translated.{Written, written, tableFor, outcome}
+use Rattle.translation.specs.Translated.{Written, written, tableFor, outcome, afterTranslation}
 use Rattle.translation.proofs.Outcomes.{written-accepted}
 use Rattle.history_check.specs.Checks as history
 use Rattle.causal_reading.specs.Verdicts.{path}
 use Rattle.causal_reading.specs.Readings as causal
 use Rattle.correctness.specs.Demand3.{Complete}
 use Rattle.correctness.proofs.Demand3.{one-value-each}
-use Rattle.cut_and_join.specs.Halves.{withHorizon, firstSteps, laterSteps, joined}
+use Rattle.cut_and_join.specs.Halves.{firstSteps, laterSteps, joined}
 use Rattle.cut_and_join.proofs.Lists.{first-size, first-each, later-size, later-each, joined-size, joined-each}
 
 -- The record with another horizon
@@ -86,17 +87,16 @@ module _ (d : Description) (ls : List Law) (lent : ℕ) where
 module _ (d : Description) (ls : List Law) (lent : ℕ) (vs : List ℕ) where
   -- a fault of an atom is no pass
   no-fault : (ws : List ℕ) → history.finding vs ws ≡ answered (history.judged passes) → first noneOrBoth 0 vs ≡ none
-  no-fault ws e = go (first noneOrBoth 0 vs) e
+  no-fault ws e = neither-iff vs .0 (go (valueFault vs) e)
     where
-      fault : (a : ℕ) (b : Bool) → answered (cond b (history.missing a) (history.judged (clash a))) ≡ answered (history.judged passes) → ⊥
-      fault a true e = let z : _≡_ {A = ℕ} 0 1 = cc in omega arith
-      fault a false e = let z : _≡_ {A = ℕ} 0 1 = cc in omega arith
-
-      go : (o : Option ℕ)
-          → orElse o (λ a. answered (history.faultAt vs a)) (history.ofEngine (engine.answer vs ws)) ≡ answered (history.judged passes)
-          → o ≡ none
-      go none e = refl
-      go (some a) e = absurd (fault a (eqb (getD vs a 0) 0) e)
+      go : (fault : ValueFault)
+          → orFault fault (λ a. answered (history.missing a)) (λ a. answered (history.judged (clash a)))
+          (history.ofEngine (engine.answer vs ws))
+          ≡ answered (history.judged passes)
+          → fault ≡ faults.neither
+      go (faults.missing a) e = let z : _≡_ {A = ℕ} 0 1 = cc in absurd (omega arith)
+      go (faults.clash a) e = let z : _≡_ {A = ℕ} 0 1 = cc in absurd (omega arith)
+      go faults.neither e = refl
 
   pub history-complete : (room : ℕ) → history.checked d ls lent vs room ≡ answered (history.judged passes)
       → Complete d ls lent vs × (length (tableFor d ls) ≤ room)
@@ -104,7 +104,7 @@ module _ (d : Description) (ls : List Law) (lent : ℕ) (vs : List ℕ) where
   history-complete room = go (outcome d ls lent room) refl
     where
       go : (o : Reply Written) → outcome d ls lent room ≡ o
-          → history.afterTranslation o vs (history.finding vs (tableFor d ls)) ≡ answered (history.judged passes)
+          → afterTranslation o vs (history.finding vs (tableFor d ls)) ≡ answered (history.judged passes)
           → Complete d ls lent vs × (length (tableFor d ls) ≤ room)
       go (refused number place) is e = let z : _≡_ {A = ℕ} 0 1 = cc in absurd (omega arith)
       go (answered (written a r w)) is e =

@@ -11,13 +11,13 @@ use Rattle.action_language.specs.declared.Kind.{Kind}
 use Rattle.action_language.specs.declared.Kind.the-variants.{Static, Dynamic}
 use Rattle.action_language.specs.declared.Law.{Law}
 use Rattle.action_language.specs.declared.Description.{Description}
-use Rattle.action_language.specs.Laws.{lawsOf, ifList, afterList}
+use Rattle.action_language.specs.Laws.{lawsOf, ifList, afterList, withHorizon}
 use Rattle.action_language.proofs.Laws.{AllFit, accepted-law}
 use Rattle.translation.specs.Translated.{tableFor}
 use Rattle.translation.proofs.Counts.{sumLaws, lawWordsOf, word-count}
 use Rattle.correctness.specs.Demand3.{Complete, PathOf}
 use Rattle.correctness.proofs.Demand3.{demand-3}
-use Rattle.cut_and_join.specs.Halves.{withHorizon, firstSteps, laterSteps, lastState, firstState, joined}
+use Rattle.cut_and_join.specs.Halves.{firstSteps, laterSteps, lastState, firstState, joined}
 use Rattle.cut_and_join.specs.Passing.{Criterion, byPath, byAnswerSet, byEngine, byFormulas, byHistory, byCauses, Passed}
 use Rattle.cut_and_join.specs.CutAndJoin.{ForReading, CuttingAndJoining}
 use Rattle.cut_and_join.proofs.Within.{path-part, path-whole}

@@ -10,13 +10,14 @@ use Rattle.basics.specs.Replies.{answered}
 use Rattle.answer_set_theory.specs.Verdicts.{passes}
 use Rattle.action_language.specs.declared.Law.{Law}
 use Rattle.action_language.specs.declared.Description.{Description}
+use Rattle.action_language.specs.Laws.{withHorizon}
 use Rattle.action_language.specs.Atoms.{atomCount}
 use Rattle.translation.specs.Translated.{tableFor}
 use Rattle.history_check.specs.Checks as history
 use Rattle.causal_reading.specs.Verdicts.{path}
 use Rattle.causal_reading.specs.Readings as causal
 use Rattle.correctness.specs.Demand3.{Complete}
-use Rattle.cut_and_join.specs.Halves.{withHorizon, firstSteps, laterSteps, lastState, firstState, joined}
+use Rattle.cut_and_join.specs.Halves.{firstSteps, laterSteps, lastState, firstState, joined}
 use Rattle.cut_and_join.specs.Passing.{Criterion, byPath, byAnswerSet, byEngine, byFormulas, byHistory, byCauses, Passed}
 
 -- what is said of each reading, of a description and laws of which some number is lent

@@ -4,11 +4,6 @@
 use mathlib.Core.List.{List, _++_}
 use Prim.Native.Nat.{ℕ, _+_, _-_, _*_}
 use lib.ListN.{length, take, drop}
-use Rattle.action_language.specs.declared.Description.{Description}
-
--- the same description for another number of steps
-abbrev pub withHorizon : Description → ℕ → Description
-withHorizon d T = record { fluents = d .fluents; actions = d .actions; laws = d .laws; horizon = T }
 
 -- the first k steps: up to the state at time k
 abbrev pub firstSteps : ℕ → ℕ → ℕ → List ℕ → List ℕ

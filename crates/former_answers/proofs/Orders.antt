@@ -2,7 +2,7 @@
 -- Assumes nothing.
 use mathlib.Core.Path.{_≡_, refl, sym, ap, _∙_}
 use mathlib.Core.Logic.{_↔_, _⊎_, inl, inr, ⊎-elim}
-use mathlib.Core.Bool.{true, false, cond}
+use mathlib.Core.Bool.{true, false}
 use mathlib.Core.List.{List}
 use mathlib.Core.Option.{Option, none, some}
 use Prim.Native.Nat.{ℕ, _<_}
@@ -14,6 +14,7 @@ use Rattle.basics.specs.Search.{first, Lowest, Nowhere}
 use Rattle.basics.specs.Replies.{Reply, refused, answered, orElse, orRefuse}
 use Rattle.basics.proofs.Tests.{true-or-false, first-lowest, first-nowhere}
 use Rattle.logic_programs.specs.Literals.{noneOrBoth}
+use Rattle.logic_programs.specs.ValueFaults.{valueFault, orFault}
 use Rattle.logic_programs.proofs.Values.{lowest-none-or-both, nowhere-none-or-both}
 use Rattle.logic_programs.specs.Literals.{NoValue, BothValues}
 use Rattle.former_answers.specs.Changes.{BothBelowNone, Answers, Changed}
@@ -37,7 +38,7 @@ module _ {A : Type 0} (missing both : ℕ → A) (apart : (a b : ℕ) → missin
   former = orElse (first (eqb 0) 0 vs) missing rest
 
   abbrev present : A
-  present = orElse (first noneOrBoth 0 vs) (λ a. cond (eqb (getD vs a 0) 0) (missing a) (both a)) next
+  present = orFault (valueFault vs) missing both next
 
   former-missing : (a : ℕ) → Lowest (NoValue vs) (length vs) a → former ≡ missing a
   former-missing a low = rw (lowest-value vs 0 a .1 low) refl

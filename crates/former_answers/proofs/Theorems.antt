@@ -78,7 +78,8 @@ module _ (d : Description) (ls : List Law) (lent : ℕ) (vs : List ℕ) (room : 
   checked-changed = go (translated.outcome d ls lent room) refl
     where
       go : (o : Reply Written) → translated.outcome d ls lent room ≡ o
-          → HistoryBecame (history.afterTranslation o vs (formerFinding vs ws)) (history.afterTranslation o vs (history.finding vs ws))
+          → HistoryBecame (translated.afterTranslation o vs (formerFinding vs ws))
+          (translated.afterTranslation o vs (history.finding vs ws))
       go (refused number place) e = refused-changed history.missing (λ b. history.judged (clash b)) vs refl refl
       go (answered (written a r w)) e =
           tested-changed history.missing (λ b. history.judged (clash b)) vs (wrongLength a (length vs)) 10

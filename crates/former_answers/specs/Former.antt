@@ -24,7 +24,7 @@ formerFinding vs ws = orElse (first (eqb 0) 0 vs) (λ atom. answered (history.mi
 
 abbrev pub formerChecked : Description → List Law → ℕ → List ℕ → ℕ → Reply history.Finding
 formerChecked d ls lent vs room =
-    history.afterTranslation (translated.outcome d ls lent room) vs (formerFinding vs (translated.tableFor d ls))
+    translated.afterTranslation (translated.outcome d ls lent room) vs (formerFinding vs (translated.tableFor d ls))
 
 abbrev pub formerFormulas : List ℕ → List ℕ → formulas.FormulaFinding
 formerFormulas vs ws =

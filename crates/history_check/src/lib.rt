@@ -2,7 +2,8 @@
 use action_language::Description;
 use action_language::Law;
 use answer_sets::Answer;
-use basics::Found;
+use basics::Tested;
+use rule_tables::values::Fault;
 use translation::Translated;
 ghost use mathlib.Core.Path.{_≡_};
 ghost use lib.ListN.{length};
@@ -32,17 +33,16 @@ fn from_engine(answer: Answer) -> Checked
     }
 }
 
-// Missing or clash at the lowest atom that has no value or both, or what the engine says of these words.
-fn judge(values: &[u8], words: &[u16]) -> Checked
+// Missing or clash at the lowest atom without one value, or what the engine says of these words.
+pub fn verdict(values: &[u8], words: &[u16]) -> Checked
     ensures { λ r. ⌜ replyOf r ≡ finding (now (values .entry)) (now (words .entry)) ⌝ }
 {
-    if let Found::At(atom) = rule_tables::values::first_none_or_both(values) {
-        if values[atom] == 0 {
-            return Checked::Missing(atom);
-        }
-        return Checked::Clash(atom);
+    let fault = rule_tables::values::first_fault(values);
+    match fault {
+        Fault::Missing(atom) => Checked::Missing(atom),
+        Fault::Clash(atom) => Checked::Clash(atom),
+        Fault::Neither => from_engine(answer_sets::check_set(values, words)),
     }
-    from_engine(answer_sets::check_set(values, words))
 }
 
 // Checks values, one byte an atom, against the description's translation, which is left in the table unless the answer is a
@@ -57,18 +57,10 @@ pub fn check_history(
     ensures answers { λ r. ⌜ replyOf r ≡ checked d laws lent (now (values .entry)) (length (now (table .entry))) ⌝ }
     ensures leaves { λ _. ⌜ now (table .exit) ≡ tableAfter d laws lent (now (values .entry)) (now (table .entry)) ⌝ }
 {
-    let measured = translation::measure(d, laws, lent, table.len());
-    match measured {
+    let later = Tested::Accepted;
+    let written = translation::translate_for_history(d, laws, lent, values, later, table);
+    match written {
         Translated::Refused(number, place) => Checked::Refused(number, place),
-        Translated::Written(atoms, _, words) => {
-            if values.len() != atoms {
-                return Checked::Refused(10, values.len());
-            }
-            if let Found::At(place) = rule_tables::values::bad_value(values) {
-                return Checked::Refused(11, place);
-            }
-            translation::translate(d, laws, lent, table);
-            judge(values, &table[..words])
-        }
+        Translated::Written(_atoms, _rules, words) => verdict(values, &table[..words]),
     }
 }

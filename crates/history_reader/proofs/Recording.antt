@@ -5,7 +5,6 @@ use mathlib.Core.Bool.{Bool, true, false, cond}
 use mathlib.Core.List.{List, [], _∷_, _++_, append-assoc, append-nil}
 use mathlib.Core.Option.{Option, none, some}
 use Prim.Native.Nat.{ℕ, zero, suc, _+_, _-_, _*_, _≤_, _<_}
-use native.Mathlib.Nat.{mul-le-mul-left}
 use native.Mathlib.Numerals.{add-one}
 use native.Mathlib.Omega.{arith}
 use borrow.Author.Tests.{eq-eqb, ne-eqb, lt-ltb, le-ltb}
@@ -32,7 +31,6 @@ use Rattle.text.specs.Internal.{lineOf, spelled, itemAt, nextAt, itemsAt}
 use Rattle.description_reader.specs.Internal.{draftOf}
 use Rattle.history_reader.specs.Internal.{recordFrom, keyAt, lowAt, highAt, baseAt, filledAt, wantedAt, placeFrom}
 use Rattle.history_reader.specs.Internal.{leftOf, endingOf, valuesRead, atomsOf}
-use Rattle.description_reader.specs.Internal.{Limits}
 use Rattle.text.proofs.Spelling.{spelled-length}
 use Rattle.text.proofs.Items.{next-later}
 use Rattle.history_reader.proofs.Marking.{marked-more, item-marked, item-refused, list-done, list-all}
@@ -190,11 +188,6 @@ pub left-done : (text : List ℕ) (n : ℕ) (r : Lines) (d : Draft) → r .refus
     → leftOf text n r ≡ recordFrom 0 d (r .line) (take n (r .values)) (drop (r .at) text)
 unfolding leftOf
 left-done text n r d e = rw e
-
-pub atoms-bound : (r : HeldDraft) → Limits r → r .horizon * r .names .count ≤ 960
-atoms-bound r h =
-    let few : r .names .count ≤ 32 = omega (arith, h .few, h .actions) in
-    omega (arith, mul-le-mul-left (r .horizon) few, h .time)
 
 -- values copied one by one
 pub copy-one : (old new : List ℕ) (i : ℕ) → i < length old → i < length new

@@ -3,7 +3,6 @@
 use mathlib.Core.Path.{_≡_, refl, sym, ap, _∙_}
 use mathlib.Core.List.{List, _++_}
 use Prim.Native.Nat.{ℕ, _+_, _-_, _*_, _≤_}
-use native.Mathlib.Nat.{mul-le-mul}
 use native.Mathlib.Omega.{arith}
 use borrow.Author.Tests.{eq-eqb}
 use lib.Dec.{ltb}
@@ -18,9 +17,6 @@ use Rattle.reader_bounds.proofs.Drafts.{Limited, chosen, BoundedReply, bounded}
 use Rattle.inputs.specs.Inputs.{movedBy, recordedIn}
 use Rattle.inputs.specs.Internal.{CanMove}
 use Rattle.inputs.proofs.Places.{PlaceUpTo, place-within, states-place}
-
-pub few-atoms : (T n m : ℕ) → n ≤ 24 → m ≤ 8 → T ≤ 30 → T * (n + m) ≤ 960
-few-atoms T n m p q r = mul-le-mul {n₁ = T} {m₁ = n + m} {n₂ = 30} {m₂ = 32} r (omega arith)
 
 abbrev zeros : ℕ → List ℕ
 zeros n = replicate n 0

@@ -21,14 +21,6 @@ fn no_values() -> [u8; 1024]
     [0; 1024]
 }
 
-// How many atoms there are.
-fn atom_count(d: Description) -> usize
-    requires { ⌜ (d .fluents ≤ 24) × (d .actions ≤ 8) × (d .horizon ≤ 30) ⌝ }
-    ensures { λ r. ⌜ (r ≡ atomCount (d .fluents) (d .actions) (d .horizon)) × (r ≤ 1024) ⌝ }
-{
-    d.horizon * (d.fluents + d.actions) + d.fluents
-}
-
 // A history's answer in the whole input: the line of a refusal is moved up by the description's lines.
 fn moved_up(lines: usize, said: HistoryAnswer) -> HistoryAnswer
     requires { ⌜ CanMove lines (historyReplyOf said) ⌝ }
@@ -84,7 +76,11 @@ pub fn read_input(input: &[u8]) -> Input
             atoms: 0,
         },
         Answer::Read(bytes, lines) => {
-            let atoms = atom_count(description);
+            let atoms = action_language::atom_count(
+                description.fluents,
+                description.actions,
+                description.horizon,
+            );
             let said = history_reader::read_history(input, &input[bytes..], &mut values[..atoms]);
             let answer = moved_up(lines, said);
             Input {

@@ -26,10 +26,10 @@ use Rattle.action_language.specs.declared.Description.{Description}
 use Rattle.action_language.specs.Laws.{lawsOf}
 use Rattle.action_language.specs.Acceptance.{badRecord, badHorizon}
 use Rattle.action_language.proofs.Laws.{accepted-counts, accepted-few, accepted-horizon, accepted-law}
-use Rattle.translation.specs.Translated.{Written, written, rulesFor, tableFor, tooShort, outcome}
+use Rattle.translation.specs.Translated.{Written, written, rulesFor, tableFor, tooShort, outcome, afterTranslation}
 use Rattle.translation.proofs.Outcomes.{accepted-written}
 use Rattle.translation_bounds.proofs.Bounds.{at-most-30912}
-use Rattle.history_check.specs.Checks.{finding, afterTranslation, checked}
+use Rattle.history_check.specs.Checks.{finding, checked}
 use Rattle.history_check.proofs.Judging.{finding-answered}
 use Rattle.causal_reading.specs.Verdicts.{causalVerdict}
 use Rattle.causal_reading.specs.Readings.{notOneValue, reading}

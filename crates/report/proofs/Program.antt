@@ -2,7 +2,7 @@
 -- Assumes nothing.
 use mathlib.Core.Path.{_≡_, refl, sym, ap, _∙_}
 use mathlib.Core.Logic.{_↔_, _⊎_, inl, inr, ⊎-elim}
-use mathlib.Core.Bool.{Bool, true, false, cond}
+use mathlib.Core.Bool.{true}
 use mathlib.Core.List.{List, [], _∷_}
 use mathlib.Core.Option.{Option, none, some}
 use Prim.Native.Nat.{ℕ, _≤_, _<_}
@@ -10,19 +10,21 @@ use native.Mathlib.Omega.{arith}
 use borrow.Author.Tests.{eq-eqb, eqb-true, le-ltb}
 use lib.Dec.{eqb, ltb}
 use lib.ListN.{length, getD}
-use Rattle.basics.specs.Search.{Each, first, Lowest}
-use Rattle.basics.specs.Replies.{Reply, refused, answered, orElse}
+use Rattle.basics.specs.Search.{Each, Lowest}
+use Rattle.basics.specs.Replies.{Reply, refused, answered}
 use Rattle.basics.proofs.Tests.{not-both, or-iff, each-map}
 use Rattle.basics.proofs.Lists.{none-iff}
-use Rattle.logic_programs.specs.Literals.{OneValue, setOf, noneOrBoth, badValue}
-use Rattle.logic_programs.proofs.Values.{lowest-none-or-both, nowhere-none-or-both}
+use Rattle.logic_programs.specs.Literals.{OneValue, setOf, badValue}
+use Rattle.logic_programs.specs.ValueFaults as faults
+use Rattle.logic_programs.specs.ValueFaults.{ValueFault, valueFault, orFault}
+use Rattle.logic_programs.proofs.Values.{nowhere-none-or-both, missing-iff, clash-iff, neither-iff}
 use Rattle.answer_set_theory.specs.Verdicts.{Verdict, clash, broken, unfounded, passes, verdict}
 use Rattle.logic_programs.specs.Words.{rulesOf}
 use Rattle.action_language.specs.declared.Law.{Law}
 use Rattle.action_language.specs.declared.Description.{Description}
 use Rattle.translation.specs.Translated.{written, rulesFor, tableFor, outcome}
-use Rattle.history_check.specs.Checks.{Finding, missing, judged, faultAt, checked}
-use Rattle.history_check.proofs.Judging.{finding-answered}
+use Rattle.history_check.specs.Checks.{Finding, missing, judged, checked}
+use Rattle.history_check.proofs.Judging.{foundOf, finding-answered}
 use Rattle.causal_reading.specs.Verdicts.{Causal, path}
 use Rattle.causal_reading.specs.Readings.{reading}
 use Rattle.correctness.specs.Demand3.{Complete, PathOf}
@@ -79,18 +81,6 @@ path-shown (judged (broken r)) reply e = of-shown reply e
 path-shown (judged (unfounded c)) reply e = of-shown reply e
 path-shown (judged passes) reply e = of-shown reply e
 
--- an atom that has no value or both is missing or a clash
-fault-said : (vs : List ℕ) (a : ℕ) → missingOrClash (faultAt vs a) ≡ true
-fault-said vs a = go (eqb (getD vs a 0) 0)
-  where
-    go : (b : Bool) → missingOrClash (cond b (missing a) (judged (clash a))) ≡ true
-    go true = refl
-    go false = refl
-
--- what is found where the engine judges
-abbrev foundOf : List ℕ → Verdict → Finding
-foundOf vs v = orElse (first noneOrBoth 0 vs) (faultAt vs) (judged v)
-
 -- an input that the readers take
 module _ (input : List ℕ) (d : Draft) (rest : List ℕ) (lines : ℕ) (vs : List ℕ)
     (is : described 64 input ≡ answered (read d rest lines)) (e : recordedIn input ≡ answered vs) where
@@ -143,15 +133,17 @@ module _ (input : List ℕ) (d : Draft) (rest : List ℕ) (lines : ℕ) (vs : Li
       )
 
   lacking : (a : ℕ) → a < length vs → (getD vs a 0 ≡ 0) ⊎ (getD vs a 0 ≡ 3) → missingOrClash found ≡ true
-  lacking a below h = go (first noneOrBoth 0 vs) refl
+  lacking a below h = go (valueFault vs) refl
     where
-      go : (o : Option ℕ) → first noneOrBoth 0 vs ≡ o → missingOrClash (orElse o (faultAt vs) (judged said)) ≡ true
-      go (some k) q = fault-said vs k
-      go none q = absurd (nowhere-none-or-both vs .0 q a below h)
+      go : (fault : ValueFault) → valueFault vs ≡ fault
+          → missingOrClash (orFault fault missing (λ k. judged (clash k)) (judged said)) ≡ true
+      go (faults.missing k) q = refl
+      go (faults.clash k) q = refl
+      go faults.neither q = absurd (nowhere-none-or-both vs .0 (neither-iff vs .0 q) a below h)
 
   decides : (a : ℕ) → Lowest (λ i. (getD vs i 0 ≡ 0) ⊎ (getD vs i 0 ≡ 3)) (length vs) a
       → (getD vs a 0 ≡ 0 → found ≡ missing a) × (getD vs a 0 ≡ 3 → found ≡ judged (clash a))
-  decides a low = (λ zero. rw (lowest-none-or-both vs a .1 low, zero) refl, λ both. rw (lowest-none-or-both vs a .1 low, both) refl)
+  decides a low = (λ zero. rw (missing-iff vs a .1 (low, zero)) refl, λ both. rw (clash-iff vs a .1 (low, both)) refl)
 
   is-printed : output input ≡ afterOutcome input D ls vs (outcome D ls 64 room)
   unfolding output

@@ -4,3 +4,4 @@ pub mod Sums
 pub mod Writing
 pub mod Turns
 pub mod Outcomes
+pub mod Histories

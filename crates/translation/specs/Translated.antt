@@ -6,13 +6,14 @@ use mathlib.Core.Option.{Option, none, some}
 use Prim.Native.Nat.{ℕ}
 use lib.Dec.{ltb}
 use lib.ListN.{length, drop}
-use Rattle.basics.specs.Replies.{Reply, refused, answered, orRefuse, leftAfter}
+use Rattle.basics.specs.Replies.{Reply, refused, answered, orRefuse, unlessRefused, leftAfter}
+use Rattle.logic_programs.specs.Literals.{badValue}
 use Rattle.logic_programs.specs.Rules.{Rule}
 use Rattle.logic_programs.specs.Words.{words}
 use Rattle.action_language.specs.declared.Law.{Law}
 use Rattle.action_language.specs.declared.Description.{Description}
 use Rattle.action_language.specs.Laws.{lawsOf}
-use Rattle.action_language.specs.Atoms.{atomCount}
+use Rattle.action_language.specs.Atoms.{atomCount, wrongLength}
 use Rattle.action_language.specs.Acceptance.{badRecord, badHorizon}
 use Rattle.translation.specs.Rules.{translation}
 use Rattle.translation.specs.declared.Translated.{Translated}
@@ -53,3 +54,21 @@ overwritten ws table = ws ++ drop (length ws) table
 -- what the table holds afterwards
 unfoldable pub tableAfter : Description → List Law → ℕ → List ℕ → List ℕ
 tableAfter d ls lent table = leftAfter (outcome d ls lent (length table)) (λ counts. overwritten (tableFor d ls) table) table
+
+-- for a history: 10 and 11 on its values behind the translation's own refusals, then what comes next
+abbrev pub afterTranslation : {A : Type 0} → Reply Written → List ℕ → Reply A → Reply A
+afterTranslation (refused number place) vs next = refused number place
+afterTranslation (answered (written atoms rules words)) vs next =
+    orRefuse (wrongLength atoms (length vs)) 10
+    (orRefuse (badValue vs) 11
+    next)
+
+-- the answer for a history's values where a caller's own tests come behind 11; with none of its own, they are answered
+unfoldable pub outcomeFor : Description → List Law → ℕ → List ℕ → Reply Unit → ℕ → Reply Written
+outcomeFor d ls lent vs later room =
+    afterTranslation (outcome d ls lent room) vs (unlessRefused later (outcome d ls lent room))
+
+-- what the table holds afterwards: nothing is written before every test is passed
+unfoldable pub tableAfterFor : Description → List Law → ℕ → List ℕ → Reply Unit → List ℕ → List ℕ
+tableAfterFor d ls lent vs later table =
+    leftAfter (outcomeFor d ls lent vs later (length table)) (λ counts. overwritten (tableFor d ls) table) table

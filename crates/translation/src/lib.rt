@@ -2,9 +2,11 @@
 use action_language::Description;
 use action_language::Law;
 use basics::Found;
+use basics::Tested;
 ghost use mathlib.Core.Path.{_≡_};
 ghost use lib.ListN.{length};
-ghost use Rattle.translation.specs.Translated.{outcomeOf, outcome, tableAfter};
+ghost use Rattle.basics.specs.Replies.{testedOf};
+ghost use Rattle.translation.specs.Translated.{outcomeOf, outcome, tableAfter, outcomeFor, tableAfterFor};
 
 mod sizes;
 mod writers;
@@ -29,7 +31,7 @@ pub fn measure(d: Description, laws: [Law; 64], lent: usize, room: usize) -> Tra
     if room < needed.words {
         return Translated::Refused(9, needed.words);
     }
-    let atoms = d.horizon * (d.fluents + d.actions) + d.fluents;
+    let atoms = action_language::atom_count(d.fluents, d.actions, d.horizon);
     Translated::Written(atoms, needed.rules, needed.words)
 }
 
@@ -44,6 +46,40 @@ pub fn translate(d: Description, laws: [Law; 64], lent: usize, table: &mut [u16]
         Translated::Written(atoms, rules, _) => {
             let words = writers::write_table(table, d, laws);
             Translated::Written(atoms, rules, words)
+        }
+    }
+}
+
+// Writes the translation that a history of these values is checked against. Behind its own refusals come 10 and 11 on the
+// values, then what the caller's own tests said; nothing is written where one of them refuses.
+pub fn translate_for_history(
+    d: Description,
+    laws: [Law; 64],
+    lent: usize,
+    values: &[u8],
+    later: Tested,
+    table: &mut [u16],
+) -> Translated
+    ensures answers { λ r. ⌜ outcomeOf r
+        ≡ outcomeFor d laws lent (now (values .entry)) (testedOf later) (length (now (table .entry))) ⌝ }
+    ensures leaves { λ _. ⌜ now (table .exit)
+        ≡ tableAfterFor d laws lent (now (values .entry)) (testedOf later) (now (table .entry)) ⌝ }
+{
+    let measured = measure(d, laws, lent, table.len());
+    match measured {
+        Translated::Refused(_number, _place) => measured,
+        Translated::Written(atoms, _rules, _words) => {
+            if values.len() != atoms {
+                return Translated::Refused(10, values.len());
+            }
+            if let Found::At(place) = rule_tables::values::bad_value(values) {
+                return Translated::Refused(11, place);
+            }
+            if let Tested::Refused(number, place) = later {
+                return Translated::Refused(number, place);
+            }
+            writers::write_table(table, d, laws);
+            measured
         }
     }
 }

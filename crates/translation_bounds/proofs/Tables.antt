@@ -4,8 +4,7 @@ use mathlib.Core.Path.{_≡_, ap}
 use mathlib.Core.Bool.{Bool, cond}
 use mathlib.Core.List.{List}
 use mathlib.Core.Option.{none, some}
-use Prim.Native.Nat.{ℕ, _+_, _≤_}
-use native.Mathlib.Nat.{mul-le-mul}
+use Prim.Native.Nat.{ℕ, _≤_}
 use native.Mathlib.Omega.{arith}
 use borrow.Author.Tests.{le-ltb}
 use lib.ListN.{length}
@@ -22,6 +21,7 @@ use Rattle.action_language.specs.declared.Description.{Description}
 use Rattle.action_language.specs.Laws.{lawsOf}
 use Rattle.action_language.specs.Atoms.{atomCount}
 use Rattle.action_language.proofs.Laws.{accepted-law, accepted-few}
+use Rattle.action_language.proofs.Atoms as counts
 use Rattle.translation.specs.Translated.{written, rulesFor, tableFor, outcome}
 use Rattle.translation.proofs.Outcomes.{Accepted, written-accepted, written-limits}
 use Rattle.translation_bounds.proofs.Bounds.{at-most-4096, codes-below}
@@ -33,11 +33,7 @@ module _ (d : Description) (ls : List Law) (lent room : ℕ) {a r w : ℕ} (e : 
   pub few-atoms : a ≤ 1024
   few-atoms =
       let l = written-limits d ls lent room e in
-      omega (
-        arith,
-        accepted .atoms,
-        mul-le-mul {n₁ = d .horizon} {m₁ = d .fluents + d .actions} {n₂ = 30} {m₂ = 32} (l .3) (omega (arith, l .0, l .1)),
-      )
+      omega (arith, accepted .atoms, counts.few-atoms (d .fluents) (d .actions) (d .horizon) (l .0) (l .1) (l .3))
 
   -- every code of the table is below twice the atoms, and there are at most 4,096 rules
   pub table-accepted : badRule a (tableFor d ls) ≡ none

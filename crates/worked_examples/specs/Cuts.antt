@@ -8,11 +8,11 @@ use Rattle.answer_set_theory.specs.Verdicts.{unfounded, passes}
 use Rattle.completion_theory.specs.Findings as formulas
 use Rattle.action_language.specs.declared.Law.{Law}
 use Rattle.action_language.specs.declared.Description.{Description}
+use Rattle.action_language.specs.Laws.{withHorizon}
 use Rattle.action_language.specs.Examples.{recipe, recipeLaws, door, doorLaws, water, waterLaws}
 use Rattle.translation.specs.Translated.{tableFor}
 use Rattle.history_check.specs.Checks.{judged}
 use Rattle.causal_reading.specs.Verdicts.{uncaused, path}
-use Rattle.cut_and_join.specs.Halves.{withHorizon}
 use Rattle.worked_examples.specs.Examples.{Example, engineSays, formulasSay, historySays, causalSays, cutAs, joinedAs, statesAre}
 
 -- each reading passes the values: the history check, the causal reading, and on the words of the table the engine and the formulas

@@ -15,12 +15,11 @@ use Rattle.action_language.specs.declared.Head.the-variants.{Lit}
 use Rattle.action_language.specs.declared.Kind.the-variants.{Dynamic}
 use Rattle.action_language.specs.declared.Law.{Law}
 use Rattle.action_language.specs.declared.Description.{Description}
-use Rattle.action_language.specs.Laws.{lawOf}
+use Rattle.action_language.specs.Laws.{lawOf, withHorizon}
 use Rattle.action_language.specs.Examples.{recipe, recipeLaws, door, doorLaws, water, waterLaws, largest, largestLaws}
 use Rattle.translation.specs.Translated.{written}
 use Rattle.history_check.specs.Checks.{Finding, missing, judged}
 use Rattle.causal_reading.specs.Verdicts.{Causal, contradicted, uncaused, path}
-use Rattle.cut_and_join.specs.Halves.{withHorizon}
 use Rattle.description_reader.specs.Descriptions.{read}
 use Rattle.written_form.specs.Writing.{inFull, asDeclared}
 use Rattle.written_form.specs.HistoryWriting.{everyAction}

@@ -2,14 +2,13 @@
 -- Assumes nothing.
 use mathlib.Core.Path.{_≡_, sym, _∙_, ap}
 use mathlib.Core.Option.{none, some}
-use Prim.Native.Nat.{_+_, _*_, _≤_}
-use native.Mathlib.Nat.{mul-le-mul}
-use native.Mathlib.Omega.{arith}
 use borrow.Author.Tests.{eq-eqb, ne-eqb}
 use Rattle.basics.specs.Search.{placeOf}
 use Rattle.basics.proofs.Loops.{refused-at, not-refused}
 use Rattle.action_language.specs.Acceptance.{badRecord, badHorizon}
-use Rattle.action_language.proofs.Laws.{accepted-counts, accepted-horizon}
+use Rattle.action_language.specs.Atoms.{atomCount}
+use Rattle.action_language.proofs.Laws.{accepted-horizon}
+use Rattle.action_language.proofs.Atoms.{accepted-atoms}
 use Rattle.causal_reading.specs.Readings.{reading}
 use borrow.Author.Needs.{needs}
 use Rattle.causal_reading.proofs.causal_reading.Statement.{statement}
@@ -23,15 +22,11 @@ record-fits c = not-refused 8 (c .before .before .bad-record .ensures) (c .enum-
 horizon-fits : (c : tie.After-enum-told2) → badHorizon (c .before .before .before .before .before .before .before .args .d .horizon) ≡ none
 horizon-fits c = not-refused 3 (c .before .before .bad-horizon .ensures) (c .enum-told2 .given .1)
 
--- what acceptance gives
-limits : (c : tie.After-enum-told2) → let d = c .before .before .before .before .before .before .before .args .d in
-    (d .fluents ≤ 24) × (d .actions ≤ 8) × (d .horizon ≤ 30) × (d .horizon * (d .fluents + d .actions) ≤ 960)
-limits c =
-    let a = c .before .before .before .before .before .before .before .args in
-    let r = accepted-counts (a .d) (a .laws) (a .lent) (record-fits (c .before .before .before)) in
-    let h = accepted-horizon (a .d .horizon) (horizon-fits c) in
-    let sum : a .d .fluents + a .d .actions ≤ 32 = omega arith in
-    (r .1, r .2, h .1, mul-le-mul (h .1) sum)
+-- the atoms are counted within the limits
+counted : (c : tie.After-atom-count) → let d = c .before .before .before .before .before .before .before .before .args .d in
+    c .atom-count .result ≡ atomCount (d .fluents) (d .actions) (d .horizon)
+counted c =
+    c .atom-count .ensures ∙ accepted-atoms _ _ _ (record-fits (c .before .before .before .before)) (horizon-fits (c .before))
 
 bad-record-requires : tie.Need-bad-record-requires
 bad-record-requires c κs = search needs
@@ -63,22 +58,16 @@ returns-2 c =
 enum-told-2 : tie.Need-enum-told-2
 enum-told-2 c = search needs
 
-add-atoms : tie.Need-add-atoms
-add-atoms c = let l = limits (c .before) in omega arith
-
-mul-atoms : tie.Need-mul-atoms
-mul-atoms c = let l = limits (c .before .before) in omega arith
-
-add-atoms-2 : tie.Need-add-atoms-2
-add-atoms-2 c = let l = limits (c .before .before .before) in omega arith
+atom-count-requires : tie.Need-atom-count-requires
+atom-count-requires c κs = search needs
 
 returns-3 : tie.Need-returns-3
 unfolding reading
 returns-3 c =
     rw (
-      record-fits (c .before .before .before .before .before .before .before),
-      horizon-fits (c .before .before .before .before),
-      ne-eqb _ _ (c .if1 .taken),
+      record-fits (c .before .before .before .before .before),
+      horizon-fits (c .before .before),
+      ne-eqb _ _ (λ e. c .if1 .taken (e ∙ sym (counted (c .before)))),
     )
 
 bad-value-requires : tie.Need-bad-value-requires
@@ -91,9 +80,9 @@ returns-4 : tie.Need-returns-4
 unfolding reading
 returns-4 c =
     rw (
-      record-fits (c .before .before .before .before .before .before .before .before .before .before .before),
-      horizon-fits (c .before .before .before .before .before .before .before .before),
-      eq-eqb _ _ (c .before .before .before .before .if1 .left),
+      record-fits (c .before .before .before .before .before .before .before .before .before),
+      horizon-fits (c .before .before .before .before .before .before),
+      eq-eqb _ _ (c .before .before .before .before .if1 .left ∙ counted (c .before .before .before .before .before)),
       sym (c .before .before .before .bad-value .ensures) ∙ ap placeOf (c .before .value-at .given .1),
     )
 
@@ -102,15 +91,16 @@ enum-told-3 c = search needs
 
 verdict-requires : tie.Need-verdict-requires
 verdict-requires c κs =
-    let l = limits (c .before .before .before .before .before .before .before) in (omega arith, c .before .before .before .if1 .left)
+    let count = c .before .before .before .before in
+    (accepted-horizon _ (horizon-fits (count .before)) .1, c .before .before .before .if1 .left ∙ counted count)
 
 returns-5 : tie.Need-returns-5
 unfolding reading
 returns-5 c =
     rw (
-      record-fits (c .before .before .before .before .before .before .before .before .before .before .before),
-      horizon-fits (c .before .before .before .before .before .before .before .before),
-      eq-eqb _ _ (c .before .before .before .before .if1 .left),
+      record-fits (c .before .before .before .before .before .before .before .before .before),
+      horizon-fits (c .before .before .before .before .before .before),
+      eq-eqb _ _ (c .before .before .before .before .if1 .left ∙ counted (c .before .before .before .before .before)),
       sym (c .before .before .before .bad-value .ensures) ∙ ap placeOf (c .before .enum-told3 .given .1),
     ) (c .verdict .ensures)
 
@@ -126,9 +116,7 @@ causal-reading-spec =
     enum-known-horizon-at
     returns-2
     enum-told-2
-    add-atoms
-    mul-atoms
-    add-atoms-2
+    atom-count-requires
     returns-3
     bad-value-requires
     enum-known-value-at

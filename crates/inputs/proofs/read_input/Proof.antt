@@ -8,6 +8,7 @@ use native.Mathlib.Omega.{arith}
 use lib.ListN.{length, take, drop, replicate, length-take, length-drop, length-append}
 use Rattle.action_language.specs.declared.Description.{Description}
 use Rattle.action_language.specs.Atoms.{atomCount}
+use Rattle.action_language.proofs.Atoms.{few-atoms, atoms-within}
 use Rattle.description_reader.specs.Descriptions.{described}
 use Rattle.description_reader.specs.Answers.{replyOf, recordOf, lawsLeft}
 use Rattle.history_reader.specs.Histories.{historyReplyOf, historyReplied}
@@ -41,13 +42,21 @@ enum-known-answer-2 : tie.Need-enum-known-answer-2
 enum-known-answer-2 c = search needs
 
 atom-count-requires : tie.Need-atom-count-requires
-atom-count-requires c κs =
-    let n = c .before in
+atom-count-requires c κs = search needs
+
+-- the description that was read is within the limits
+counted : (count : tie.After-atom-count)
+    → let d = count .before .before .before .before .before .before .before .before .read-run .result .read .description in
+    (count .atom-count .result ≡ atomCount (d .fluents) (d .actions) (d .horizon)) × (count .atom-count .result ≤ 1024)
+counted count =
+    let n = count .before .before in
     let rd = n .before .before .before .before .before .before in
-    let a = rd .before .before .before .args in
-    let input = a .input .now in
+    let input = rd .before .before .before .args .input .now in
     let k = known input (sym (rd .read-run .ensures .0) ∙ ap replyOf (n .answer2 .given .1)) in
-    rw (rd .read-run .ensures .1 .0, k .is) (limits input k)
+    let d = rd .read-run .result .read .description in
+    let l : (d .fluents ≤ 24) × (d .actions ≤ 8) × (d .horizon ≤ 30) = rw (rd .read-run .ensures .1 .0, k .is) (limits input k) in
+    let is = count .atom-count .ensures ∙ atoms-within (d .fluents) (d .actions) (d .horizon) (l .0) (l .1) (l .2) in
+    (is, omega (arith, is, few-atoms (d .fluents) (d .actions) (d .horizon) (l .0) (l .1) (l .2)))
 
 sub-read-history : tie.Need-sub-read-history
 sub-read-history c =
@@ -71,14 +80,14 @@ part-read-history-end : tie.Need-part-read-history-end
 part-read-history-end c = search needs
 
 array-borrow-prefix-values : tie.Need-array-borrow-prefix-values
-array-borrow-prefix-values c = search needs
+array-borrow-prefix-values c = omega (arith, counted (c .before) .1)
 
 slice-aggregate-read-history : tie.Need-slice-aggregate-read-history
 slice-aggregate-read-history c =
     let count = c .before .before in
     let v = count .before .before .before .before in
     let m = count .atom-count .result in
-    omega (arith, length-take m (v .no-values .result), count .atom-count .ensures .1, ap length (v .no-values .ensures))
+    omega (arith, length-take m (v .no-values .result), counted count .1, ap length (v .no-values .ensures))
 
 read-history-requires : tie.Need-read-history-requires
 read-history-requires c κs = search needs
@@ -94,7 +103,7 @@ moved-up-requires c κs =
     let k = known input (sym (rd .read-run .ensures .0) ∙ ap replyOf (n .answer2 .given .1)) in
     let dis = rd .read-run .ensures .1 .0 ∙ ap recordOf (k .is) in
     can-move input k (k .part)
-    (lent (n .before .before .no-values .ensures) (count .atom-count .ensures .1) (count .atom-count .ensures .0) dis)
+    (lent (n .before .before .no-values .ensures) (counted count .1) (counted count .0) dis)
     (historyReplyOf (rh .read-history .result)) (rh .read-history .ensures .0)
 
 returns : tie.Need-returns
@@ -134,8 +143,8 @@ returns-2 c =
     let v = n .before .before in
     let m = count .atom-count .result in
     let zs = v .no-values .result in
-    let few = count .atom-count .ensures .1 in
-    let enough = lent (v .no-values .ensures) few (count .atom-count .ensures .0) (rd .read-run .ensures .1 .0 ∙ ap recordOf (k .is)) in
+    let few = counted count .1 in
+    let enough = lent (v .no-values .ensures) few (counted count .0) (rd .read-run .ensures .1 .0 ∙ ap recordOf (k .is)) in
     let last = rh .read-history .last .1 .1 .0 in
     let whole : length last ≡ m = omega (arith, rh .read-history .kept .1 .1 .0, size (v .no-values .ensures) few) in
     let filled : length (last ++ drop m zs) ≡ 1024 =
@@ -147,7 +156,7 @@ returns-2 c =
         (
           rd .read-run .ensures .1 .1 .0 ∙ ap (lawsLeft (described 64 input)) (rd .before .no-laws .ensures),
           (
-            count .atom-count .ensures .0
+            counted count .0
                 ∙ ap (λ (x : Description). atomCount (x .fluents) (x .actions) (x .horizon)) (rd .read-run .ensures .1 .0),
             (vs .0, (vs .1, (few, filled))),
           ),

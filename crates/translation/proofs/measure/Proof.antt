@@ -1,16 +1,15 @@
 -- `measure` meets its contract, refusal by refusal.
 -- Assumes nothing.
 use mathlib.Core.Option.{none, some}
-use mathlib.Core.Path.{_≡_, refl}
-use Prim.Native.Nat.{_+_, _*_, _≤_}
-use native.Mathlib.Omega.{arith}
+use mathlib.Core.Path.{_≡_, refl, _∙_}
+use Prim.Native.Nat.{_≤_}
 use borrow.Author.Needs.{needs}
 use borrow.Author.Tests.{lt-ltb, le-ltb}
 use Rattle.action_language.proofs.Laws.{accepted-counts, accepted-horizon}
+use Rattle.action_language.proofs.Atoms.{accepted-atoms}
 use Rattle.basics.proofs.Loops.{refused-at, not-refused}
 use Rattle.action_language.specs.Acceptance.{badRecord, badHorizon}
 use Rattle.translation.specs.Translated.{outcome}
-use Rattle.translation.proofs.Writing.{product-bound}
 use Rattle.translation.proofs.measure.Statement.{statement}
 use Rattle.translation.proofs.measure.Tie as tie
 
@@ -27,13 +26,6 @@ limits : (c : tie.After-enum-told2)
 limits c =
     let counts = accepted-counts _ _ _ (record-taken (c .before .before .before)) in
     (counts .1, counts .2, counts .3, accepted-horizon _ (horizon-taken c) .1)
-
-atoms-bound : (c : tie.After-enum-told2)
-    → let d = c .before .before .before .before .before .before .args .d in d .horizon * (d .fluents + d .actions) ≤ 30 * 32
-atoms-bound c =
-    let d = c .before .before .before .before .before .before .args .d in
-    let l = limits c in
-    product-bound (d .horizon) (d .fluents + d .actions) 30 32 (l .3) (omega arith)
 
 bad-record-requires : tie.Need-bad-record-requires
 bad-record-requires c κs = search needs
@@ -76,25 +68,19 @@ returns-3 c =
     let e = w .sizes-needed .ensures .1 in
     rw (record-taken (k .before .before .before), horizon-taken k, lt-ltb _ _ (rw e at (c .if1 .taken)), e) refl
 
-add-atoms : tie.Need-add-atoms
-add-atoms c = omega (arith, limits (c .before .before .before .before))
-
-mul-atoms : tie.Need-mul-atoms
-mul-atoms c = omega (arith, atoms-bound (c .before .before .before .before .before))
-
-add-atoms-2 : tie.Need-add-atoms-2
-add-atoms-2 c =
-    let k = c .before .before .before .before .before .before in
-    omega (arith, atoms-bound k, limits k)
+atom-count-requires : tie.Need-atom-count-requires
+atom-count-requires c κs = search needs
 
 returns-4 : tie.Need-returns-4
 unfolding outcome
 returns-4 c =
-    let w = c .before .before .before .before .before in
+    let w = c .before .before .before in
     let k = w .before in
+    let taken = record-taken (k .before .before .before) in
     let e = w .sizes-needed .ensures in
-    let room = rw (e .1) at (c .before .before .before .if1 .left) in
-    rw (record-taken (k .before .before .before), horizon-taken k, le-ltb _ _ room, e .0, e .1)
+    let room = rw (e .1) at (c .before .if1 .left) in
+    let atoms = c .atom-count .ensures ∙ accepted-atoms _ _ _ taken (horizon-taken k) in
+    rw (taken, horizon-taken k, le-ltb _ _ room, e .0, e .1, atoms)
 
 pub measure-spec : {M : Type 1} → statement M
 measure-spec =
@@ -110,7 +96,5 @@ measure-spec =
     enum-told-2
     sizes-needed-requires
     returns-3
-    add-atoms
-    mul-atoms
-    add-atoms-2
+    atom-count-requires
     returns-4)

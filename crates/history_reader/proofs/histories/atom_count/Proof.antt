@@ -1,25 +1,27 @@
 -- `histories::atom_count` meets its contract.
 -- Assumes nothing.
+use mathlib.Core.Path.{_∙_}
+use Prim.Native.Nat.{_-_, _≤_}
 use native.Mathlib.Omega.{arith}
-use mathlib.Core.Path.{_≡_}
-use Prim.Native.Nat.{_+_, _-_}
-use Rattle.history_reader.proofs.Recording.{atoms-bound}
+use Rattle.action_language.proofs.Atoms.{few-atoms, atoms-within}
+use borrow.Author.Needs.{needs}
 use Rattle.history_reader.proofs.histories.atom_count.Statement.{statement}
 use Rattle.history_reader.proofs.histories.atom_count.Tie as tie
 
-mul-result : tie.Need-mul-result
-mul-result c = let a = c .before .before .before in omega (arith, atoms-bound (a .args .draft) (a .pre))
+sub-atom-count : tie.Need-sub-atom-count
+sub-atom-count c = c .before .before .before .pre .declared
 
-add-result : tie.Need-add-result
-add-result c =
-    let a = c .before .before .before .before in omega (arith, atoms-bound (a .args .draft) (a .pre), a .pre .few)
+atom-count-requires : tie.Need-atom-count-requires
+atom-count-requires c κs = search needs
 
 returns : tie.Need-returns
 returns c =
     let a = c .before .before .before .before in
     let r = a .args .draft in
-    let e : r .fluents + (r .names .count - r .fluents) ≡ r .names .count = omega (arith, a .pre .declared) in
-    (rw e, omega (arith, atoms-bound r (a .pre), a .pre .few))
+    let actions = r .names .count - r .fluents in
+    let few : actions ≤ 8 = omega (arith, a .pre .actions) in
+    let is = c .atom-count .ensures ∙ atoms-within (r .fluents) actions (r .horizon) (a .pre .few) few (a .pre .time) in
+    (is, omega (arith, is, few-atoms (r .fluents) actions (r .horizon) (a .pre .few) few (a .pre .time)))
 
 pub atom-count-spec : {M : Type 1} → statement M
-atom-count-spec = tie.close (tie.spec mul-result add-result returns)
+atom-count-spec = tie.close (tie.spec sub-atom-count atom-count-requires returns)
