@@ -230,9 +230,19 @@ def wrapped(text):
     return textwrap.wrap(text, WIDTH, break_long_words=False, break_on_hyphens=False)
 
 
+def head_of(signature):
+    """A signature in a line, or where that is too long a parameter a line."""
+    if len(signature) + 2 <= WIDTH:
+        return [f"`{signature}`"]
+    name, rest = signature.split("(", 1)
+    parameters, result = rest.rsplit(")", 1)
+    rows = [f"    {parameter}," for parameter in parameters.split(", ")]
+    return ["```", f"{name}(", *rows, f"){result}", "```"]
+
+
 def shown(function, mark):
     """A function's part of the page."""
-    lines = [f"{mark} {function.name}", "", f"`{function.signature.removeprefix('pub ')}`", ""]
+    lines = [f"{mark} {function.name}", "", *head_of(function.signature.removeprefix("pub ")), ""]
     if function.comment:
         lines += [*wrapped(function.comment), ""]
     for clause in function.clauses:
