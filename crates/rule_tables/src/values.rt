@@ -29,7 +29,7 @@ fn is_none_or_both(value: u8) -> bool
 }
 
 // The lowest atom that has no value or both.
-pub fn first_none_or_both(values: &[u8]) -> Found
+fn first_none_or_both(values: &[u8]) -> Found
     ensures { λ r. ⌜ placeOf r ≡ first noneOrBoth 0 (now (values .entry)) ⌝ }
 {
     let mut i = 0;

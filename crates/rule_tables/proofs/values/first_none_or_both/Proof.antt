@@ -1,4 +1,4 @@
--- `rule_tables::values::first_none_or_both` meets its contract.
+-- `first_none_or_both` meets its contract.
 -- Assumes nothing.
 use native.Mathlib.Omega.{arith}
 use mathlib.Core.Path.{_≡_, refl, sym, _∙_}
