@@ -2,7 +2,7 @@
 -- Assumes nothing.
 use mathlib.Core.Path.{_≡_, refl, sym, ap, _∙_}
 use mathlib.Core.Logic.{_↔_, _⊎_, inl, inr, ⊎-elim}
-use mathlib.Core.Bool.{true}
+use mathlib.Core.Bool.{true, false}
 use mathlib.Core.List.{List, [], _∷_}
 use mathlib.Core.Option.{Option, none, some}
 use Prim.Native.Nat.{ℕ, _≤_, _<_}
@@ -10,25 +10,30 @@ use native.Mathlib.Omega.{arith}
 use borrow.Author.Tests.{eq-eqb, eqb-true, le-ltb}
 use lib.Dec.{eqb, ltb}
 use lib.ListN.{length, getD}
-use Rattle.basics.specs.Search.{Each, Lowest}
+use Rattle.basics.specs.Search.{Each, Lowest, Nowhere}
 use Rattle.basics.specs.Replies.{Reply, refused, answered}
 use Rattle.basics.proofs.Tests.{not-both, or-iff, each-map}
 use Rattle.basics.proofs.Lists.{none-iff}
-use Rattle.logic_programs.specs.Literals.{OneValue, setOf, badValue}
+use Rattle.logic_programs.specs.Literals.{OneValue, NoValue, BothValues, NoneOrBoth, setOf, badValue}
 use Rattle.logic_programs.specs.ValueFaults as faults
 use Rattle.logic_programs.specs.ValueFaults.{ValueFault, valueFault, orFault}
-use Rattle.logic_programs.proofs.Values.{nowhere-none-or-both, missing-iff, clash-iff, neither-iff}
+use Rattle.logic_programs.proofs.Values.{nowhere-none-or-both, all-one-value, missing-iff, clash-iff, neither-iff}
 use Rattle.answer_set_theory.specs.Verdicts.{Verdict, clash, broken, unfounded, passes, verdict}
 use Rattle.logic_programs.specs.Words.{rulesOf}
 use Rattle.action_language.specs.declared.Law.{Law}
 use Rattle.action_language.specs.declared.Description.{Description}
+use Rattle.action_language.specs.Laws.{lawsOf}
 use Rattle.translation.specs.Translated.{written, rulesFor, tableFor, outcome}
-use Rattle.history_check.specs.Checks.{Finding, missing, judged, checked}
+use Rattle.translation_bounds.proofs.Tables.{engine-accepts}
+use Rattle.history_check.specs.Checks.{Finding, missing, judged, finding, checked}
 use Rattle.history_check.proofs.Judging.{foundOf, finding-answered}
-use Rattle.causal_reading.specs.Verdicts.{Causal, path}
+use Rattle.causal_reading.specs.Verdicts.{Causal, path, causalVerdict}
 use Rattle.causal_reading.specs.Readings.{reading}
 use Rattle.correctness.specs.Demand3.{Complete, PathOf}
-use Rattle.correctness.proofs.Demand3.{demand-3}
+use Rattle.correctness.specs.MissingAndClash.{SameFirst}
+use Rattle.correctness.proofs.Demand3.{demand-3, read-verdict}
+use Rattle.correctness.proofs.MissingAndClash.{missing-and-clash}
+use Rattle.correctness.proofs.CausalFaults.{fault-named}
 use Rattle.description_reader.specs.LineSteps.{Draft}
 use Rattle.description_reader.specs.Descriptions.{Taken, read, described, descriptionOf}
 use Rattle.history_reader.specs.Histories.{atoms}
@@ -39,7 +44,7 @@ use Rattle.possible_refusals.proofs.Readers.{input-by}
 use Rattle.possible_refusals.proofs.Checks.{fits, in-time, small-table, is-written, values-count, values-small, values-acted}
 use Rattle.output_lines.specs.Printed.{causalAfter}
 use Rattle.report.specs.Output.{room, afterOutcome, output}
-use Rattle.report.specs.Program.{Refused, causalShown, missingOrClash, VerdictPrinted, Program}
+use Rattle.report.specs.Program.{Refused, causalShown, missingOrClash, CausalTold, VerdictPrinted, Program}
 
 -- what is shown of a reading behind an answer
 abbrev shownOf : Reply Causal → Option Causal
@@ -69,6 +74,13 @@ none-shown (judged (clash a)) reply e = refl
 none-shown (judged (broken r)) reply e = absurd (not-both e refl)
 none-shown (judged (unfounded c)) reply e = absurd (not-both e refl)
 none-shown (judged passes) reply e = absurd (not-both e refl)
+
+all-shown : (f : Finding) (reply : Reply Causal) → missingOrClash f ≡ false → shownAfter f reply ≡ shownOf reply
+all-shown (missing a) reply e = absurd (not-both refl e)
+all-shown (judged (clash a)) reply e = absurd (not-both refl e)
+all-shown (judged (broken r)) reply e = refl
+all-shown (judged (unfounded c)) reply e = refl
+all-shown (judged passes) reply e = refl
 
 of-shown : (reply : Reply Causal) → shownOf reply ≡ some path → reply ≡ answered path
 of-shown (refused number place) e = let z : _≡_ {A = ℕ} 0 1 = cc in absurd (omega arith)
@@ -105,9 +117,12 @@ module _ (input : List ℕ) (d : Draft) (rest : List ℕ) (lines : ℕ) (vs : Li
   abbrev found : Finding
   found = foundOf vs said
 
+  is-found : finding vs (tableFor D ls) ≡ answered found
+  is-found = finding-answered D ls 64 room out-written vs size bytes
+
   is-checked : checked D ls 64 vs room ≡ answered found
   unfolding checked
-  is-checked = rw (out-written, eq-eqb (length vs) (atoms d) size, bytes) (finding-answered D ls 64 room out-written vs size bytes)
+  is-checked = rw (out-written, eq-eqb (length vs) (atoms d) size, bytes) is-found
 
   abbrev reply : Reply Causal
   reply = reading D ls 64 vs
@@ -132,7 +147,34 @@ module _ (input : List ℕ) (d : Draft) (rest : List ℕ) (lines : ℕ) (vs : Li
         λ p. ap (λ (f : Finding). shownAfter f reply) (passing one .1 p) ∙ ap shownOf (iff .1 p),
       )
 
-  lacking : (a : ℕ) → a < length vs → (getD vs a 0 ≡ 0) ⊎ (getD vs a 0 ≡ 3) → missingOrClash found ≡ true
+  -- where every atom has one value, what is found is neither missing nor clash
+  neither : Each OneValue vs → missingOrClash found ≡ false
+  neither one = go found is-found
+    where
+      clear : Nowhere (NoneOrBoth vs) (length vs)
+      clear = nowhere-none-or-both vs .0 (all-one-value vs one)
+
+      says : SameFirst vs (tableFor D ls)
+      says = missing-and-clash vs (tableFor D ls) (engine-accepts D ls 64 room out-written vs size bytes)
+
+      go : (f : Finding) → finding vs (tableFor D ls) ≡ answered f → missingOrClash f ≡ false
+      go (missing a) h = let low = says .missing-exactly a .0 h .0 in absurd (clear a (low .0) (low .1))
+      go (judged (clash a)) h = let low = says .clash-exactly a .0 h .0 in absurd (clear a (low .0) (low .1))
+      go (judged (broken r)) h = refl
+      go (judged (unfounded c)) h = refl
+      go (judged passes) h = refl
+
+  causal-says : Each OneValue vs → CausalTold D ls vs (shownAfter found reply)
+  causal-says one =
+      let is-read = read-verdict D ls 64 vs (complete one) in
+      record {
+        told = causalVerdict (D .fluents) (D .actions) (D .horizon) (lawsOf D ls) vs;
+        shown-so = all-shown found reply (neither one) ∙ ap shownOf is-read;
+        read-so = is-read;
+        fault = fault-named (D .fluents) (D .actions) (D .horizon) (lawsOf D ls) vs;
+      }
+
+  lacking : (a : ℕ) → a < length vs → NoneOrBoth vs a → missingOrClash found ≡ true
   lacking a below h = go (valueFault vs) refl
     where
       go : (fault : ValueFault) → valueFault vs ≡ fault
@@ -141,8 +183,8 @@ module _ (input : List ℕ) (d : Draft) (rest : List ℕ) (lines : ℕ) (vs : Li
       go (faults.clash k) q = refl
       go faults.neither q = absurd (nowhere-none-or-both vs .0 (neither-iff vs .0 q) a below h)
 
-  decides : (a : ℕ) → Lowest (λ i. (getD vs i 0 ≡ 0) ⊎ (getD vs i 0 ≡ 3)) (length vs) a
-      → (getD vs a 0 ≡ 0 → found ≡ missing a) × (getD vs a 0 ≡ 3 → found ≡ judged (clash a))
+  decides : (a : ℕ) → Lowest (NoneOrBoth vs) (length vs) a
+      → (NoValue vs a → found ≡ missing a) × (BothValues vs a → found ≡ judged (clash a))
   decides a low = (λ zero. rw (missing-iff vs a .1 (low, zero)) refl, λ both. rw (clash-iff vs a .1 (low, both)) refl)
 
   is-printed : output input ≡ afterOutcome input D ls vs (outcome D ls 64 room)
@@ -167,6 +209,7 @@ module _ (input : List ℕ) (d : Draft) (rest : List ℕ) (lines : ℕ) (vs : Li
     incomplete = λ a below h. let f = lacking a below h in (f, none-shown found reply f);
     passes-exactly = passing;
     path-exactly = causal-path;
+    causal-told = causal-says;
   }
 
 -- one of 1 to 7
@@ -190,11 +233,24 @@ in-seven k h =
         (or-iff (eqb k x) (among k xs) .0 q)
 
 module _ (input : List ℕ) where
-  says-refusal : (number place : ℕ) → recordedIn input ≡ refused number place → Refused (output input)
+  -- the description's refusal is that of the input
+  of-described : (number place : ℕ) → recordedIn input ≡ refused number place → (k p : ℕ) → described 64 input ≡ refused k p
+      → (number ≡ k) × (place ≡ p)
+  of-described number place e k p is = let both = sym e ∙ recorded-refused input is in (cc, cc)
+
+  says-refusal : (number place : ℕ) → recordedIn input ≡ refused number place → Refused input (output input)
   unfolding output
   says-refusal number place e =
       let within = rw e at (input-by input) in
-      record { number = number; place = place; low = in-seven number within .0; high = in-seven number within .1; printed = rw e refl }
+      record {
+        number = number;
+        place = place;
+        recorded-so = e;
+        of-description = of-described number place e;
+        low = in-seven number within .0;
+        high = in-seven number within .1;
+        printed = rw e refl;
+      }
 
   by-values : (o : Reply Taken) → described 64 input ≡ o → (r : Reply (List ℕ)) → recordedIn input ≡ r → Program input (output input)
   unfolding Program

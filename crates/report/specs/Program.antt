@@ -6,15 +6,20 @@ use mathlib.Core.Bool.{Bool, true, false}
 use mathlib.Core.List.{List, _++_}
 use mathlib.Core.Option.{Option, none, some}
 use Prim.Native.Nat.{ℕ, _-_, _≤_, _<_}
-use lib.ListN.{length, getD}
-use Rattle.logic_programs.specs.Literals.{OneValue}
+use lib.ListN.{length}
+use Rattle.logic_programs.specs.Literals.{OneValue, NoValue, BothValues, NoneOrBoth}
 use Rattle.basics.specs.Search.{Each, Lowest}
-use Rattle.basics.specs.Replies.{answered}
+use Rattle.basics.specs.Replies.{refused, answered}
 use Rattle.answer_set_theory.specs.Verdicts.{clash, broken, unfounded, passes}
+use Rattle.action_language.specs.declared.Law.{Law}
+use Rattle.action_language.specs.declared.Description.{Description}
+use Rattle.action_language.specs.Laws.{lawsOf}
 use Rattle.translation.specs.Translated.{rulesFor, tableFor}
 use Rattle.history_check.specs.Checks.{Finding, missing, judged}
 use Rattle.causal_reading.specs.Verdicts.{Causal, path}
+use Rattle.causal_reading.specs.Readings.{reading}
 use Rattle.correctness.specs.Demand3.{PathOf}
+use Rattle.correctness.specs.CausalFaults.{FaultNamed}
 use Rattle.description_reader.specs.LineSteps.{Draft}
 use Rattle.description_reader.specs.Descriptions.{read, described, descriptionOf}
 use Rattle.history_values.specs.Values.{ActionsValued}
@@ -22,10 +27,13 @@ use Rattle.history_reader.specs.Histories.{atoms}
 use Rattle.inputs.specs.Inputs.{recordedIn}
 use Rattle.output_lines.specs.Printed.{refusalLines, countLines, findingLines, causalLines, noCausal}
 
--- a refusal by one of 1 to 7
-pub record Refused (out : List ℕ) : Type 0 where
+-- the refusal of the input, by one of 1 to 7
+pub record Refused (input out : List ℕ) : Type 0 where
   pub number : ℕ
   pub place : ℕ
+  pub recorded-so : recordedIn input ≡ refused number place
+  -- where the description is refused, it is that refusal; else it is the history's
+  pub of-description : (k p : ℕ) → described 64 input ≡ refused k p → (number ≡ k) × (place ≡ p)
   pub low : 1 ≤ number
   pub high : number ≤ 7
   pub printed : out ≡ refusalLines number place
@@ -49,6 +57,14 @@ missingOrClash (judged (broken r)) = false
 missingOrClash (judged (unfounded c)) = false
 missingOrClash (judged passes) = false
 
+-- a causal verdict is shown: what the causal reading says of a complete history, and which fault, in the words of the meaning of C
+pub record CausalTold (d : Description) (ls : List Law) (vs : List ℕ) (shown : Option Causal) : Type 0 where
+  pub told : Causal
+  pub shown-so : shown ≡ some told
+  pub read-so : reading d ls 64 vs ≡ answered told
+  pub fault : FaultNamed (d .fluents) (d .actions) (d .horizon) (lawsOf d ls) vs (answered told)
+
+-- the verdict on the input, whose values are read
 pub record VerdictPrinted (input out : List ℕ) : Type 0 where
   -- the description read
   pub draft : Draft
@@ -67,14 +83,14 @@ pub record VerdictPrinted (input out : List ℕ) : Type 0 where
   pub causal : Option Causal
   pub printed : out ≡ nineLines input draft found causal
   -- where an atom has no value or both: the lowest such atom decides
-  pub lowest-decides : (a : ℕ) → Lowest (λ i. (getD values i 0 ≡ 0) ⊎ (getD values i 0 ≡ 3)) (length values) a
-      → (getD values a 0 ≡ 0 → found ≡ missing a) × (getD values a 0 ≡ 3 → found ≡ judged (clash a))
-  pub incomplete : (a : ℕ) → a < length values → (getD values a 0 ≡ 0) ⊎ (getD values a 0 ≡ 3)
-      → (missingOrClash found ≡ true) × (causal ≡ none)
-  -- where every atom has one value
+  pub lowest-decides : (a : ℕ) → Lowest (NoneOrBoth values) (length values) a
+      → (NoValue values a → found ≡ missing a) × (BothValues values a → found ≡ judged (clash a))
+  pub incomplete : (a : ℕ) → a < length values → NoneOrBoth values a → (missingOrClash found ≡ true) × (causal ≡ none)
+  -- where every atom has one value: passes and path exactly for a path, else the causal fault of the first time that has one
   pub passes-exactly : Each OneValue values → found ≡ judged passes ↔ PathOf (descriptionOf draft) (draft .laws) values
   pub path-exactly : Each OneValue values → causal ≡ some path ↔ PathOf (descriptionOf draft) (draft .laws) values
+  pub causal-told : Each OneValue values → CausalTold (descriptionOf draft) (draft .laws) values causal
 
--- of an input and its output
+-- of an input and its output: a refusal exactly where reading the input comes to one (`recordedIn`), else a verdict
 unfoldable pub Program : List ℕ → List ℕ → Type 0
-Program input out = Refused out ⊎ VerdictPrinted input out
+Program input out = Refused input out ⊎ VerdictPrinted input out
