@@ -27,7 +27,7 @@ returns : tie.Need-returns
 returns c =
     let m = c .before .before in
     let e = sym (m .before .before .measure .ensures) ∙ ap outcomeOf (m .measured2 .given .1) in
-    says-10 _ _ _ _ _ (from m .args .table .now) e (c .if1 .taken)
+    says-10 _ _ _ (from m .args .values .now) _ (from m .args .table .now) e (c .if1 .taken)
 
 bad-value-requires : tie.Need-bad-value-requires
 bad-value-requires c κs = search needs
@@ -40,7 +40,8 @@ returns-2 c =
     let b = c .before .before .before in
     let m = b .before .before .before in
     let e = sym (m .before .before .measure .ensures) ∙ ap outcomeOf (m .measured2 .given .1) in
-    says-11 _ _ _ _ _ (from m .args .table .now) e (b .before .if1 .left) (refused-at 11 (b .bad-value .ensures) (c .before .place .given .1))
+    says-11 _ _ _ (from m .args .values .now) _ (from m .args .table .now) e (b .before .if1 .left)
+    (refused-at 11 (b .bad-value .ensures) (c .before .place .given .1))
 
 enum-told : tie.Need-enum-told
 enum-told c = search needs
@@ -54,7 +55,7 @@ returns-3 c =
     let b = t .before .before in
     let m = b .before .before .before in
     let e = sym (m .before .before .measure .ensures) ∙ ap outcomeOf (m .measured2 .given .1) in
-    later-refused _ _ _ _ _ (from m .args .table .now) e (b .before .if1 .left)
+    later-refused _ _ _ (from m .args .values .now) _ (from m .args .table .now) e (b .before .if1 .left)
     (not-refused 11 (b .bad-value .ensures) (t .enum-told .given .1)) (ap testedOf (c .before .later .given .1))
 
 enum-told-2 : tie.Need-enum-told-2
@@ -82,7 +83,7 @@ returns-5 c =
     let m = b .before .before .before in
     let e = sym (m .before .before .measure .ensures) ∙ ap outcomeOf (m .measured2 .given .1) in
     let said =
-    all-passed _ _ _ _ _ (from m .args .table .now) e (b .before .if1 .left)
+    all-passed _ _ _ (from m .args .values .now) _ (from m .args .table .now) e (b .before .if1 .left)
     (not-refused 11 (b .bad-value .ensures) (t .enum-told .given .1)) (ap testedOf (o .before .before .enum-told2 .given .1)) in
     (said .0, o .write-table .ensures .1 ∙ said .1)
 
