@@ -9,7 +9,7 @@ use Prim.Native.Nat.{ℕ, _≤_, _<_}
 use native.Mathlib.Omega.{arith}
 use borrow.Author.Tests.{eq-eqb, eqb-true, le-ltb}
 use lib.Dec.{eqb, ltb}
-use lib.ListN.{length, getD}
+use lib.ListN.{length}
 use Rattle.basics.specs.Search.{Each, Lowest, Nowhere}
 use Rattle.basics.specs.Replies.{Reply, refused, answered}
 use Rattle.basics.proofs.Tests.{not-both, or-iff, each-map}
