@@ -16,8 +16,8 @@ use Rattle.action_language.specs.declared.Kind.{Kind}
 use Rattle.action_language.specs.declared.Kind.the-variants.{Static, Dynamic}
 use Rattle.action_language.specs.declared.Law.{Law}
 use Rattle.text.specs.Lines.{Line, firstLine}
-use Rattle.text.specs.Places.{startOfLine, lineNumber}
-use Rattle.text.proofs.Placing.{next-line}
+use Rattle.text.specs.Places.{startOfLine}
+use Rattle.text.proofs.Placing.{lineNumber, next-line}
 use Rattle.description_reader.specs.LineSteps as step
 use Rattle.description_reader.specs.LineSteps.{Due, horizonDue, firstFluentDue, fluentDue, actionDue, lawDue, ifDue}
 use Rattle.description_reader.specs.LineSteps.{afterDue, byDue, Draft, Step, next, finish, withIf, lineStep}

@@ -11,7 +11,7 @@ use Rattle.text.specs.Bytes.{cut}
 use Rattle.text.specs.Lines.{keys, horizonKey, fluentKey, actionKey, staticKey, dynamicKey, ifKey, afterKey}
 use Rattle.text.specs.Lines.{stateKey, actKey, endKey, defaultKey, inertialKey, causesKey, byKey}
 use Rattle.text.specs.Lines.{nonexecutableKey, keyNumber, firstLine}
-use Rattle.text.specs.Places.{lineSize, startOfLine, lineAt, startOfValue, lineNumber}
+use Rattle.text.specs.Places.{lineSize, startOfLine, lineAt, valueOfLine, startOfValue}
 use Rattle.text.specs.NamePlaces.{namesIn}
 use Rattle.text.specs.Names.{literal}
 use Rattle.text.specs.Lists.{refused, codes, items, listOf}
@@ -37,9 +37,10 @@ pub line-placed : (startOfLine 1 two-lines ≡ 7) × (startOfValue 0 two-lines �
 unfolding lineSize lineAt
 line-placed = (refl, refl, refl, refl)
 
-pub line-numbered : lineNumber 1 two-lines ≡ some (record { key = actKey; value = []; rest = [] })
-unfolding firstLine cut keyNumber lineSize
-line-numbered = refl
+-- a value whatever its key; nothing where the ending byte is lacking
+pub line-valued : (valueOfLine 0 (bytes "foo=bar\n") ≡ bytes "bar") × (valueOfLine 0 (bytes "if=a") ≡ [])
+unfolding lineAt
+line-valued = (refl, refl)
 
 -- three lines, of which two declare a name: a stands at byte 17, b at byte 26
 pub names-placed : namesIn 3 (bytes "horizon=1\nfluent=a\naction=b\n")

@@ -18,7 +18,7 @@ use Rattle.text.specs.declared.lines.LineAt.{LineAt}
 use Rattle.text.specs.Bytes.{newline, equalsSign, Cut, cutAt, cut}
 use Rattle.text.specs.Lines.{keys, noKey, keyNumber, Line, keyed, valued, ended, firstLine}
 use Rattle.text.specs.Places.{sizeUpTo, lineSize, startOfLine, numberOr, noLine, splitAt, endedAt, lineAt}
-use Rattle.text.specs.Places.{lineNumber, valueAt, valueOfLine}
+use Rattle.text.specs.Places.{valueAt, valueOfLine}
 use Rattle.text.proofs.Cutting.{first-inside, drop-take, line-inside, sign-inside}
 
 -- the size of the first line
@@ -123,7 +123,10 @@ module _ (text : List ℕ) (at : ℕ) {l : LineAt} (is : l ≡ lineAt text at) w
   pub line-fits : LineFits text at l
   line-fits = subst (LineFits text at) (sym is) (at-fits text at)
 
--- the value of a line that has a key
+-- line n, and its value if it has a key
+abbrev pub lineNumber : ℕ → List ℕ → Option Line
+lineNumber n text = firstLine (drop (startOfLine n text) text)
+
 value-there : (o : Option ℕ) (value rest : List ℕ) (l : Line) → keyed o value rest ≡ some l → value ≡ l .value
 value-there none value rest l e = let z : _≡_ {A = ℕ} 0 1 = cc in absurd (omega arith)
 value-there (some k) value rest l e = cc

@@ -10,7 +10,7 @@ use denote.Ref.{RefT, ptr}
 use Rattle.basics.specs.Search.{first}
 use Rattle.text.specs.declared.lines.LineAt.{LineAt}
 use Rattle.text.specs.Bytes.{newline, equalsSign}
-use Rattle.text.specs.Lines.{noKey, keyNumber, Line, firstLine}
+use Rattle.text.specs.Lines.{noKey, keyNumber}
 
 -- how many bytes the first line takes, its ending byte among them; all where that is lacking
 abbrev pub sizeUpTo : ℕ → Option ℕ → ℕ
@@ -53,10 +53,7 @@ endedAt text at (some size) = splitAt text at size (first (eqb equalsSign) 0 (ta
 unfoldable pub lineAt : List ℕ → ℕ → LineAt
 lineAt text at = endedAt text at (first (eqb newline) 0 (drop at text))
 
--- line n: what it says, its value whatever its key, and where its value begins
-abbrev pub lineNumber : ℕ → List ℕ → Option Line
-lineNumber n text = firstLine (drop (startOfLine n text) text)
-
+-- line n's value, whatever its key, and where it begins
 abbrev pub valueAt : List ℕ → LineAt → List ℕ
 valueAt text l = take (l .to - l .from) (drop (l .from) text)
 
