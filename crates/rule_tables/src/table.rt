@@ -106,10 +106,14 @@ fn whole_plain(rest: &[u16]) -> &[u16]
     &rest[start..end]
 }
 
-// The negated parts of the rule at the front; none where it runs past the end.
+// The negated parts of the rule at the front; none where it runs past the end. That there are counts is tested first: where it is
+// known, the size is two words and asks nothing more.
 pub fn negated_parts(rest: &[u16]) -> &[u16]
     ensures { λ r. ⌜ now r ≡ frontNegated (now (rest .entry)) ⌝ }
 {
+    if rest.len() < 3 {
+        return &rest[..0];
+    }
     if rest.len() < rule_size(rest) {
         return &rest[..0];
     }
@@ -120,6 +124,9 @@ pub fn negated_parts(rest: &[u16]) -> &[u16]
 pub fn plain_parts(rest: &[u16]) -> &[u16]
     ensures { λ r. ⌜ now r ≡ frontPlain (now (rest .entry)) ⌝ }
 {
+    if rest.len() < 3 {
+        return &rest[..0];
+    }
     if rest.len() < rule_size(rest) {
         return &rest[..0];
     }
