@@ -106,14 +106,10 @@ fn whole_plain(rest: &[u16]) -> &[u16]
     &rest[start..end]
 }
 
-// The negated parts of the rule at the front; none where it runs past the end. That there are counts is tested first: where it is
-// known, the size is two words and asks nothing more.
+// The negated parts of the rule at the front; none where it runs past the end.
 pub fn negated_parts(rest: &[u16]) -> &[u16]
     ensures { λ r. ⌜ now r ≡ frontNegated (now (rest .entry)) ⌝ }
 {
-    if rest.len() < 3 {
-        return &rest[..0];
-    }
     if rest.len() < rule_size(rest) {
         return &rest[..0];
     }
@@ -124,9 +120,6 @@ pub fn negated_parts(rest: &[u16]) -> &[u16]
 pub fn plain_parts(rest: &[u16]) -> &[u16]
     ensures { λ r. ⌜ now r ≡ frontPlain (now (rest .entry)) ⌝ }
 {
-    if rest.len() < 3 {
-        return &rest[..0];
-    }
     if rest.len() < rule_size(rest) {
         return &rest[..0];
     }

@@ -7,35 +7,21 @@ use borrow.Author.Needs.{needs}
 use Rattle.rule_tables.proofs.table.negated_parts.Statement.{statement}
 use Rattle.rule_tables.proofs.table.negated_parts.Tie as tie
 
+rule-size-requires : tie.Need-rule-size-requires
+rule-size-requires c κs = tt
+
 slice-aggregate-result : tie.Need-slice-aggregate-result
 slice-aggregate-result c = search needs
 
 returns : tie.Need-returns
-returns c = negated-short (c .before .before .before .args .rest .now) (omega arith)
-
-rule-size-requires : tie.Need-rule-size-requires
-rule-size-requires c κs = tt
-
-slice-aggregate-result-2 : tie.Need-slice-aggregate-result-2
-slice-aggregate-result-2 c = search needs
-
-returns-2 : tie.Need-returns-2
-returns-2 c = negated-short (c .before .before .before .before .before .args .rest .now) (omega arith)
+returns c = negated-short (c .before .before .before .before .args .rest .now) (omega arith)
 
 whole-negated-requires : tie.Need-whole-negated-requires
 whole-negated-requires c κs = omega arith
 
-returns-3 : tie.Need-returns-3
-returns-3 c = c .whole-negated .ensures ∙ negated-whole (c .before .before .before .before .before .args .rest .now) (omega arith)
+returns-2 : tie.Need-returns-2
+returns-2 c = c .whole-negated .ensures ∙ negated-whole (c .before .before .before .before .args .rest .now) (omega arith)
 
 pub negated-parts-spec : {M : Type 1} → statement M
 negated-parts-spec =
-    tie.close
-    (tie.spec
-    slice-aggregate-result
-    returns
-    rule-size-requires
-    slice-aggregate-result-2
-    returns-2
-    whole-negated-requires
-    returns-3)
+    tie.close (tie.spec rule-size-requires slice-aggregate-result returns whole-negated-requires returns-2)
