@@ -19,11 +19,16 @@ pub fn word(words: &[u16], i: usize) -> usize
     0
 }
 
-// How many words the rule at the front takes.
+// How many words the rule at the front takes. Where there are three words, one test does for both counts.
 pub fn rule_size(rest: &[u16]) -> usize
     ensures { λ r. ⌜ r ≡ ruleSize (now (rest .entry)) ⌝ }
 {
-    3 + word(rest, 1) + word(rest, 2)
+    if rest.len() < 3 {
+        return 3 + word(rest, 1) + word(rest, 2);
+    }
+    let negated = rest[1] as usize;
+    let plain = rest[2] as usize;
+    3 + negated + plain
 }
 
 // Whether a head is false or below 2 times atoms.
