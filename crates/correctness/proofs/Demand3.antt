@@ -4,10 +4,10 @@
 -- Assumes nothing.
 use mathlib.Core.Path.{_≡_, refl, sym, _∙_, ap}
 use mathlib.Core.Logic.{_↔_, inl, inr, ⊎-elim, Iff·trans, Iff·symm}
-use mathlib.Core.Bool.{Bool, true, false, not, cond, _||_}
+use mathlib.Core.Bool.{Bool, true, false, not, _||_}
 use mathlib.Core.List.{List}
-use mathlib.Core.Option.{none, some}
-use Prim.Native.Nat.{ℕ, _*_, _≤_}
+use mathlib.Core.Option.{none}
+use Prim.Native.Nat.{ℕ, _≤_}
 use native.Mathlib.Omega.{arith}
 use borrow.Author.Tests.{eqb-true, eq-eqb, le-ltb}
 use lib.Dec.{eqb, ltb}
@@ -25,7 +25,6 @@ use Rattle.logic_programs.specs.Words.{rulesOf}
 use Rattle.answer_set_theory.specs.Answers as engine
 use Rattle.rule_tables.specs.Acceptance.{Accepted}
 use Rattle.answer_set_theory.specs.Demand2.{Demand2}
-use Rattle.answer_set_theory.proofs.Decoding.{rules-words, codes-coded}
 use Rattle.answer_set_theory.proofs.Theorems.{demand-2}
 use Rattle.action_language.specs.declared.Law.{Law}
 use Rattle.action_language.specs.declared.Description.{Description}
@@ -35,8 +34,7 @@ use Rattle.action_language.specs.Acceptance.{badRecord, badHorizon}
 use Rattle.action_language.proofs.Laws.{accepted-law}
 use Rattle.translation.specs.Translated.{written, rulesFor, tableFor, outcome, tableAfter}
 use Rattle.translation.proofs.Outcomes.{accepted-written, accepted-short, written-left}
-use Rattle.translation_bounds.proofs.Bounds.{codes-below}
-use Rattle.translation_bounds.proofs.Tables.{few-atoms, table-accepted}
+use Rattle.translation_bounds.proofs.Tables.{engine-accepts, table-decoded}
 use Rattle.history_check.specs.declared.Checked.{Checked}
 use Rattle.history_check.specs.Checks as history
 use Rattle.causal_reading.specs.declared.Reading.{Reading}
@@ -90,20 +88,11 @@ module _ (d : Description) (ls : List Law) (lent : ℕ) (vs : List ℕ) (complet
   bytes = none-iff (ltb 3) 0 vs .1 (each-map fits-byte vs one)
 
   accepted : Accepted vs (tableFor d ls)
-  accepted =
-      let few = few-atoms d ls lent (length (tableFor d ls)) exact in (
-        ap (λ (b : Bool). cond b (some (length vs)) none) (le-ltb 1024 (length vs) (omega arith)),
-        bytes,
-        rw size (table-accepted d ls lent (length (tableFor d ls)) exact),
-      )
+  accepted = engine-accepts d ls lent (length (tableFor d ls)) exact vs size bytes
 
   -- the words that were written decode to the published rules
   decoded : rulesOf (tableFor d ls) ≡ rulesFor d ls
-  decoded =
-      rules-words (rulesFor d ls)
-      (codes-coded (2 * atomCount (d .fluents) (d .actions) (d .horizon)) (rulesFor d ls)
-      (codes-below (d .fluents) (d .actions) (d .horizon) (lawsOf d ls) (accepted-law d ls lent taken))
-      (omega (arith, few-atoms d ls lent (length (tableFor d ls)) exact)))
+  decoded = table-decoded d ls lent (length (tableFor d ls)) exact
 
   by-answer-set : AnswerSet (rulesFor d ls) (setOf vs) ↔ PathOf d ls vs
   by-answer-set = answer-set-iff-path (d .fluents) (d .actions) (d .horizon) (lawsOf d ls) vs (accepted-law d ls lent taken) size one

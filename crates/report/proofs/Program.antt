@@ -1,6 +1,6 @@
 -- The output for every input is what `Program` says.
 -- Assumes nothing.
-use mathlib.Core.Path.{_≡_, refl, sym, ap, _∙_}
+use mathlib.Core.Path.{_≡_, refl, sym, ap, subst, _∙_}
 use mathlib.Core.Logic.{_↔_, _⊎_, inl, inr, ⊎-elim}
 use mathlib.Core.Bool.{true, false}
 use mathlib.Core.List.{List, [], _∷_}
@@ -19,12 +19,14 @@ use Rattle.logic_programs.specs.ValueFaults as faults
 use Rattle.logic_programs.specs.ValueFaults.{ValueFault, valueFault, orFault}
 use Rattle.logic_programs.proofs.Values.{nowhere-none-or-both, all-one-value, missing-iff, clash-iff, neither-iff}
 use Rattle.answer_set_theory.specs.Verdicts.{Verdict, clash, broken, unfounded, passes, verdict}
+use Rattle.answer_set_theory.specs.Demand2.{RightVerdict, Demand2}
+use Rattle.answer_set_theory.proofs.Theorems.{accepted-judged, demand-2}
 use Rattle.logic_programs.specs.Words.{rulesOf}
 use Rattle.action_language.specs.declared.Law.{Law}
 use Rattle.action_language.specs.declared.Description.{Description}
 use Rattle.action_language.specs.Laws.{lawsOf}
 use Rattle.translation.specs.Translated.{written, rulesFor, tableFor, outcome}
-use Rattle.translation_bounds.proofs.Tables.{engine-accepts}
+use Rattle.translation_bounds.proofs.Tables.{engine-accepts, table-decoded}
 use Rattle.history_check.specs.Checks.{Finding, missing, judged, finding, checked}
 use Rattle.history_check.proofs.Judging.{foundOf, finding-answered}
 use Rattle.causal_reading.specs.Verdicts.{Causal, path, causalVerdict}
@@ -44,7 +46,7 @@ use Rattle.possible_refusals.proofs.Readers.{input-by}
 use Rattle.possible_refusals.proofs.Checks.{fits, in-time, small-table, is-written, values-count, values-small, values-acted}
 use Rattle.output_lines.specs.Printed.{causalAfter}
 use Rattle.report.specs.Output.{room, afterOutcome, output}
-use Rattle.report.specs.Program.{Refused, causalShown, missingOrClash, CausalTold, VerdictPrinted, Program}
+use Rattle.report.specs.Program.{Refused, causalShown, missingOrClash, EngineTold, CausalTold, VerdictPrinted, Program}
 
 -- what is shown of a reading behind an answer
 abbrev shownOf : Reply Causal → Option Causal
@@ -164,6 +166,18 @@ module _ (input : List ℕ) (d : Draft) (rest : List ℕ) (lines : ℕ) (vs : Li
       go (judged (unfounded c)) h = refl
       go (judged passes) h = refl
 
+  engine-says : Each OneValue vs → EngineTold D ls vs found
+  unfolding Demand2
+  engine-says one =
+      let accepted = engine-accepts D ls 64 room out-written vs size bytes in
+      record {
+        told = said;
+        found-so = rw (neither-iff vs .1 (all-one-value vs one)) refl;
+        right = rw (← table-decoded D ls 64 room out-written)
+            (subst (RightVerdict (length vs) (rulesOf (tableFor D ls)) (setOf vs)) (accepted-judged vs (tableFor D ls) accepted)
+            (demand-2 vs (tableFor D ls) accepted));
+      }
+
   causal-says : Each OneValue vs → CausalTold D ls vs (shownAfter found reply)
   causal-says one =
       let is-read = read-verdict D ls 64 vs (complete one) in
@@ -209,6 +223,7 @@ module _ (input : List ℕ) (d : Draft) (rest : List ℕ) (lines : ℕ) (vs : Li
     incomplete = λ a below h. let f = lacking a below h in (f, none-shown found reply f);
     passes-exactly = passing;
     path-exactly = causal-path;
+    engine-told = engine-says;
     causal-told = causal-says;
   }
 

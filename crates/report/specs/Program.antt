@@ -7,10 +7,11 @@ use mathlib.Core.List.{List, _++_}
 use mathlib.Core.Option.{Option, none, some}
 use Prim.Native.Nat.{ℕ, _-_, _≤_, _<_}
 use lib.ListN.{length}
-use Rattle.logic_programs.specs.Literals.{OneValue, NoValue, BothValues, NoneOrBoth}
+use Rattle.logic_programs.specs.Literals.{OneValue, NoValue, BothValues, NoneOrBoth, setOf}
 use Rattle.basics.specs.Search.{Each, Lowest}
 use Rattle.basics.specs.Replies.{refused, answered}
-use Rattle.answer_set_theory.specs.Verdicts.{clash, broken, unfounded, passes}
+use Rattle.answer_set_theory.specs.Verdicts.{Verdict, clash, broken, unfounded, passes}
+use Rattle.answer_set_theory.specs.Demand2.{RightVerdict}
 use Rattle.action_language.specs.declared.Law.{Law}
 use Rattle.action_language.specs.declared.Description.{Description}
 use Rattle.action_language.specs.Laws.{lawsOf}
@@ -57,6 +58,12 @@ missingOrClash (judged (broken r)) = false
 missingOrClash (judged (unfounded c)) = false
 missingOrClash (judged passes) = false
 
+-- a verdict of the engine is printed: which one, by answer sets and the reduct of the published rules
+pub record EngineTold (d : Description) (ls : List Law) (vs : List ℕ) (found : Finding) : Type 0 where
+  pub told : Verdict
+  pub found-so : found ≡ judged told
+  pub right : RightVerdict (length vs) (rulesFor d ls) (setOf vs) (answered told)
+
 -- a causal verdict is shown: what the causal reading says of a complete history, and which fault, in the words of the meaning of C
 pub record CausalTold (d : Description) (ls : List Law) (vs : List ℕ) (shown : Option Causal) : Type 0 where
   pub told : Causal
@@ -89,6 +96,7 @@ pub record VerdictPrinted (input out : List ℕ) : Type 0 where
   -- where every atom has one value: passes and path exactly for a path, else the causal fault of the first time that has one
   pub passes-exactly : Each OneValue values → found ≡ judged passes ↔ PathOf (descriptionOf draft) (draft .laws) values
   pub path-exactly : Each OneValue values → causal ≡ some path ↔ PathOf (descriptionOf draft) (draft .laws) values
+  pub engine-told : Each OneValue values → EngineTold (descriptionOf draft) (draft .laws) values found
   pub causal-told : Each OneValue values → CausalTold (descriptionOf draft) (draft .laws) values causal
 
 -- of an input and its output: a refusal exactly where reading the input comes to one (`recordedIn`), else a verdict
