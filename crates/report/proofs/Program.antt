@@ -21,6 +21,7 @@ use Rattle.logic_programs.proofs.Values.{nowhere-none-or-both, all-one-value, m
 use Rattle.answer_set_theory.specs.Verdicts.{Verdict, clash, broken, unfounded, passes, verdict}
 use Rattle.answer_set_theory.specs.Demand2.{RightVerdict, Demand2}
 use Rattle.answer_set_theory.proofs.Theorems.{accepted-judged, demand-2}
+use Rattle.logic_programs.specs.Rules.{Rule}
 use Rattle.logic_programs.specs.Words.{rulesOf}
 use Rattle.action_language.specs.declared.Law.{Law}
 use Rattle.action_language.specs.declared.Description.{Description}
@@ -173,7 +174,8 @@ module _ (input : List ℕ) (d : Draft) (rest : List ℕ) (lines : ℕ) (vs : Li
       record {
         told = said;
         found-so = rw (neither-iff vs .1 (all-one-value vs one)) refl;
-        right = rw (← table-decoded D ls 64 room out-written)
+        right = subst (λ (Π : List Rule). RightVerdict (length vs) Π (setOf vs) (answered said))
+            (table-decoded D ls 64 room out-written)
             (subst (RightVerdict (length vs) (rulesOf (tableFor D ls)) (setOf vs)) (accepted-judged vs (tableFor D ls) accepted)
             (demand-2 vs (tableFor D ls) accepted));
       }
