@@ -2,7 +2,7 @@
 -- Assumes nothing.
 use mathlib.Core.Path.{_≡_, refl, sym, _∙_}
 use mathlib.Core.Bool.{Bool, true, false, cond, not, _&&_, _||_, and-false, Bool·beq}
-use mathlib.Core.List.{List, [], _∷_}
+use mathlib.Core.List.{List}
 use mathlib.Core.Logic.{_⊎_, inl, inr}
 use mathlib.Core.Option.{none, some}
 use Prim.Native.Nat.{ℕ, _≤_, _<_}
@@ -134,13 +134,6 @@ module _ (levels : List ℕ) (top part c : ℕ) (is : part ≡ levelOf levels c)
 module _ (levels ws : List ℕ) where
   pub false-above : getD ws 0 0 ≡ 65535 → true ≡ standsAbove levels (ruleAt ws)
   false-above e = rw (eq-eqb (getD ws 0 0) 65535 e)
-
-  pub none-above : (getD ws 0 0 ≡ 65535 → ⊥) → length (ruleAt ws .plain) ≡ 0 → true ≡ standsAbove levels (ruleAt ws)
-  none-above literal e = rw (ne-eqb (getD ws 0 0) 65535 literal, nothing (ruleAt ws .plain) e) refl
-    where
-      nothing : (cs : List ℕ) → length cs ≡ 0 → cs ≡ []
-      nothing [] z = refl
-      nothing (c ∷ cs) z = absurd (omega arith)
 
   pub literal-above : (top : ℕ) (r : Bool) → (getD ws 0 0 ≡ 65535 → ⊥) → top ≡ levelOf levels (getD ws 0 0)
       → r ≡ all (isBelow levels top) (ruleAt ws .plain) → r ≡ standsAbove levels (ruleAt ws)

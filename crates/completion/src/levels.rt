@@ -34,11 +34,7 @@ fn stands_above(rest: &[u16], levels: &[u16]) -> bool
     if head == 65535 {
         return true;
     }
-    let parts = table::plain_parts(rest);
-    if parts.len() == 0 {
-        return true;
-    }
-    parts_below(parts, levels, table::word(levels, head))
+    parts_below(table::plain_parts(rest), levels, table::word(levels, head))
 }
 
 // The lowest rule whose head does not stand above its plain parts.

@@ -4,7 +4,7 @@ use mathlib.Core.Path.{sym, _∙_}
 use native.Mathlib.Omega.{arith}
 use borrow.Author.Needs.{needs}
 use Rattle.rule_tables.proofs.Fronts.{plain-whole}
-use Rattle.completion.proofs.Fronts.{false-above, none-above, literal-above}
+use Rattle.completion.proofs.Fronts.{false-above, literal-above}
 use Rattle.completion.proofs.levels.stands_above.Statement.{statement}
 use Rattle.completion.proofs.levels.stands_above.Tie as tie
 
@@ -22,24 +22,16 @@ returns c =
 plain-parts-requires : tie.Need-plain-parts-requires
 plain-parts-requires c κs = tt
 
-returns-2 : tie.Need-returns-2
-returns-2 c =
-    let p = c .before in
-    let i = p .before in
-    let s = i .before .before .before .before in
-    let plain = p .plain-parts .ensures ∙ sym (plain-whole (s .args .rest .now) (s .pre)) in
-    none-above (s .args .levels .now) (s .args .rest .now) (i .if1 .left) (rw plain at (c .if2 .taken))
-
 word-requires : tie.Need-word-requires
 word-requires c κs = tt
 
 parts-below-requires : tie.Need-parts-below-requires
 parts-below-requires c κs = tt
 
-returns-3 : tie.Need-returns-3
-returns-3 c =
+returns-2 : tie.Need-returns-2
+returns-2 c =
     let w = c .before in
-    let p = w .before .before in
+    let p = w .before in
     let i = p .before in
     let s = i .before .before .before .before in
     let plain = p .plain-parts .ensures ∙ sym (plain-whole (s .args .rest .now) (s .pre)) in
@@ -49,12 +41,4 @@ returns-3 c =
 pub stands-above-spec : {M : Type 1} → statement M
 stands-above-spec =
     tie.close
-    (tie.spec
-    shared-slice-read-head
-    cast-head
-    returns
-    plain-parts-requires
-    returns-2
-    word-requires
-    parts-below-requires
-    returns-3)
+    (tie.spec shared-slice-read-head cast-head returns plain-parts-requires word-requires parts-below-requires returns-2)
