@@ -45,10 +45,10 @@ fn first_not_above(table: &[u16], levels: &[u16]) -> Found
     let mut rest = table;
     let mut rule = 0;
     while 0 < rest.len() {
+        let size = table::rule_size(rest);
         if !stands_above(rest, levels) {
             return Found::At(rule);
         }
-        let size = table::rule_size(rest);
         rest = &rest[size..];
         rule += 1;
     }

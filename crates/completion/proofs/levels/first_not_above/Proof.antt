@@ -26,18 +26,18 @@ abbrev μ-loop : tie.MeasureT-loop
 loop-holds : tie.Need-loop-holds Inv-loop μ-loop
 loop-holds c = (omega arith, c .before .before .pre, refl, omega arith)
 
+rule-size-requires : tie.Need-rule-size-requires Inv-loop μ-loop
+rule-size-requires c κs = tt
+
 stands-above-requires : tie.Need-stands-above-requires Inv-loop μ-loop
-stands-above-requires c κs = sound-size _ (c .loop-test .taken) (c .before .loop .inv .1)
+stands-above-requires c κs = sound-size _ (c .before .loop-test .taken) (c .before .before .loop .inv .1)
 
 returns : tie.Need-returns Inv-loop μ-loop
 returns c =
-    let c2 = c .before .before in
+    let c2 = c .before .before .before in
     let c3 = c2 .before in
     rule-stop _ _ (c3 .loop .rest .now) (c2 .loop-test .taken) (c3 .loop .inv .2)
     (ap not (sym (c .before .stands-above .ensures)) ∙ c .if1 .taken)
-
-rule-size-requires : tie.Need-rule-size-requires Inv-loop μ-loop
-rule-size-requires c κs = tt
 
 mul-rest : tie.Need-mul-rest Inv-loop μ-loop
 mul-rest c = omega (arith, sound-size _ (c .before .before .before .loop-test .taken) (c .before .before .before .before .loop .inv .1))
@@ -61,7 +61,7 @@ loop-less c =
     let c5 = c4 .before in
     let ws = c5 .loop .rest .now in
     let h = c4 .loop-test .taken in
-    rw (left-behind ws _ (c .before .rule-size .ensures)) (shorter ws h)
+    rw (left-behind ws _ (c .before .before .before .rule-size .ensures)) (shorter ws h)
 
 loop-again : tie.Need-loop-again Inv-loop μ-loop
 loop-again c =
@@ -71,10 +71,10 @@ loop-again c =
     let c5 = c4 .before in
     let ws = c5 .loop .rest .now in
     let h = c4 .loop-test .taken in
-    rw (left-behind ws _ (c .before .rule-size .ensures)) (
+    rw (left-behind ws _ (c3 .rule-size .ensures)) (
       omega (arith, shorter ws h),
       sound-rest ws h (c5 .loop .inv .1),
-      rule-go _ _ ws h (c5 .loop .inv .2) (ap not (sym (c3 .stands-above .ensures)) ∙ c2 .if1 .left),
+      rule-go _ _ ws h (c5 .loop .inv .2) (ap not (sym (c2 .stands-above .ensures)) ∙ c .before .if1 .left),
       omega (arith, shorter ws h),
     )
 
@@ -88,9 +88,9 @@ first-not-above-spec =
     Inv-loop
     μ-loop
     loop-holds
+    rule-size-requires
     stands-above-requires
     returns
-    rule-size-requires
     mul-rest
     sub-rest
     part-rest-start
