@@ -10,7 +10,7 @@ use native.Mathlib.Omega.{arith}
 use borrow.Author.Tests.{lt-ltb, le-ltb, eqb-true, eqb-false, eq-eqb, ne-eqb}
 use lib.Dec.{eqb}
 use lib.ListN.{length, getD, drop, set, length-set}
-use Rattle.basics.specs.Search.{all}
+use Rattle.basics.specs.Search.{Each, all}
 use Rattle.basics.proofs.Loops.{and-stop, and-go}
 use Rattle.basics.proofs.Stored.{getD-set}
 use Rattle.logic_programs.specs.Literals.{Lits}
@@ -20,7 +20,7 @@ use Rattle.rule_tables.specs.Internal.{Sound}
 use Rattle.rule_tables.proofs.Walking.{rules-front, sound-head}
 use Rattle.completion_theory.specs.Findings.{bodyHolds, sameHead, differ}
 use Rattle.completion_theory.specs.LevelLists.{isBelow, levelOf, standsAbove}
-use Rattle.completion.specs.Internal.{markedHead, readAs, markOf, headOfMark, heldAt, failingFalse}
+use Rattle.completion.specs.Internal.{markedHead, readAs, markOf, headOfMark, heldAt, failingFalse, PlainBelow}
 
 -- a body: first its negated parts are looked at, then its plain ones
 module _ (X : Lits) (ws : List ℕ) (r : Bool) (is : r ≡ all (λ c. X (readAs true c)) (ruleAt ws .negated)) where
@@ -129,6 +129,11 @@ module _ (levels : List ℕ) (top part c : ℕ) (is : part ≡ levelOf levels c)
 
   pub below : part < top → isBelow levels top c ≡ true
   below h = lt-ltb (levelOf levels c) top (omega arith)
+
+-- the plain parts of the rule at the front, and of those behind it
+pub plain-front : (N : ℕ) (ws : List ℕ) → 0 < length ws → PlainBelow N ws
+    → Each (λ c. c < N) (ruleAt ws .plain) × PlainBelow N (drop (ruleSize ws) ws)
+plain-front N ws h have = rw (rules-front ws h) at have
 
 -- the head at the front stands above the plain parts
 module _ (levels ws : List ℕ) where

@@ -6,7 +6,8 @@ use mathlib.Core.List.{List, [], _∷_}
 use mathlib.Core.Option.{Option, none, some}
 use Prim.Native.Nat.{ℕ, suc, _*_, _≤_, _<_}
 use native.Mathlib.Omega.{arith}
-use borrow.Author.Tests.{ne-eqb}
+use borrow.Author.Tests.{eqb-true, ne-eqb}
+use lib.Dec.{eqb}
 use lib.ListN.{length}
 use Rattle.basics.specs.Search.{Each, first, range}
 use Rattle.basics.proofs.Tests.{range-lowest}
@@ -89,3 +90,11 @@ module _ (n : ℕ) (ws levels : List ℕ) where
       → found ≡ badLevels n ws levels
   unfolding badLevels
   says-rules e is = rw e is
+
+-- where the count is right
+pub as-many : (n : ℕ) (levels : List ℕ) → wrongCount n levels ≡ none → length levels ≡ 2 * n
+as-many n levels e = go (eqb (length levels) (2 * n)) refl e
+  where
+    go : (b : Bool) → eqb (length levels) (2 * n) ≡ b → cond {A = Option ℕ} b none (some 65535) ≡ none → length levels ≡ 2 * n
+    go true t h = eqb-true (length levels) (2 * n) t
+    go false f h = absurd (let z : _≡_ {A = ℕ} 0 1 = cc in omega arith)

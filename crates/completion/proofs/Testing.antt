@@ -3,14 +3,17 @@
 use mathlib.Core.Path.{_≡_}
 use mathlib.Core.List.{List}
 use mathlib.Core.Option.{none, some}
-use Prim.Native.Nat.{ℕ, _≤_}
+use Prim.Native.Nat.{ℕ, _*_, _≤_}
 use lib.ListN.{length}
 use Rattle.basics.specs.Replies.{Reply, refused, answered, orRefuse}
-use Rattle.logic_programs.specs.Words.{badRule}
+use Rattle.basics.proofs.Tests.{each-map}
+use Rattle.logic_programs.specs.Words.{rulesOf, badRule}
 use Rattle.rule_tables.specs.Acceptance.{tested, Accepted}
 use Rattle.rule_tables.specs.Internal.{Sound}
 use Rattle.rule_tables.proofs.Testing.{few-values, still-refused, accepts, comes-next}
 use Rattle.rule_tables.proofs.Walking.{accepted-sound}
+use Rattle.answer_set_theory.proofs.Decoding.{accepted-below}
+use Rattle.completion.specs.Internal.{PlainBelow}
 use Rattle.completion_theory.specs.Findings.{FormulaFinding, formulaFinding}
 use Rattle.completion_theory.specs.LevelLists.{badLevels}
 use Rattle.completion_theory.specs.Answers.{answer, answerByLevels}
@@ -45,5 +48,8 @@ module _ (vs ws : List ℕ) where
   pub judge-ready : answered tt ≡ tested vs ws → (length vs ≤ 1024) × (badRule (length vs) ws ≡ none)
   judge-ready e = let accepted = accepts vs ws e in (few-values vs (accepted .0), accepted .2)
 
-  pub levels-ready : answered tt ≡ tested vs ws → (length vs ≤ 1024) × Sound ws
-  levels-ready e = let ready = judge-ready e in (ready .0, accepted-sound (length vs) ws (ready .0) (ready .1))
+  pub levels-ready : answered tt ≡ tested vs ws → (length vs ≤ 1024) × (Sound ws × PlainBelow (2 * length vs) ws)
+  levels-ready e =
+      let ready = judge-ready e in
+      let plain = each-map (λ r below. below .2) (rulesOf ws) (accepted-below (length vs) ws (ready .1)) in
+      (ready .0, (accepted-sound (length vs) ws (ready .0) (ready .1), plain))

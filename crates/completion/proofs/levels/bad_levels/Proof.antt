@@ -1,7 +1,7 @@
 -- `completion::levels::bad_levels` meets its contract.
 -- Assumes nothing.
 use Rattle.basics.proofs.Loops.{at-place, no-place}
-use Rattle.completion.proofs.Judging.{says-count, says-rules}
+use Rattle.completion.proofs.Judging.{says-count, says-rules, as-many}
 use borrow.Author.Needs.{needs}
 use Rattle.completion.proofs.levels.bad_levels.Statement.{statement}
 use Rattle.completion.proofs.levels.bad_levels.Tie as tie
@@ -19,7 +19,10 @@ enum-told : tie.Need-enum-told
 enum-told c = search needs
 
 first-not-above-requires : tie.Need-first-not-above-requires
-first-not-above-requires c κs = search needs
+first-not-above-requires c κs =
+    let w = c .before .before in
+    let h = w .before .before .before .pre in
+    (h .1 .0, rw (as-many _ _ (no-place (w .wrong-count .ensures) (c .enum-told .given .1))) (h .1 .1))
 
 returns-2 : tie.Need-returns-2
 returns-2 c =

@@ -11,6 +11,8 @@ use Rattle.rule_tables.specs.Internal.{Sound}
 use Rattle.completion_theory.specs.LevelLists.{standsAbove}
 use Rattle.rule_tables.proofs.Fronts.{left-behind, shorter}
 use Rattle.rule_tables.proofs.Walking.{rule-stop, rule-go, rule-end, sound-size, sound-rest}
+use Rattle.completion.specs.Internal.{Levelled}
+use Rattle.completion.proofs.Fronts.{plain-front}
 use Rattle.completion.proofs.levels.first_not_above.Statement.{statement}
 use Rattle.completion.proofs.levels.first_not_above.Tie as tie
 
@@ -18,19 +20,22 @@ abbrev Inv-loop : tie.InvT-loop
 Inv-loop table levels rest₀ rule₀ rest rule =
     (length rest ≤ length table) × Sound rest
     × (first (λ r. not (standsAbove levels r)) rule (rulesOf rest) ≡ first (λ r. not (standsAbove levels r)) 0 (rulesOf table)) ×
-    (rule + length rest ≤ length table)
+    (rule + length rest ≤ length table) × Levelled levels rest
 
 abbrev μ-loop : tie.MeasureT-loop
 μ-loop table levels rest₀ rule₀ rest rule = length rest
 
 loop-holds : tie.Need-loop-holds Inv-loop μ-loop
-loop-holds c = (omega arith, c .before .before .pre, refl, omega arith)
+loop-holds c = let h = c .before .before .pre in (omega arith, h .0, refl, omega arith, h .1)
 
 rule-size-requires : tie.Need-rule-size-requires Inv-loop μ-loop
 rule-size-requires c κs = tt
 
 stands-above-requires : tie.Need-stands-above-requires Inv-loop μ-loop
-stands-above-requires c κs = sound-size _ (c .before .loop-test .taken) (c .before .before .loop .inv .1)
+stands-above-requires c κs =
+    let l = c .before .before .loop in
+    let h = c .before .loop-test .taken in
+    (sound-size _ h (l .inv .1), plain-front _ (l .rest .now) h (l .inv .4) .0)
 
 returns : tie.Need-returns Inv-loop μ-loop
 returns c =
@@ -76,6 +81,7 @@ loop-again c =
       sound-rest ws h (c5 .loop .inv .1),
       rule-go _ _ ws h (c5 .loop .inv .2) (ap not (sym (c2 .stands-above .ensures)) ∙ c .before .if1 .left),
       omega (arith, shorter ws h),
+      plain-front _ ws h (c5 .loop .inv .4) .1,
     )
 
 returns-2 : tie.Need-returns-2 Inv-loop μ-loop

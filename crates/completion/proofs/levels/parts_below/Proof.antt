@@ -3,11 +3,14 @@
 use borrow.Author.Needs.{needs}
 use native.Mathlib.Omega.{arith}
 use mathlib.Core.Path.{_≡_, refl}
-use Prim.Native.Nat.{ℕ, _≤_, _-_}
+use mathlib.Core.List.{List}
+use Prim.Native.Nat.{ℕ, _≤_, _<_, _-_}
 use lib.ListN.{length, getD, drop}
 use Rattle.basics.specs.Search.{all}
+use Rattle.basics.proofs.Tests.{each-at}
 use Rattle.basics.proofs.Loops.{all-stop, all-go, all-done}
 use Rattle.completion_theory.specs.LevelLists.{isBelow}
+use Rattle.completion.specs.Internal.{HaveLevels}
 use Rattle.completion.proofs.Fronts.{not-below, below}
 use Rattle.completion.proofs.levels.parts_below.Statement.{statement}
 use Rattle.completion.proofs.levels.parts_below.Tie as tie
@@ -18,29 +21,42 @@ Inv-loop parts levels top i₀ i = (i ≤ length parts) × (all (isBelow levels 
 abbrev μ-loop : tie.MeasureT-loop
 μ-loop parts levels top i₀ i = length parts - i
 
+-- part i has a level
+has-level : (levels parts : List ℕ) → HaveLevels levels parts → (i : ℕ) → i < length parts → getD parts i 0 < length levels
+has-level levels parts have i b = each-at (λ c. c < length levels) 0 parts .0 have i b
+
 loop-holds : tie.Need-loop-holds Inv-loop μ-loop
 loop-holds c = (omega arith, refl)
 
-mul-word : tie.Need-mul-word Inv-loop μ-loop
-mul-word c = search needs
+mul-code : tie.Need-mul-code Inv-loop μ-loop
+mul-code c = search needs
 
-shared-slice-read-word : tie.Need-shared-slice-read-word Inv-loop μ-loop
-shared-slice-read-word c = omega arith
+shared-slice-read-code : tie.Need-shared-slice-read-code Inv-loop μ-loop
+shared-slice-read-code c = omega arith
 
-cast-word : tie.Need-cast-word Inv-loop μ-loop
-cast-word c = omega (arith, c .shared-slice-known3 .given (c .before .before .loop .i))
+cast-code : tie.Need-cast-code Inv-loop μ-loop
+cast-code c = omega (arith, c .shared-slice-known .given (c .before .before .loop .i))
 
-word-requires : tie.Need-word-requires Inv-loop μ-loop
-word-requires c κs = tt
+mul-part : tie.Need-mul-part Inv-loop μ-loop
+mul-part c = omega (arith, c .shared-slice-known .given (c .before .before .loop .i))
+
+shared-slice-read-part : tie.Need-shared-slice-read-part Inv-loop μ-loop
+shared-slice-read-part c =
+    let s = c .before .before .before .before in
+    has-level (s .args .levels .now) (s .args .parts .now) (s .pre) (c .before .before .before .loop .i) (c .before .before .loop-test .taken)
+
+cast-part : tie.Need-cast-part Inv-loop μ-loop
+cast-part c =
+    let s = c .before .before .before .before in
+    omega (arith, c .shared-slice-known2 .given (getD (s .args .parts .now) (c .before .before .before .loop .i) 0))
 
 returns : tie.Need-returns Inv-loop μ-loop
 returns c =
     let c3 = c .before .before .before in
     let c4 = c3 .before in
-    let a = c4 .before .before .before .args in
+    let a = c4 .before .args in
     all-stop _ _ (c4 .loop .i) 0 (c3 .loop-test .taken) (c4 .loop .inv .1)
-    (not-below (a .levels .now) (a .top) (c .before .word .result) (getD (a .parts .now) (c4 .loop .i) 0)
-    (c .before .word .ensures .0) (omega arith))
+    (not-below (a .levels .now) (a .top) _ (getD (a .parts .now) (c4 .loop .i) 0) refl (c .if1 .taken))
 
 add-i : tie.Need-add-i Inv-loop μ-loop
 add-i c = omega arith
@@ -52,11 +68,10 @@ loop-again : tie.Need-loop-again Inv-loop μ-loop
 loop-again c =
     let c3 = c .before .before .before in
     let c4 = c3 .before in
-    let a = c4 .before .before .before .args in (
+    let a = c4 .before .args in (
       omega arith,
       all-go _ _ (c4 .loop .i) 0 (c3 .loop-test .taken) (c4 .loop .inv .1)
-          (below (a .levels .now) (a .top) (c .before .word .result) (getD (a .parts .now) (c4 .loop .i) 0)
-          (c .before .word .ensures .0) (omega arith)),
+          (below (a .levels .now) (a .top) _ (getD (a .parts .now) (c4 .loop .i) 0) refl (c .if1 .left)),
     )
 
 returns-2 : tie.Need-returns-2 Inv-loop μ-loop
@@ -69,10 +84,12 @@ parts-below-spec =
     Inv-loop
     μ-loop
     loop-holds
-    mul-word
-    shared-slice-read-word
-    cast-word
-    word-requires
+    mul-code
+    shared-slice-read-code
+    cast-code
+    mul-part
+    shared-slice-read-part
+    cast-part
     returns
     add-i
     loop-less

@@ -26,7 +26,10 @@ word-requires : tie.Need-word-requires
 word-requires c κs = tt
 
 parts-below-requires : tie.Need-parts-below-requires
-parts-below-requires c κs = tt
+parts-below-requires c κs =
+    let p = c .before in
+    let s = p .before .before .before .before .before in
+    rw (p .plain-parts .ensures ∙ sym (plain-whole (s .args .rest .now) (s .pre .0))) (s .pre .1)
 
 returns-2 : tie.Need-returns-2
 returns-2 c =
@@ -34,7 +37,7 @@ returns-2 c =
     let p = w .before in
     let i = p .before in
     let s = i .before .before .before .before in
-    let plain = p .plain-parts .ensures ∙ sym (plain-whole (s .args .rest .now) (s .pre)) in
+    let plain = p .plain-parts .ensures ∙ sym (plain-whole (s .args .rest .now) (s .pre .0)) in
     literal-above (s .args .levels .now) (s .args .rest .now) _ _ (i .if1 .left) (w .word .ensures .0)
     (rw plain at (c .parts-below .ensures))
 
