@@ -19,8 +19,8 @@ use Rattle.logic_programs.specs.Literals.{Lits}
 use Rattle.logic_programs.specs.Rules.{Rule}
 use Rattle.logic_programs.specs.AnswerSets.{Subset, Closed, reduct, literalHeaded}
 use Rattle.logic_programs.specs.Words.{rulesOf}
-use Rattle.rule_tables.specs.Marks.{marked}
-use Rattle.rule_tables.proofs.Bits.{withMark, in-clear, in-stored, length-with}
+use Rattle.literal_sets.specs.Marks.{marked}
+use Rattle.literal_sets.proofs.Bits.{withMark, in-clear, in-stored, length-with}
 use Rattle.answer_set_theory.specs.Verdicts.{round, rounds}
 use Rattle.answer_sets.specs.Derived.{Derived}
 use Rattle.answer_sets.specs.Internal.{headWordAt, plainAt, heads, waitsFor, Waiting, EachWaiting, Begun, Made}

@@ -14,10 +14,10 @@ use lib.ListN.{length, getD, set, replicate}
 use lib.Pow.{pow-add, pow-mono, shl-exact, shl-shr, shr-shr}
 use lib.Seq.{getD-set-same, getD-set-other}
 use Rattle.logic_programs.specs.Literals.{setOf, holdsTrue, holdsFalse}
-use Rattle.rule_tables.specs.Marks.{bit, marked}
+use Rattle.literal_sets.specs.Marks.{bit, marked}
 use Rattle.answer_set_theory.specs.Verdicts.{bothValues}
-use Rattle.rule_tables.proofs.Bits.{bit-or, in-clear}
-use Rattle.rule_tables.proofs.Lookups.{setOf-past}
+use Rattle.literal_sets.proofs.Bits.{bit-or, in-clear}
+use Rattle.literal_sets.proofs.Lookups.{setOf-past}
 
 -- bits of a number that is shifted up
 

@@ -10,7 +10,7 @@ use Rattle.basics.specs.Search.{first}
 use Rattle.logic_programs.specs.Literals.{Lits}
 use Rattle.logic_programs.specs.Rules.{Rule}
 use Rattle.logic_programs.specs.AnswerSets.{reduct, literalHeaded, IsLeastClosed}
-use Rattle.rule_tables.specs.Marks.{marked}
+use Rattle.literal_sets.specs.Marks.{marked}
 use Rattle.answer_set_theory.specs.Verdicts.{isBroken, rounds}
 
 -- 32 words whose bits are set at exactly the codes of the least set closed under the rules with literal heads of the reduct of

@@ -13,7 +13,7 @@ use Rattle.logic_programs.specs.Literals.{Lits}
 use Rattle.logic_programs.specs.AnswerSets.{Closed, Subset, reduct, literalHeaded}
 use Rattle.logic_programs.specs.Words.{ruleSize, ruleAt, rulesOf}
 use Rattle.answer_set_theory.specs.Verdicts.{round}
-use Rattle.rule_tables.specs.Marks.{marked}
+use Rattle.literal_sets.specs.Marks.{marked}
 
 -- the head's word and the plain parts of the rule that starts at word s
 abbrev pub headWordAt : List ℕ → ℕ → ℕ

@@ -1,14 +1,14 @@
 // The least set closed under the reduct's rules with literal heads, by rounds from 2,048 clear marks.
 use crate::pending;
 use basics::Found;
-use rule_tables::marks;
+use literal_sets::marks;
 ghost use mathlib.Core.Path.{_≡_};
 ghost use mathlib.Core.Option.{none};
 ghost use Prim.Native.Nat.{_≤_};
 ghost use lib.ListN.{length, take, replicate};
 ghost use Rattle.basics.specs.Search.{first, placeOf};
 ghost use Rattle.logic_programs.specs.Words.{rulesOf, badRule};
-ghost use Rattle.rule_tables.specs.Marks.{marked};
+ghost use Rattle.literal_sets.specs.Marks.{marked};
 ghost use Rattle.answer_set_theory.specs.Verdicts.{isBroken};
 ghost use Rattle.answer_sets.specs.Derived.{Derived};
 ghost use Rattle.answer_sets.specs.Internal.{EachWaiting, Made, Roomy};

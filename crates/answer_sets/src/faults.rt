@@ -3,7 +3,7 @@ use crate::Answer;
 use crate::derivation;
 use crate::values;
 use basics::Found;
-use rule_tables::marks;
+use literal_sets::marks;
 ghost use mathlib.Core.Path.{_≡_};
 ghost use mathlib.Core.Option.{none};
 ghost use Prim.Native.Nat.{_*_, _≤_};
@@ -14,7 +14,7 @@ ghost use Rattle.logic_programs.specs.Literals.{setOf, badValue};
 ghost use Rattle.answer_set_theory.specs.Verdicts.{verdict, bothValues, isUnfounded};
 ghost use Rattle.logic_programs.specs.Words.{rulesOf, badRule};
 ghost use Rattle.answer_sets.specs.Answers.{replyOf};
-ghost use Rattle.rule_tables.specs.Marks.{marked};
+ghost use Rattle.literal_sets.specs.Marks.{marked};
 
 // The lowest atom with both values.
 fn first_clash(values: &[u8]) -> Found

@@ -1,7 +1,7 @@
 // The rules that a derivation still has to look at: the words at which they start and, beside each, a literal that its body waits
 // for, or 65535 if none is known.
 use basics::Found;
-use rule_tables::marks;
+use literal_sets::marks;
 use rule_tables::table;
 ghost use mathlib.Core.Path.{_≡_};
 ghost use mathlib.Core.Bool.{not, _&&_};
@@ -11,7 +11,7 @@ ghost use lib.Dec.{ltb};
 ghost use lib.ListN.{length, replicate};
 ghost use Rattle.basics.specs.Search.{first, placeOf};
 ghost use Rattle.logic_programs.specs.Words.{ruleSize, rulesOf};
-ghost use Rattle.rule_tables.specs.Marks.{marked};
+ghost use Rattle.literal_sets.specs.Marks.{marked};
 ghost use Rattle.rule_tables.specs.Internal.{Sound};
 ghost use Rattle.answer_set_theory.specs.Verdicts.{isBroken};
 ghost use Rattle.answer_sets.specs.Internal.{outside, waitsFor, Begun, Roomy};

@@ -14,7 +14,7 @@ use Rattle.basics.proofs.Loops.{to-the-end}
 use Rattle.action_language.specs.declared.Law.{Law}
 use Rattle.action_language.specs.Atoms.{atomCount}
 use Rattle.action_language.specs.Meaning.{Interpretation, stateAt, actionAt}
-use Rattle.causal_steps.specs.Applying.{read, appliesAtStart, contradicts}
+use Rattle.law_effects.specs.Applying.{read, appliesAtStart, contradicts}
 use Rattle.causal_reading.specs.Verdicts.{path, stepVerdict}
 
 start-state : (n m : ℕ) (vs : List ℕ) → read vs ≡ stateAt n m vs 0

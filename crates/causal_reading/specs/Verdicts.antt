@@ -8,7 +8,7 @@ use Rattle.basics.specs.Search.{first, range}
 use Rattle.basics.specs.Replies.{orElse}
 use Rattle.action_language.specs.declared.Law.{Law}
 use Rattle.action_language.specs.Meaning.{Interpretation, stateAt, actionAt}
-use Rattle.causal_steps.specs.Applying.{appliesAtStart, appliesInStep, literalIn, someCause, contradicts}
+use Rattle.law_effects.specs.Applying.{appliesAtStart, appliesInStep, literalIn, someCause, contradicts}
 
 pub data Causal : Type 0 where
   contradicted : ℕ → ℕ → Causal

@@ -11,7 +11,7 @@ ghost use Rattle.basics.specs.Replies.{answered};
 ghost use Rattle.action_language.specs.Laws.{lawsOf};
 ghost use Rattle.action_language.specs.Atoms.{atomCount};
 ghost use Rattle.action_language.specs.Meaning.{stateAt, actionAt};
-ghost use Rattle.causal_steps.specs.Applying.{read};
+ghost use Rattle.law_effects.specs.Applying.{read};
 ghost use Rattle.causal_reading.specs.Verdicts.{path, stepVerdict, stepsFrom, causalVerdict};
 ghost use Rattle.causal_reading.specs.Readings.{replyOf, reading};
 

@@ -1,5 +1,3 @@
 -- Laws of trying the laws of a step: those that its functions' proofs cite, and those that the theorems above cite.
-pub mod Interpretations
-pub mod Prefixes
 pub mod CausedHeads
 pub mod Trying

@@ -20,12 +20,13 @@ use Rattle.action_language.specs.declared.Head.{Head}
 use Rattle.action_language.specs.declared.Head.the-variants.{Lit, False}
 use Rattle.action_language.specs.declared.Law.{Law}
 use Rattle.action_language.specs.Meaning.{Interpretation, satisfies, satisfiesHead, caused}
-use Rattle.causal_steps.specs.Applying.{appliesInStep, literalIn, headIs, someCause, contradicts}
+use Rattle.law_effects.specs.Applying.{appliesInStep, literalIn, headIs, someCause, contradicts}
 use Rattle.causal_steps.specs.Marked.{before, markedCaused, MarksOf}
-use Rattle.causal_steps.specs.Internal.{effectOf, isCause, headMarked}
-use Rattle.causal_steps.specs.declared.laws.Effect.{Effect}
-use Rattle.causal_steps.specs.declared.laws.Effect.the-variants.{Idle, Causes, Contradicts}
-use Rattle.causal_steps.proofs.laws.Effect.{the-type}
+use Rattle.law_effects.specs.Effects.{effectOf}
+use Rattle.causal_steps.specs.Internal.{isCause, headMarked}
+use Rattle.law_effects.specs.declared.laws.Effect.{Effect}
+use Rattle.law_effects.specs.declared.laws.Effect.the-variants.{Idle, Causes, Contradicts}
+use Rattle.law_effects.proofs.laws.Effect.{the-type}
 use Rattle.causal_steps.proofs.CausedHeads.{cause-iff-caused}
 
 -- a law that contradicts

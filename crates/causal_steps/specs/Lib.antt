@@ -1,4 +1,3 @@
 -- What laws do in a step. Read in this order.
-pub mod Applying
 pub mod Marked
 pub mod Internal

@@ -1,18 +1,17 @@
 // What laws do in a step: which apply, the lowest that contradicts the new state, and what is caused.
-mod laws;
-mod literals;
 mod marks;
-mod values;
 
 use action_language::Law;
 use basics::Found;
-use laws::Effect;
+use law_effects::laws;
+use law_effects::laws::Effect;
+use law_effects::values;
 ghost use mathlib.Core.Path.{_≡_};
 ghost use mathlib.Core.Bool.{not};
 ghost use lib.ListN.{take};
 ghost use Rattle.basics.specs.Search.{first, range, placeOf};
 ghost use Rattle.action_language.specs.Meaning.{caused};
-ghost use Rattle.causal_steps.specs.Applying.{read, literalIn, contradicts, appliesAtStart, appliesInStep};
+ghost use Rattle.law_effects.specs.Applying.{read, literalIn, contradicts, appliesAtStart, appliesInStep};
 ghost use Rattle.causal_steps.specs.Marked.{before, markedCaused, MarksOf};
 
 // The lowest law that contradicts the new state, and the marks of what the laws before it cause, one mark a code.

@@ -1,7 +1,7 @@
 // Marks of literals, one a code.
-use crate::laws::Effect;
-use crate::values;
 use action_language::Head;
+use law_effects::laws::Effect;
+use law_effects::values;
 ghost use mathlib.Core.Path.{_≡_};
 ghost use mathlib.Core.Bool.{false, cond, _||_};
 ghost use Prim.Native.Nat.{ℕ, _+_, _*_, _≤_};

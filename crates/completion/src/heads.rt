@@ -1,7 +1,7 @@
 // The heads that have a body that holds, as marks: one for each literal code, and one behind them for false.
 use basics::Found;
+use literal_sets::values;
 use rule_tables::table;
-use rule_tables::values;
 ghost use mathlib.Core.Path.{_≡_};
 ghost use mathlib.Core.Bool.{false};
 ghost use Prim.Native.Nat.{_*_, _≤_, _<_};

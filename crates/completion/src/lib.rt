@@ -6,8 +6,8 @@ mod levels;
 
 use basics::Found;
 use basics::Tested;
+use literal_sets::values::Fault;
 use rule_tables::acceptance;
-use rule_tables::values::Fault;
 ghost use mathlib.Core.Path.{_≡_};
 ghost use mathlib.Core.Option.{none};
 ghost use Prim.Native.Nat.{_≤_};
@@ -53,7 +53,7 @@ fn judge(values: &[u8], table: &[u16]) -> Answer
     requires { ⌜ badRule (length (now values)) (now table) ≡ none ⌝ }
     ensures { λ r. ⌜ replyOf r ≡ answered (formulaFinding (now (values .entry)) (now (table .entry))) ⌝ }
 {
-    let fault = rule_tables::values::first_fault(values);
+    let fault = literal_sets::values::first_fault(values);
     match fault {
         Fault::Missing(atom) => Answer::Missing(atom),
         Fault::Clash(atom) => Answer::Clash(atom),

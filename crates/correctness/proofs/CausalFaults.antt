@@ -19,7 +19,7 @@ use Rattle.action_language.specs.declared.Description.{Description}
 use Rattle.action_language.specs.Laws.{isStatic, ifList, noLaw, lawsOf}
 use Rattle.action_language.specs.Meaning.{Interpretation, holds, satisfiesHead, stateAt, actionAt}
 use Rattle.causal_reading.specs.declared.Reading.{Reading}
-use Rattle.causal_steps.specs.Applying.{appliesAtStart, appliesInStep, literalIn, someCause, contradicts}
+use Rattle.law_effects.specs.Applying.{appliesAtStart, appliesInStep, literalIn, someCause, contradicts}
 use Rattle.causal_reading.specs.Verdicts.{Causal, contradicted, uncaused, path, stepsFrom, causalVerdict}
 use Rattle.causal_reading.specs.Readings as causal
 use Rattle.correctness.specs.Demand3.{Complete}

@@ -16,7 +16,7 @@ use Rattle.action_language.specs.declared.Law.{Law}
 use Rattle.action_language.specs.Meaning.{Interpretation, satisfies, satisfiesHead, caused, SatisfiesAll, Explained}
 use Rattle.basics.proofs.Parity.{even-or-odd}
 use Rattle.action_language.proofs.Literals.{satisfies-even, satisfies-odd}
-use Rattle.causal_steps.specs.Applying.{appliesInStep, literalIn, headIs, someCause}
+use Rattle.law_effects.specs.Applying.{appliesInStep, literalIn, headIs, someCause}
 use Rattle.causal_steps.proofs.CausedHeads.{cause-heads, heads-cause, caused-iff}
 
 -- The literal of a fluent that holds

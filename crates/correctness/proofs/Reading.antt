@@ -19,7 +19,7 @@ use Rattle.action_language.specs.Laws.{isStatic, ifList, afterList}
 use Rattle.action_language.specs.Meaning.{Interpretation, holds, satisfiesHead, together, Explained, SatisfiesStatic}
 use Rattle.action_language.specs.Meaning.{State, stateAt, actionAt, Path}
 use Rattle.basics.specs.Replies.{orElse}
-use Rattle.causal_steps.specs.Applying.{appliesAtStart, appliesInStep, literalIn, someCause, contradicts}
+use Rattle.law_effects.specs.Applying.{appliesAtStart, appliesInStep, literalIn, someCause, contradicts}
 use Rattle.causal_reading.specs.Verdicts.{Causal, contradicted, uncaused, path, stepVerdict, stepsFrom, causalVerdict}
 use Rattle.causal_steps.proofs.CausedHeads.{Heads, caused-iff}
 use Rattle.correctness.proofs.Explained.{explained-iff}

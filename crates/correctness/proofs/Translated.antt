@@ -35,7 +35,7 @@ use Rattle.action_language.proofs.Fits.{CodesBelow, HeadBelow, AfterBelow, Fits
 use Rattle.rule_words.specs.RuleForms.{atTime, headAt, literalsAt, staticRule}
 use Rattle.translation.specs.Rules.{translation}
 use Rattle.translation_bounds.proofs.RuleByRule.{stepRule, AtStart, AtChoice, EachRule, each-rule}
-use Rattle.causal_steps.specs.Applying.{appliesAtStart, literalIn, headIs, someCause}
+use Rattle.law_effects.specs.Applying.{appliesAtStart, literalIn, headIs, someCause}
 use Rattle.causal_steps.proofs.CausedHeads.{cause-heads, heads-cause}
 use Rattle.correctness.proofs.Explained.{satisfied-literal, literal-holds, literal-below}
 use Rattle.correctness.proofs.Reading.{Obeyed, Supplied, inStep, path-iff}

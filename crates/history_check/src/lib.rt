@@ -3,7 +3,7 @@ use action_language::Description;
 use action_language::Law;
 use answer_sets::Answer;
 use basics::Tested;
-use rule_tables::values::Fault;
+use literal_sets::values::Fault;
 use translation::Translated;
 ghost use mathlib.Core.Path.{_≡_};
 ghost use lib.ListN.{length};
@@ -37,7 +37,7 @@ fn from_engine(answer: Answer) -> Checked
 pub fn verdict(values: &[u8], words: &[u16]) -> Checked
     ensures { λ r. ⌜ replyOf r ≡ finding (now (values .entry)) (now (words .entry)) ⌝ }
 {
-    let fault = rule_tables::values::first_fault(values);
+    let fault = literal_sets::values::first_fault(values);
     match fault {
         Fault::Missing(atom) => Checked::Missing(atom),
         Fault::Clash(atom) => Checked::Clash(atom),

@@ -1,8 +1,5 @@
--- The laws that the functions' proofs cite, and worked examples.
-pub mod Bits
+-- The laws that the functions' proofs cite.
 pub mod Fitting
 pub mod Fronts
-pub mod Lookups
-pub mod MarkExamples
 pub mod Testing
 pub mod Walking

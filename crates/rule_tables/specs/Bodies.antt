@@ -19,11 +19,6 @@ abbrev pub headIn : Head → Lits → Bool
 headIn (lit h) X = X h
 headIn falsum X = false
 
--- a mark is as wanted
-abbrev pub is : Bool → Bool → Bool
-is true b = b
-is false b = not b
-
 -- the negated and the plain parts of the rule at the front of a list of words; none where it runs past the end
 unfoldable pub frontNegated : List ℕ → List ℕ
 frontNegated ws = cond (leb (ruleSize ws) (length ws)) (ruleAt ws .negated) []

@@ -1,7 +1,4 @@
--- What the promises on rule tables, marks and values mean.
-pub mod Marks
+-- What the promises on rule tables mean.
 pub mod Bodies
-pub mod Faults
 pub mod Acceptance
 pub mod Internal
-pub mod MarkExamples

@@ -1,8 +1,8 @@
 // Refusals 10, 11 and 12: whether values and a rule table are accepted.
 use crate::table;
-use crate::values;
 use basics::Found;
 use basics::Tested;
+use literal_sets::values;
 ghost use mathlib.Core.Path.{_≡_};
 ghost use Rattle.basics.specs.Replies.{testedOf};
 ghost use Rattle.rule_tables.specs.Acceptance.{tested};

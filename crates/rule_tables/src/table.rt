@@ -1,12 +1,12 @@
 // The words of a rule table. A slice of words stands for the rules from its front on.
-use crate::marks;
 use basics::Found;
+use literal_sets::marks;
 ghost use mathlib.Core.Path.{_≡_};
 ghost use Prim.Native.Nat.{_≤_, _<_};
 ghost use lib.ListN.{length, getD};
 ghost use Rattle.basics.specs.Replies.{refusalOf, refusal};
 ghost use Rattle.rule_tables.specs.Bodies.{headIn, frontNegated, frontPlain, frontApplies};
-ghost use Rattle.rule_tables.specs.Marks.{marked};
+ghost use Rattle.literal_sets.specs.Marks.{marked};
 ghost use Rattle.logic_programs.specs.Words.{ruleSize, ruleAt, ruleFits, headFits, headOf, partsFit, badRule};
 
 // A word, or 0 past the end.

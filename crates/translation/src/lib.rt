@@ -72,7 +72,7 @@ pub fn translate_for_history(
             if values.len() != atoms {
                 return Translated::Refused(10, values.len());
             }
-            if let Found::At(place) = rule_tables::values::bad_value(values) {
+            if let Found::At(place) = literal_sets::values::bad_value(values) {
                 return Translated::Refused(11, place);
             }
             if let Tested::Refused(number, place) = later {

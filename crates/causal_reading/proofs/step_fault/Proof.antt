@@ -7,7 +7,7 @@ use native.Mathlib.Omega.{arith}
 use lib.ListN.{take}
 use Rattle.basics.specs.Search.{first, range, placeOf}
 use Rattle.basics.proofs.Loops.{at-place, no-place}
-use Rattle.causal_steps.specs.Applying.{read, appliesInStep, literalIn, someCause, contradicts}
+use Rattle.law_effects.specs.Applying.{read, appliesInStep, literalIn, someCause, contradicts}
 use Rattle.causal_steps.proofs.Trying.{unmarked-uncaused}
 use borrow.Author.Needs.{needs}
 use Rattle.causal_reading.proofs.step_fault.Statement.{statement}

@@ -6,8 +6,8 @@ use native.Mathlib.Omega.{arith}
 use lib.ListN.{length, take, drop}
 use Rattle.basics.specs.Search.{first}
 use Rattle.basics.proofs.Loops.{prefix-stop, prefix-go, prefix-done}
-use Rattle.causal_steps.specs.Applying.{read, contradicts, appliesAtStart}
-use Rattle.causal_steps.proofs.Prefixes.{take-least}
+use Rattle.law_effects.specs.Applying.{read, contradicts, appliesAtStart}
+use Rattle.law_effects.proofs.Prefixes.{take-least}
 use Rattle.causal_steps.proofs.first_broken.Statement.{statement}
 use Rattle.causal_steps.proofs.first_broken.Tie as tie
 

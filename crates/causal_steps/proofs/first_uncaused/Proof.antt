@@ -9,7 +9,7 @@ use native.Mathlib.Nat.{sub-zero}
 use native.Mathlib.Omega.{arith}
 use Rattle.basics.specs.Search.{first, range}
 use Rattle.basics.proofs.Loops.{range-stop, range-go, range-done}
-use Rattle.causal_steps.specs.Applying.{read, literalIn}
+use Rattle.law_effects.specs.Applying.{read, literalIn}
 use Rattle.causal_steps.specs.Marked.{markedCaused}
 use Rattle.causal_steps.proofs.first_uncaused.Statement.{statement}
 use Rattle.causal_steps.proofs.first_uncaused.Tie as tie

@@ -6,8 +6,8 @@ use mathlib.Core.Bool.{false}
 use mathlib.Core.Path.{_≡_}
 use native.Mathlib.Omega.{arith}
 use lib.ListN.{length, length-replicate}
-use Rattle.causal_steps.specs.Applying.{read}
-use Rattle.causal_steps.proofs.Prefixes.{take-least}
+use Rattle.law_effects.specs.Applying.{read}
+use Rattle.law_effects.proofs.Prefixes.{take-least}
 use Rattle.causal_steps.proofs.Trying.{Ahead, try-start, try-stop, try-go, try-done}
 use Rattle.causal_steps.proofs.try_laws.Statement.{statement}
 use Rattle.causal_steps.proofs.try_laws.Tie as tie

@@ -2,7 +2,7 @@
 -- Assumes nothing.
 use mathlib.Core.Path.{sym, _∙_, ap}
 use Rattle.basics.specs.Replies.{answered}
-use Rattle.rule_tables.specs.Faults.{faultOf}
+use Rattle.literal_sets.specs.Faults.{faultOf}
 use Rattle.completion.proofs.Judging.{says-fault}
 use borrow.Author.Needs.{needs}
 use Rattle.completion.proofs.judge.Statement.{statement}

@@ -1,7 +1,7 @@
 -- `history_check::verdict` meets its contract.
 -- Assumes nothing.
 use mathlib.Core.Path.{sym, ap, _∙_}
-use Rattle.rule_tables.specs.Faults.{faultOf}
+use Rattle.literal_sets.specs.Faults.{faultOf}
 use Rattle.history_check.specs.Checks.{ofEngine}
 use Rattle.history_check.proofs.Judging.{says-fault}
 use borrow.Author.Needs.{needs}

@@ -7,7 +7,7 @@ use Prim.Native.Nat.{ℕ, _≤_, _*_, _-_}
 use lib.ListN.{length}
 use Rattle.basics.proofs.Loops.{at-place, no-place}
 use Rattle.logic_programs.specs.Words.{rulesOf}
-use Rattle.rule_tables.specs.Marks.{marked}
+use Rattle.literal_sets.specs.Marks.{marked}
 use Rattle.rule_tables.proofs.Walking.{accepted-sound}
 use Rattle.answer_set_theory.proofs.Decoding.{accepted-below, codes-heads}
 use Rattle.answer_sets.proofs.Judging.{round-last, round-enough}

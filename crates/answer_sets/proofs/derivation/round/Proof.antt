@@ -4,7 +4,7 @@ use mathlib.Core.Logic.{⊎-elim, inl, inr}
 use native.Mathlib.Omega.{arith}
 use Prim.Native.Nat.{_-_}
 use lib.ListN.{length, take}
-use Rattle.rule_tables.specs.Marks.{marked}
+use Rattle.literal_sets.specs.Marks.{marked}
 use Rattle.answer_sets.proofs.Outside.{start-within, from-whole, from-head}
 use Rattle.answer_sets.proofs.Rounds.{Turned, turn-start, next, turn, turned}
 use Rattle.answer_sets.proofs.derivation.round.Statement.{statement}

@@ -5,7 +5,7 @@ use native.Mathlib.Omega.{arith}
 use mathlib.Core.Path.{_≡_, sym, _∙_}
 use Prim.Native.Nat.{_≤_, _-_}
 use Rattle.basics.specs.Search.{first, range}
-use Rattle.rule_tables.specs.Marks.{marked}
+use Rattle.literal_sets.specs.Marks.{marked}
 use Rattle.basics.proofs.Loops.{range-stop, range-go, range-done}
 use Rattle.answer_set_theory.specs.Verdicts.{isUnfounded}
 use Rattle.answer_sets.proofs.Judging.{none-unfounded}

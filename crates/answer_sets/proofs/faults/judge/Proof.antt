@@ -5,7 +5,7 @@ use native.Mathlib.Omega.{arith}
 use borrow.Author.Needs.{needs}
 use Rattle.basics.specs.Replies.{answered}
 use Rattle.basics.proofs.Loops.{at-place, no-place}
-use Rattle.rule_tables.specs.Marks.{marked}
+use Rattle.literal_sets.specs.Marks.{marked}
 use Rattle.answer_sets.proofs.Judging.{says-clash, says-broken, says-unfounded, says-passes}
 use Rattle.answer_sets.proofs.faults.judge.Statement.{statement}
 use Rattle.answer_sets.proofs.faults.judge.Tie as tie

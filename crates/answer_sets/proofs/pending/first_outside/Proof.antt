@@ -5,7 +5,7 @@ use mathlib.Core.Path.{_≡_, refl, sym, _∙_}
 use Prim.Native.Nat.{_≤_, _-_}
 use borrow.Author.Tests.{not-true, not-false}
 use lib.ListN.{length, drop}
-use Rattle.rule_tables.specs.Marks.{marked}
+use Rattle.literal_sets.specs.Marks.{marked}
 use Rattle.answer_sets.specs.Internal.{outside}
 use Rattle.answer_sets.proofs.Outside.{outside-stop, outside-go, outside-done}
 use Rattle.answer_sets.proofs.pending.first_outside.Statement.{statement}

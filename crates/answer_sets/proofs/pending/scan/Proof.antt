@@ -5,7 +5,7 @@ use native.Mathlib.Omega.{arith}
 use mathlib.Core.Path.{_≡_}
 use Prim.Native.Nat.{ℕ}
 use lib.ListN.{length}
-use Rattle.rule_tables.specs.Marks.{marked}
+use Rattle.literal_sets.specs.Marks.{marked}
 use Rattle.rule_tables.proofs.Fronts.{left-behind, shorter}
 use Rattle.answer_sets.proofs.Starts.{Scanned, scan-start, below, here, up-to, room, scan-stop, scan-turn, scan-unbroken, scan-done}
 use Rattle.answer_sets.proofs.pending.scan.Statement.{statement}

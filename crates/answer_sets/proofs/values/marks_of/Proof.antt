@@ -8,7 +8,7 @@ use borrow.Author.Tests.{ltb-false}
 use lib.Dec.{ltb}
 use lib.ListN.{length, getD, length-set}
 use Rattle.basics.proofs.Tests.{first-none}
-use Rattle.rule_tables.specs.Marks.{marked}
+use Rattle.literal_sets.specs.Marks.{marked}
 use Rattle.logic_programs.specs.Literals.{setOf}
 use Rattle.answer_sets.proofs.Stores.{fill-start, fill-step, fill-done}
 use Rattle.answer_sets.proofs.values.marks_of.Statement.{statement}

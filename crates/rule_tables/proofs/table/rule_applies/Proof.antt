@@ -1,7 +1,7 @@
 -- `rule_tables::table::rule_applies` meets its contract.
 -- Assumes nothing.
 use native.Mathlib.Omega.{arith}
-use Rattle.rule_tables.specs.Marks.{marked}
+use Rattle.literal_sets.specs.Marks.{marked}
 use Rattle.rule_tables.proofs.Fronts.{applies-short, applies-stop, applies-go}
 use Rattle.rule_tables.proofs.table.rule_applies.Statement.{statement}
 use Rattle.rule_tables.proofs.table.rule_applies.Tie as tie

@@ -1,0 +1,3 @@
+-- What one law does. Read in this order.
+pub mod Applying
+pub mod Effects

@@ -1,0 +1,4 @@
+-- What the promises on marks and values mean.
+pub mod Marks
+pub mod Faults
+pub mod MarkExamples
