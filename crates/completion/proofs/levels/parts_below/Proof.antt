@@ -42,8 +42,9 @@ mul-part c = omega (arith, c .shared-slice-known .given (c .before .before .loop
 
 shared-slice-read-part : tie.Need-shared-slice-read-part Inv-loop μ-loop
 shared-slice-read-part c =
-    let s = c .before .before .before .before in
-    has-level (s .args .levels .now) (s .args .parts .now) (s .pre) (c .before .before .before .loop .i) (c .before .before .loop-test .taken)
+    let t = c .before .before in
+    let s = t .before .before in
+    has-level (s .args .levels .now) (s .args .parts .now) (s .pre) (t .before .loop .i) (t .loop-test .taken)
 
 cast-part : tie.Need-cast-part Inv-loop μ-loop
 cast-part c =
