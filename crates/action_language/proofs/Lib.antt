@@ -1,6 +1,5 @@
 -- The laws of descriptions that proofs above cite, and the worked examples.
 pub mod Laws
 pub mod Atoms
-pub mod Literals
 pub mod Fits
-pub mod MeaningExamples
+pub mod RecordExamples

@@ -1,7 +1,6 @@
--- What a description means. Read in this order.
+-- Law records, atoms, and what is accepted. Read in this order.
 pub mod Laws
 pub mod Atoms
-pub mod Meaning
 pub mod Acceptance
 pub mod Examples
-pub mod MeaningExamples
+pub mod RecordExamples

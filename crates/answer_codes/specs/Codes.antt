@@ -4,7 +4,7 @@
 use Prim.Native.Nat.{ℕ, _+_, _*_, _%_}
 use Rattle.basics.specs.Replies.{Reply, refused, answered}
 use Rattle.answer_set_theory.specs.Verdicts.{Verdict, clash, broken, unfounded, passes}
-use Rattle.translation.specs.Translated.{Written, written}
+use Rattle.translation_rules.specs.Translated.{Written, written}
 use Rattle.history_check.specs.Checks.{Finding, missing, judged}
 use Rattle.causal_reading.specs.Verdicts.{Causal, contradicted, uncaused, path}
 

@@ -8,7 +8,7 @@ ghost use mathlib.Core.Path.{_≡_};
 ghost use Prim.Native.Nat.{_<_};
 ghost use Rattle.answer_sets.specs.Answers;
 ghost use Rattle.completion.specs.Answers as completed;
-ghost use Rattle.translation.specs.Translated.{outcomeOf};
+ghost use Rattle.translation.specs.Answers.{outcomeOf};
 ghost use Rattle.history_check.specs.Checks;
 ghost use Rattle.causal_reading.specs.Readings;
 ghost use Rattle.history_reader.specs.Histories.{historyReplyOf};

@@ -67,12 +67,3 @@ module _ (Π : List Rule) (X Y : Lits) (k : ℕ) (is : Y ≡ rounds k Π X) wher
   -- so many rounds that the last one added nothing
   pub round-enough : (n : ℕ) → HeadsBelow (2 * n) Π → k ≡ 2 * n + 1 → Y ≡ rounds (2 * n) Π X
   round-enough n low e = is ∙ (rw (e, add-one (2 * n)) (rounds-settle (2 * n) Π X low))
-
--- no literal of a set is outside that set itself
-pub none-unfounded : (X : Lits) (k : ℕ) (cs : List ℕ) → none ≡ first (isUnfounded X X) k cs
-none-unfounded X k [] = refl
-none-unfounded X k (c ∷ cs) = rw (never (X c)) (none-unfounded X (suc k) cs)
-  where
-    never : (b : Bool) → (b && not b) ≡ false
-    never true = refl
-    never false = refl

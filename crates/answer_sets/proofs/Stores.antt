@@ -1,4 +1,4 @@
--- The marks of value bytes, filled atom by atom: two bits for each, which are the value's own; and atoms with both values.
+-- The marks of value bytes, filled atom by atom: two bits for each, which are the value's own.
 -- Assumes nothing.
 use mathlib.Core.Path.{_≡_, refl, _∙_, fun-ext}
 use mathlib.Core.Bool.{Bool, true, false, cond, _&&_, _||_, or-false}
@@ -15,7 +15,6 @@ use lib.Pow.{pow-add, pow-mono, shl-exact, shl-shr, shr-shr}
 use lib.Seq.{getD-set-same, getD-set-other}
 use Rattle.logic_programs.specs.Literals.{setOf, holdsTrue, holdsFalse}
 use Rattle.literal_sets.specs.Marks.{bit, marked}
-use Rattle.answer_set_theory.specs.Verdicts.{bothValues}
 use Rattle.literal_sets.proofs.Bits.{bit-or, in-clear}
 use Rattle.literal_sets.proofs.Lookups.{setOf-past}
 
@@ -135,21 +134,3 @@ fill-done vs a marks h inv = fun-ext (λ c. inv c ∙ whole c (ltb c (2 * a)) re
     whole c false e =
         let past : length vs ≤ c / 2 = omega (arith, ltb-false c (2 * a) e) in
         rw (e, setOf-past vs c past)
-
--- an atom has both values where its byte is 3
-pub both-values : (vs : List ℕ) (a : ℕ) → bothValues (setOf vs) a ≡ eqb (getD vs a 0) 3
-unfolding setOf holdsTrue holdsFalse
-both-values vs a =
-    let even : 2 * a % 2 ≡ 0 = omega arith in
-    let own : 2 * a / 2 ≡ a = omega arith in
-    let odd : (2 * a + 1) % 2 ≡ 1 = omega arith in
-    let too : (2 * a + 1) / 2 ≡ a = omega arith in
-    rw (even, own, odd, too) (three (getD vs a 0))
-  where
-    three : (v : ℕ) → ((eqb v 1 || eqb v 3) && (eqb v 2 || eqb v 3)) ≡ eqb v 3
-    three zero = refl
-    three (suc zero) = refl
-    three (suc (suc zero)) = refl
-    three (suc (suc (suc zero))) = refl
-    three (suc (suc (suc (suc v)))) =
-        rw (ne-eqb (suc (suc (suc (suc v)))) 1 (λ e. omega arith), ne-eqb (suc (suc (suc (suc v)))) 3 (λ e. omega arith))

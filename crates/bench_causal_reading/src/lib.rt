@@ -6,7 +6,7 @@ use causal_reading::Reading;
 use history_reader::HistoryAnswer;
 ghost use mathlib.Core.Path.{_≡_};
 ghost use Rattle.causal_reading.specs.Readings.{replyOf, reading};
-ghost use Rattle.huntyghai.specs.Texts.{readingOfInput};
+ghost use Rattle.huntyghai_theory.specs.Texts.{readingOfInput};
 
 // The causal reading of values that are there already, made once and so many times again; the last answer.
 fn repeated(d: Description, laws: [Law; 64], values: &[u8], times: usize) -> Reading

@@ -12,7 +12,7 @@ use denote.Enum.Declared.{tagOf}
 use Rattle.basics.specs.Search.{first, range}
 use Rattle.basics.specs.Replies.{answered, orElse}
 use Rattle.action_language.specs.declared.Law.{Law}
-use Rattle.action_language.specs.Meaning.{Interpretation, stateAt, actionAt}
+use Rattle.transitions.specs.Meaning.{Interpretation, stateAt, actionAt}
 use Rattle.causal_reading.specs.Verdicts.{Causal, contradicted, uncaused, path, stepVerdict, stepsFrom}
 use Rattle.causal_reading.specs.declared.Reading.{Reading}
 use Rattle.causal_reading.specs.declared.Reading.the-variants.{Refused, Contradicted, Uncaused, Path}

@@ -13,7 +13,7 @@ use Rattle.basics.specs.Search.{first}
 use Rattle.basics.proofs.Loops.{to-the-end}
 use Rattle.action_language.specs.declared.Law.{Law}
 use Rattle.action_language.specs.Atoms.{atomCount}
-use Rattle.action_language.specs.Meaning.{Interpretation, stateAt, actionAt}
+use Rattle.transitions.specs.Meaning.{Interpretation, stateAt, actionAt}
 use Rattle.law_effects.specs.Applying.{read, appliesAtStart, contradicts}
 use Rattle.causal_reading.specs.Verdicts.{path, stepVerdict}
 

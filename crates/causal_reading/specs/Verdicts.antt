@@ -7,7 +7,7 @@ use Prim.Native.Nat.{ℕ, zero, suc}
 use Rattle.basics.specs.Search.{first, range}
 use Rattle.basics.specs.Replies.{orElse}
 use Rattle.action_language.specs.declared.Law.{Law}
-use Rattle.action_language.specs.Meaning.{Interpretation, stateAt, actionAt}
+use Rattle.transitions.specs.Meaning.{Interpretation, stateAt, actionAt}
 use Rattle.law_effects.specs.Applying.{appliesAtStart, appliesInStep, literalIn, someCause, contradicts}
 
 pub data Causal : Type 0 where

@@ -10,7 +10,7 @@ ghost use lib.ListN.{length, take};
 ghost use Rattle.basics.specs.Replies.{answered};
 ghost use Rattle.action_language.specs.Laws.{lawsOf};
 ghost use Rattle.action_language.specs.Atoms.{atomCount};
-ghost use Rattle.action_language.specs.Meaning.{stateAt, actionAt};
+ghost use Rattle.transitions.specs.Meaning.{stateAt, actionAt};
 ghost use Rattle.law_effects.specs.Applying.{read};
 ghost use Rattle.causal_reading.specs.Verdicts.{path, stepVerdict, stepsFrom, causalVerdict};
 ghost use Rattle.causal_reading.specs.Readings.{replyOf, reading};

@@ -15,7 +15,7 @@ use Rattle.action_language.specs.declared.Kind.{Kind}
 use Rattle.action_language.specs.declared.Kind.the-variants.{Static, Dynamic}
 use Rattle.action_language.specs.declared.Law.{Law}
 use Rattle.action_language.specs.Laws.{ifList}
-use Rattle.action_language.specs.Meaning.{Interpretation, holds, causing, caused}
+use Rattle.transitions.specs.Meaning.{Interpretation, holds, causing, caused}
 use Rattle.law_effects.specs.Applying.{appliesInStep, headIs, someCause}
 
 -- whenever a law applies, its head has the property P

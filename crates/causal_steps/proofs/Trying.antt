@@ -19,7 +19,7 @@ use Rattle.basics.proofs.Stored.{getD-replicate, getD-set}
 use Rattle.action_language.specs.declared.Head.{Head}
 use Rattle.action_language.specs.declared.Head.the-variants.{Lit, False}
 use Rattle.action_language.specs.declared.Law.{Law}
-use Rattle.action_language.specs.Meaning.{Interpretation, satisfies, satisfiesHead, caused}
+use Rattle.transitions.specs.Meaning.{Interpretation, satisfies, satisfiesHead, caused}
 use Rattle.law_effects.specs.Applying.{appliesInStep, literalIn, headIs, someCause, contradicts}
 use Rattle.causal_steps.specs.Marked.{before, markedCaused, MarksOf}
 use Rattle.law_effects.specs.Effects.{effectOf}

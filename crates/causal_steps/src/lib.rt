@@ -10,7 +10,7 @@ ghost use mathlib.Core.Path.{_≡_};
 ghost use mathlib.Core.Bool.{not};
 ghost use lib.ListN.{take};
 ghost use Rattle.basics.specs.Search.{first, range, placeOf};
-ghost use Rattle.action_language.specs.Meaning.{caused};
+ghost use Rattle.transitions.specs.Meaning.{caused};
 ghost use Rattle.law_effects.specs.Applying.{read, literalIn, contradicts, appliesAtStart, appliesInStep};
 ghost use Rattle.causal_steps.specs.Marked.{before, markedCaused, MarksOf};
 

@@ -17,7 +17,7 @@ use Rattle.basics.proofs.Tests.{range-lowest, range-nowhere}
 use Rattle.action_language.specs.declared.Law.{Law}
 use Rattle.action_language.specs.declared.Description.{Description}
 use Rattle.action_language.specs.Laws.{isStatic, ifList, noLaw, lawsOf}
-use Rattle.action_language.specs.Meaning.{Interpretation, holds, satisfiesHead, stateAt, actionAt}
+use Rattle.transitions.specs.Meaning.{Interpretation, holds, satisfiesHead, stateAt, actionAt}
 use Rattle.causal_reading.specs.declared.Reading.{Reading}
 use Rattle.law_effects.specs.Applying.{appliesAtStart, appliesInStep, literalIn, someCause, contradicts}
 use Rattle.causal_reading.specs.Verdicts.{Causal, contradicted, uncaused, path, stepsFrom, causalVerdict}

@@ -32,8 +32,8 @@ use Rattle.action_language.specs.Laws.{lawsOf}
 use Rattle.action_language.specs.Atoms.{atomCount}
 use Rattle.action_language.specs.Acceptance.{badRecord, badHorizon}
 use Rattle.action_language.proofs.Laws.{accepted-law}
-use Rattle.translation.specs.Translated.{written, rulesFor, tableFor, outcome, tableAfter}
-use Rattle.translation.proofs.Outcomes.{accepted-written, accepted-short, written-left}
+use Rattle.translation_rules.specs.Translated.{written, rulesFor, tableFor, outcome, tableAfter}
+use Rattle.translation_rules.proofs.Outcomes.{accepted-written, accepted-short, written-left}
 use Rattle.translation_bounds.proofs.Tables.{engine-accepts, table-decoded}
 use Rattle.history_check.specs.declared.Checked.{Checked}
 use Rattle.history_check.specs.Checks as history

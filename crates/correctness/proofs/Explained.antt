@@ -13,9 +13,9 @@ use Rattle.basics.proofs.Tests.{not-both, false-of-not, true-of-not, not-iff, e
 use Rattle.action_language.specs.declared.Head.{Head}
 use Rattle.action_language.specs.declared.Head.the-variants.{Lit, False}
 use Rattle.action_language.specs.declared.Law.{Law}
-use Rattle.action_language.specs.Meaning.{Interpretation, satisfies, satisfiesHead, caused, SatisfiesAll, Explained}
+use Rattle.transitions.specs.Meaning.{Interpretation, satisfies, satisfiesHead, caused, SatisfiesAll, Explained}
 use Rattle.basics.proofs.Parity.{even-or-odd}
-use Rattle.action_language.proofs.Literals.{satisfies-even, satisfies-odd}
+use Rattle.transitions.proofs.Literals.{satisfies-even, satisfies-odd}
 use Rattle.law_effects.specs.Applying.{appliesInStep, literalIn, headIs, someCause}
 use Rattle.causal_steps.proofs.CausedHeads.{cause-heads, heads-cause, caused-iff}
 

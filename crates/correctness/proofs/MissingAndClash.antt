@@ -30,8 +30,8 @@ use Rattle.completion_theory.proofs.Theorems.{says}
 use Rattle.action_language.specs.declared.Law.{Law}
 use Rattle.action_language.specs.declared.Description.{Description}
 use Rattle.action_language.specs.Atoms.{atomCount}
-use Rattle.translation.specs.Translated.{written, rulesFor, tableFor, outcome}
-use Rattle.translation.proofs.Outcomes.{accepted-written}
+use Rattle.translation_rules.specs.Translated.{written, rulesFor, tableFor, outcome}
+use Rattle.translation_rules.proofs.Outcomes.{accepted-written}
 use Rattle.translation_bounds.proofs.Tables.{few-atoms, engine-accepts}
 use Rattle.history_check.specs.declared.Checked.{Checked}
 use Rattle.history_check.specs.Checks as history

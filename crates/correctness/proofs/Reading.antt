@@ -16,8 +16,8 @@ use Rattle.action_language.specs.declared.Kind.{Kind}
 use Rattle.action_language.specs.declared.Kind.the-variants.{Static, Dynamic}
 use Rattle.action_language.specs.declared.Law.{Law}
 use Rattle.action_language.specs.Laws.{isStatic, ifList, afterList}
-use Rattle.action_language.specs.Meaning.{Interpretation, holds, satisfiesHead, together, Explained, SatisfiesStatic}
-use Rattle.action_language.specs.Meaning.{State, stateAt, actionAt, Path}
+use Rattle.transitions.specs.Meaning.{Interpretation, holds, satisfiesHead, together, Explained, SatisfiesStatic}
+use Rattle.transitions.specs.Meaning.{State, stateAt, actionAt, Path}
 use Rattle.basics.specs.Replies.{orElse}
 use Rattle.law_effects.specs.Applying.{appliesAtStart, appliesInStep, literalIn, someCause, contradicts}
 use Rattle.causal_reading.specs.Verdicts.{Causal, contradicted, uncaused, path, stepVerdict, stepsFrom, causalVerdict}

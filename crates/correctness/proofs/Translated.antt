@@ -29,11 +29,11 @@ use Rattle.action_language.specs.declared.Law.{Law}
 use Rattle.action_language.specs.Laws.{ifList, afterList}
 use Rattle.action_language.specs.Atoms.{actionAtom, atomCount}
 use Rattle.action_language.specs.Acceptance.{lawFits}
-use Rattle.action_language.specs.Meaning.{Interpretation, satisfies, holds, satisfiesHead, stateAt, Path}
+use Rattle.transitions.specs.Meaning.{Interpretation, satisfies, holds, satisfiesHead, stateAt, Path}
 use Rattle.basics.proofs.Parity.{even-or-odd}
 use Rattle.action_language.proofs.Fits.{CodesBelow, HeadBelow, AfterBelow, Fits, law-fits}
-use Rattle.rule_words.specs.RuleForms.{atTime, headAt, literalsAt, staticRule}
-use Rattle.translation.specs.Rules.{translation}
+use Rattle.translation_rules.specs.RuleForms.{atTime, headAt, literalsAt, staticRule}
+use Rattle.translation_rules.specs.Rules.{translation}
 use Rattle.translation_bounds.proofs.RuleByRule.{stepRule, AtStart, AtChoice, EachRule, each-rule}
 use Rattle.law_effects.specs.Applying.{appliesAtStart, literalIn, headIs, someCause}
 use Rattle.causal_steps.proofs.CausedHeads.{cause-heads, heads-cause}

@@ -19,11 +19,11 @@ use Rattle.logic_programs.specs.AnswerSets.{meets}
 use Rattle.answer_set_theory.proofs.Sets.{all-not-meets}
 use Rattle.logic_programs.proofs.Complements.{complement-even, complement-odd, complement-below}
 use Rattle.action_language.specs.Atoms.{atomCount}
-use Rattle.action_language.specs.Meaning.{Interpretation, satisfies, holds, together, stateAt, actionAt}
+use Rattle.transitions.specs.Meaning.{Interpretation, satisfies, holds, together, stateAt, actionAt}
 use Rattle.basics.proofs.Parity.{by-parity}
-use Rattle.action_language.proofs.Literals.{satisfies-even, satisfies-odd}
+use Rattle.transitions.proofs.Literals.{satisfies-even, satisfies-odd}
 use Rattle.action_language.proofs.Fits.{CodesBelow}
-use Rattle.rule_words.specs.RuleForms.{atTime, complementsAt, literalsAt}
+use Rattle.translation_rules.specs.RuleForms.{atTime, complementsAt, literalsAt}
 
 -- the atoms with value true
 abbrev pub truth : List ℕ → Interpretation

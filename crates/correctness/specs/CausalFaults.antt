@@ -13,7 +13,7 @@ use Rattle.action_language.specs.declared.Head.the-variants.{Lit}
 use Rattle.action_language.specs.declared.Law.{Law}
 use Rattle.action_language.specs.declared.Description.{Description}
 use Rattle.action_language.specs.Laws.{isStatic, ifList, noLaw, lawsOf}
-use Rattle.action_language.specs.Meaning.{Interpretation, satisfies, holds, satisfiesHead, causing, caused, stateAt, actionAt}
+use Rattle.transitions.specs.Meaning.{Interpretation, satisfies, holds, satisfiesHead, causing, caused, stateAt, actionAt}
 use Rattle.causal_reading.specs.declared.Reading.{Reading}
 use Rattle.causal_reading.specs.Verdicts.{Causal, contradicted, uncaused}
 use Rattle.causal_reading.specs.Readings as causal

@@ -21,8 +21,8 @@ use Rattle.action_language.specs.declared.Description.{Description}
 use Rattle.action_language.specs.Laws.{lawsOf}
 use Rattle.action_language.specs.Atoms.{atomCount}
 use Rattle.action_language.specs.Acceptance.{badRecord, badHorizon}
-use Rattle.action_language.specs.Meaning.{Path}
-use Rattle.translation.specs.Translated.{rulesFor, tableFor, tableAfter}
+use Rattle.transitions.specs.Meaning.{Path}
+use Rattle.translation_rules.specs.Translated.{rulesFor, tableFor, tableAfter}
 use Rattle.history_check.specs.Checks as history
 use Rattle.causal_reading.specs.Verdicts.{path}
 use Rattle.causal_reading.specs.Readings as causal

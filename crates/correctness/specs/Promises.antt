@@ -18,7 +18,7 @@ use Rattle.action_language.specs.declared.Law.{Law}
 use Rattle.action_language.specs.declared.Description.{Description}
 use Rattle.action_language.specs.Atoms.{atomCount}
 use Rattle.action_language.specs.Acceptance.{badRecord, badHorizon}
-use Rattle.translation.specs.Translated.{tableFor}
+use Rattle.translation_rules.specs.Translated.{tableFor}
 use Rattle.history_check.specs.declared.Checked.{Checked}
 use Rattle.history_check.specs.Checks as history
 use Rattle.causal_reading.specs.declared.Reading.{Reading}

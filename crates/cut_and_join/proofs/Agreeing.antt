@@ -15,8 +15,8 @@ use Rattle.action_language.specs.declared.Kind.{Kind}
 use Rattle.action_language.specs.declared.Kind.the-variants.{Static, Dynamic}
 use Rattle.action_language.specs.declared.Law.{Law}
 use Rattle.action_language.specs.Laws.{ifList, afterList}
-use Rattle.action_language.specs.Meaning.{Interpretation, satisfies, holds, satisfiesHead, together, causing, caused}
-use Rattle.action_language.specs.Meaning.{SatisfiesAll, Same, Explained, SatisfiesStatic, State}
+use Rattle.transitions.specs.Meaning.{Interpretation, satisfies, holds, satisfiesHead, together, causing, caused}
+use Rattle.transitions.specs.Meaning.{SatisfiesAll, Same, Explained, SatisfiesStatic, State}
 use Rattle.action_language.proofs.Laws.{AllFit}
 use Rattle.action_language.proofs.Fits.{CodesBelow, HeadBelow, AfterBelow, Fits, law-fits}
 use Rattle.causal_steps.proofs.CausedHeads.{caused-iff}

@@ -22,8 +22,8 @@ use Rattle.action_language.specs.Laws.{withHorizon}
 use Rattle.action_language.specs.Atoms.{atomCount, wrongLength}
 use Rattle.action_language.specs.Acceptance.{badRecord, badHorizon}
 use Rattle.action_language.proofs.Laws.{accepted-horizon, horizon-taken, right-length}
-use Rattle.translation.specs.Translated.{Written, written, tableFor, outcome, afterTranslation}
-use Rattle.translation.proofs.Outcomes.{written-accepted}
+use Rattle.translation_rules.specs.Translated.{Written, written, tableFor, outcome, afterTranslation}
+use Rattle.translation_rules.proofs.Outcomes.{written-accepted}
 use Rattle.history_check.specs.Checks as history
 use Rattle.causal_reading.specs.Verdicts.{path}
 use Rattle.causal_reading.specs.Readings as causal

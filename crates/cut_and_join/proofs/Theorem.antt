@@ -13,8 +13,8 @@ use Rattle.action_language.specs.declared.Law.{Law}
 use Rattle.action_language.specs.declared.Description.{Description}
 use Rattle.action_language.specs.Laws.{lawsOf, ifList, afterList, withHorizon}
 use Rattle.action_language.proofs.Laws.{AllFit, accepted-law}
-use Rattle.translation.specs.Translated.{tableFor}
-use Rattle.translation.proofs.Counts.{sumLaws, lawWordsOf, word-count}
+use Rattle.translation_rules.specs.Translated.{tableFor}
+use Rattle.translation_rules.proofs.Counts.{sumLaws, lawWordsOf, word-count}
 use Rattle.correctness.specs.Demand3.{Complete, PathOf}
 use Rattle.correctness.proofs.Demand3.{demand-3}
 use Rattle.cut_and_join.specs.Halves.{firstSteps, laterSteps, lastState, firstState, joined}

@@ -14,7 +14,7 @@ use borrow.Author.Tests.{ltb-true, ltb-false}
 use Rattle.basics.proofs.Tests.{true-or-false}
 use Rattle.action_language.specs.declared.Law.{Law}
 use Rattle.action_language.specs.Atoms.{atomCount}
-use Rattle.action_language.specs.Meaning.{Same, Explained, State, stateAt, actionAt, Path}
+use Rattle.transitions.specs.Meaning.{Same, Explained, State, stateAt, actionAt, Path}
 use Rattle.action_language.proofs.Laws.{AllFit}
 use Rattle.correctness.proofs.Reading.{path-states}
 use Rattle.cut_and_join.proofs.Agreeing.{agree-state, agree-explained}

@@ -12,7 +12,7 @@ use Rattle.action_language.specs.declared.Law.{Law}
 use Rattle.action_language.specs.declared.Description.{Description}
 use Rattle.action_language.specs.Laws.{withHorizon}
 use Rattle.action_language.specs.Atoms.{atomCount}
-use Rattle.translation.specs.Translated.{tableFor}
+use Rattle.translation_rules.specs.Translated.{tableFor}
 use Rattle.history_check.specs.Checks as history
 use Rattle.causal_reading.specs.Verdicts.{path}
 use Rattle.causal_reading.specs.Readings as causal

@@ -14,7 +14,7 @@ use Rattle.completion_theory.specs.Findings.{holds}
 use Rattle.completion_theory.specs.Answers as completion
 use Rattle.action_language.specs.declared.Law.{Law}
 use Rattle.action_language.specs.declared.Description.{Description}
-use Rattle.translation.specs.Translated.{rulesFor, tableFor, tableAfter}
+use Rattle.translation_rules.specs.Translated.{rulesFor, tableFor, tableAfter}
 use Rattle.history_check.specs.Checks as history
 use Rattle.causal_reading.specs.Verdicts.{path}
 use Rattle.causal_reading.specs.Readings as causal

@@ -10,9 +10,9 @@ use Rattle.action_language.specs.declared.Law.{Law}
 use Rattle.description_reader.specs.declared.descriptions.Ending.{Ending}
 use Rattle.description_reader.specs.declared.descriptions.Declarations.{Declarations}
 use Rattle.basics.specs.Replies.{Reply, refused, answered}
-use Rattle.description_reader.specs.Descriptions.{Taken, read, described, descriptionOf}
+use Rattle.description_lines.specs.Descriptions.{Taken, read, described, descriptionOf}
 use Rattle.description_reader.specs.Declarations.{declarations}
-use Rattle.description_reader.specs.Answers.{behind, replied, lawsLeft}
+use Rattle.description_lines.specs.Answers.{behind, replied, lawsLeft}
 use Rattle.description_reader.specs.Internal.{draftOf, takenOf, Ended, draftBy, Limits, Declares}
 use Rattle.text.proofs.Spelling.{spelled-length}
 use Rattle.description_reader.proofs.Stepping.{sound-64}

@@ -7,8 +7,8 @@ use Prim.Native.Nat.{ℕ, _≤_, _<_}
 use native.Mathlib.Omega.{arith}
 use lib.Dec.{eqb}
 use lib.ListN.{length}
-use Rattle.description_reader.specs.LineSteps as step
-use Rattle.description_reader.specs.LineSteps.{fluentDue, actionDue, lawDue, allowed, Draft, finish, endLine}
+use Rattle.description_lines.specs.LineSteps as step
+use Rattle.description_lines.specs.LineSteps.{fluentDue, actionDue, lawDue, allowed, Draft, finish, endLine}
 
 -- an action or what follows the actions; a fluent or what follows the fluents
 pub allowed-action : (k : ℕ) → allowed actionDue k ≡ (eqb k 2 || allowed lawDue k)

@@ -13,8 +13,8 @@ use Rattle.text.specs.Places.{lineSize, startOfLine, lineAt, valueAt}
 use Rattle.text.specs.NamePlaces.{declaresName, joined, joinedBy, namesIn}
 use Rattle.text.proofs.Placing.{line-fits}
 use Rattle.description_reader.specs.declared.states.ReaderState.{ReaderState}
-use Rattle.description_reader.specs.LineSteps as step
-use Rattle.description_reader.specs.LineSteps.{next, finish}
+use Rattle.description_lines.specs.LineSteps as step
+use Rattle.description_lines.specs.LineSteps.{next, finish}
 use Rattle.description_reader.specs.Internal.{dueAt, draftOf, stepOf, Goes, Joins}
 
 -- a state whose step is a refusal has its number

@@ -20,15 +20,15 @@ use Rattle.description_reader.specs.declared.Run.{Run}
 use Rattle.description_reader.specs.declared.states.Due as code
 use Rattle.description_reader.specs.declared.states.Due.the-variants as code-due
 use Rattle.description_reader.specs.declared.states.HeldDraft.{HeldDraft}
-use Rattle.description_reader.specs.LineSteps.{Due, horizonDue, firstFluentDue, fluentDue, actionDue, lawDue}
-use Rattle.description_reader.specs.LineSteps.{ifDue, afterDue, byDue, allowed, withAfter}
+use Rattle.description_lines.specs.LineSteps.{Due, horizonDue, firstFluentDue, fluentDue, actionDue, lawDue}
+use Rattle.description_lines.specs.LineSteps.{ifDue, afterDue, byDue, allowed, withAfter}
 use Rattle.action_language.specs.Laws.{lawOf}
 use Rattle.text.specs.Lines.{ifKey, afterKey, byKey}
 use Rattle.text.specs.Names.{literal}
 use Rattle.text.specs.Lists.{Listed, codes}
-use Rattle.description_reader.specs.LineSteps as step
-use Rattle.description_reader.specs.LineSteps.{Draft, next, whole, withIf, lawIn, roomFor, wholeByLiteral}
-use Rattle.description_reader.specs.LineSteps.{literalLine, nonexecutableLine}
+use Rattle.description_lines.specs.LineSteps as step
+use Rattle.description_lines.specs.LineSteps.{Draft, next, whole, withIf, lawIn, roomFor, wholeByLiteral}
+use Rattle.description_lines.specs.LineSteps.{literalLine, nonexecutableLine}
 use Rattle.line_values.specs.declared.law_forms.Places.{Places}
 use Rattle.line_values.specs.ShortLaws.{nonexecutableLaw}
 use Rattle.line_values.specs.Internal.{placesOf}

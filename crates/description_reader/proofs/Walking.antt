@@ -15,13 +15,13 @@ use Rattle.basics.proofs.Tests.{and-iff, not-both}
 use Rattle.action_language.specs.declared.Law.{Law}
 use Rattle.text.specs.Bytes.{newline, equalsSign, Cut, cutAt, cut}
 use Rattle.text.specs.Lines.{noKey, Line, keyed, valued, ended, keyNumber, firstLine}
-use Rattle.description_reader.specs.LineSteps.{Due, horizonDue, firstFluentDue, fluentDue, actionDue, lawDue}
-use Rattle.description_reader.specs.LineSteps.{ifDue, afterDue, byDue, Draft, startsLaw, allowed, roomFor}
-use Rattle.description_reader.specs.LineSteps.{anyList}
-use Rattle.description_reader.specs.LineSteps as step
-use Rattle.description_reader.specs.LineSteps.{Step, next, finish, lineStep}
+use Rattle.description_lines.specs.LineSteps.{Due, horizonDue, firstFluentDue, fluentDue, actionDue, lawDue}
+use Rattle.description_lines.specs.LineSteps.{ifDue, afterDue, byDue, Draft, startsLaw, allowed, roomFor}
+use Rattle.description_lines.specs.LineSteps.{anyList}
+use Rattle.description_lines.specs.LineSteps as step
+use Rattle.description_lines.specs.LineSteps.{Step, next, finish, lineStep}
 use Rattle.basics.specs.Replies.{Reply, refused}
-use Rattle.description_reader.specs.Descriptions.{Taken, afterStep, afterFirst, linesFrom, described}
+use Rattle.description_lines.specs.Descriptions.{Taken, afterStep, afterFirst, linesFrom, described}
 use Rattle.text.specs.declared.lines.LineAt.{LineAt}
 use Rattle.description_reader.specs.declared.states.HeldDraft.{HeldDraft}
 use Rattle.description_reader.specs.declared.states.ReaderState.{ReaderState}

@@ -6,7 +6,7 @@ use Prim.Native.Nat.{ℕ}
 use Rattle.basics.specs.Replies.{Reply, refused, answered}
 use Rattle.text.specs.NamePlaces.{noNames, namesIn}
 use Rattle.description_reader.specs.declared.descriptions.Declarations.{Declarations}
-use Rattle.description_reader.specs.Descriptions.{Taken, read}
+use Rattle.description_lines.specs.Descriptions.{Taken, read}
 
 -- a refused text declares nothing
 abbrev pub declarations : List ℕ → Reply Taken → Declarations

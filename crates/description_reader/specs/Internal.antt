@@ -23,12 +23,12 @@ use Rattle.text.specs.Lists as lists
 use Rattle.text.specs.Lists.{Listed, codes, added}
 use Rattle.text.specs.Internal.{spelled}
 use Rattle.text.specs.NamePlaces.{noNames, joined, namesIn}
-use Rattle.description_reader.specs.LineSteps.{Due, horizonDue, firstFluentDue, fluentDue, actionDue, lawDue}
-use Rattle.description_reader.specs.LineSteps.{ifDue, afterDue, byDue, Draft, allowed}
-use Rattle.description_reader.specs.LineSteps as step
-use Rattle.description_reader.specs.LineSteps.{Step, next, finish, horizonLine, fluentLine, actionLine, lawLine}
-use Rattle.description_reader.specs.LineSteps.{ifLine, afterLine, literalLine, wholeByList, nonexecutableLine}
-use Rattle.description_reader.specs.LineSteps.{endLine, lawIn}
+use Rattle.description_lines.specs.LineSteps.{Due, horizonDue, firstFluentDue, fluentDue, actionDue, lawDue}
+use Rattle.description_lines.specs.LineSteps.{ifDue, afterDue, byDue, Draft, allowed}
+use Rattle.description_lines.specs.LineSteps as step
+use Rattle.description_lines.specs.LineSteps.{Step, next, finish, horizonLine, fluentLine, actionLine, lawLine}
+use Rattle.description_lines.specs.LineSteps.{ifLine, afterLine, literalLine, wholeByList, nonexecutableLine}
+use Rattle.description_lines.specs.LineSteps.{endLine, lawIn}
 use Rattle.line_values.specs.HorizonText.{horizonOf}
 use Rattle.line_values.specs.ShortLaws.{defaultLaw, inertialLaw, causesLaw}
 use Rattle.action_language.specs.declared.Kind.{Kind}
@@ -37,7 +37,7 @@ use Rattle.action_language.specs.Laws.{padded, lawOf, noLaw}
 use Rattle.description_reader.specs.declared.steps.HeadAt.{HeadAt}
 use Rattle.description_reader.specs.declared.steps.HeadAt.the-variants.{Refused, Read}
 use Rattle.basics.specs.Replies.{Reply, refused, answered}
-use Rattle.description_reader.specs.Descriptions.{Taken, read}
+use Rattle.description_lines.specs.Descriptions.{Taken, read}
 
 -- a list's codes so far, or its refusal
 abbrev pub noCodes : Codes

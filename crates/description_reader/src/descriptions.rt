@@ -19,7 +19,7 @@ ghost use Prim.Native.Nat.{_≤_, _<_, min};
 ghost use lib.Dec.{ltb};
 ghost use lib.ListN.{length};
 ghost use Rattle.action_language.specs.declared.Law.{Law};
-ghost use Rattle.description_reader.specs.Descriptions.{described};
+ghost use Rattle.description_lines.specs.Descriptions.{described};
 ghost use Rattle.text.specs.NamePlaces.{noNames};
 ghost use Rattle.description_reader.specs.Declarations.{declarations};
 ghost use Rattle.description_reader.specs.Internal.{dueOf, blankState, isListKey, itemsFrom, highFor, takenOf, Ended, Declares};

@@ -7,8 +7,9 @@ mod steps;
 use action_language::Description;
 use action_language::Law;
 ghost use mathlib.Core.Path.{_≡_};
-ghost use Rattle.description_reader.specs.Descriptions.{described};
-ghost use Rattle.description_reader.specs.Answers.{replyOf, replied, recordOf, lawsLeft};
+ghost use Rattle.description_lines.specs.Descriptions.{described};
+ghost use Rattle.description_lines.specs.Answers.{replied, recordOf, lawsLeft};
+ghost use Rattle.description_reader.specs.Answers.{replyOf};
 
 // The refusal's number and place, or where the description ends: behind how many bytes and lines.
 pub enum Answer {

@@ -7,7 +7,7 @@ ghost use mathlib.Core.Path.{_≡_};
 ghost use Prim.Native.Nat.{min};
 ghost use lib.Dec.{ltb};
 ghost use Rattle.action_language.specs.declared.Law.{Law};
-ghost use Rattle.description_reader.specs.LineSteps.{lawDue, startsLaw, allowed};
+ghost use Rattle.description_lines.specs.LineSteps.{lawDue, startsLaw, allowed};
 ghost use Rattle.description_reader.specs.Internal.{dueOf};
 
 // What is due.

@@ -18,8 +18,8 @@ use Rattle.action_language.specs.declared.Law.{Law}
 use Rattle.action_language.specs.declared.Description.{Description}
 use Rattle.action_language.specs.Atoms.{wrongLength}
 use Rattle.action_language.proofs.Laws.{right-length}
-use Rattle.translation.specs.Translated as translated
-use Rattle.translation.specs.Translated.{Written, written}
+use Rattle.translation_rules.specs.Translated as translated
+use Rattle.translation_rules.specs.Translated.{Written, written}
 use Rattle.translation_bounds.proofs.Tables.{engine-accepts, engine-judges}
 use Rattle.completion_theory.specs.Findings as formulas
 use Rattle.completion_theory.specs.LevelLists.{badLevels}

@@ -13,7 +13,7 @@ use Rattle.rule_tables.specs.Acceptance.{afterTests}
 use Rattle.answer_set_theory.specs.Answers as engine
 use Rattle.action_language.specs.declared.Law.{Law}
 use Rattle.action_language.specs.declared.Description.{Description}
-use Rattle.translation.specs.Translated as translated
+use Rattle.translation_rules.specs.Translated as translated
 use Rattle.history_check.specs.Checks as history
 use Rattle.completion_theory.specs.Findings as formulas
 use Rattle.completion_theory.specs.LevelLists.{badLevels}

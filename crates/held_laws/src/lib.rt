@@ -8,14 +8,16 @@ use lent_laws::Read;
 use translation::Translated;
 ghost use mathlib.Core.Path.{_≡_};
 ghost use lib.ListN.{length};
-ghost use Rattle.translation.specs.Translated.{outcomeOf, outcome, tableAfter};
+ghost use Rattle.translation.specs.Answers.{outcomeOf};
+ghost use Rattle.translation_rules.specs.Translated.{outcome, tableAfter};
 ghost use Rattle.history_check.specs.Checks;
 ghost use Rattle.causal_reading.specs.Readings;
-ghost use Rattle.description_reader.specs.Descriptions.{described};
-ghost use Rattle.description_reader.specs.Answers.{replyOf, replied, recordOf, lawsLeft};
+ghost use Rattle.description_lines.specs.Descriptions.{described};
+ghost use Rattle.description_lines.specs.Answers.{replied, recordOf, lawsLeft};
+ghost use Rattle.description_reader.specs.Answers.{replyOf};
 ghost use Rattle.correctness.specs.Promises.{TranslatesExactly, PassesExactly, SaysByValues, PathExactly};
 ghost use Rattle.correctness.specs.CausalFaults.{NamesFault};
-ghost use Rattle.lent_laws.specs.Taking.{TakesAccepted};
+ghost use Rattle.reader_bounds.specs.Taking.{TakesAccepted};
 
 // What the description reader answers, and the run that it was lent.
 pub struct ReadRun {

@@ -15,9 +15,9 @@ use Rattle.logic_programs.specs.Words.{rulesOf}
 use Rattle.answer_set_theory.specs.Answers as engine
 use Rattle.action_language.specs.declared.Law.{Law}
 use Rattle.action_language.specs.declared.Description.{Description}
-use Rattle.translation.specs.Translated as translated
-use Rattle.translation.specs.Translated.{Written, written}
-use Rattle.translation.proofs.Histories.{written-passed, tests-first}
+use Rattle.translation_rules.specs.Translated as translated
+use Rattle.translation_rules.specs.Translated.{Written, written}
+use Rattle.translation_rules.proofs.Histories.{written-passed, tests-first}
 use Rattle.translation_bounds.proofs.Tables.{engine-judges}
 use Rattle.history_check.specs.Checks.{Finding, missing, judged, ofEngine, finding, checked, tableAfter}
 

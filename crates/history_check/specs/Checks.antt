@@ -10,7 +10,7 @@ use Rattle.answer_set_theory.specs.Verdicts.{Verdict, clash, broken, unfounded,
 use Rattle.answer_set_theory.specs.Answers as engine
 use Rattle.action_language.specs.declared.Law.{Law}
 use Rattle.action_language.specs.declared.Description.{Description}
-use Rattle.translation.specs.Translated as translated
+use Rattle.translation_rules.specs.Translated as translated
 use Rattle.history_check.specs.declared.Checked.{Checked}
 use Rattle.history_check.specs.declared.Checked.the-variants.{Refused, Missing, Clash, Broken, Unfounded, Passes}
 

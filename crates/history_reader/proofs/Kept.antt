@@ -15,8 +15,8 @@ use Rattle.action_language.specs.Atoms.{actionAtom, atomCount}
 use Rattle.text.specs.Lines.{Line, firstLine, endKey}
 use Rattle.text.specs.Lists as lists
 use Rattle.text.specs.Lists.{Listed, codes, listOf}
-use Rattle.description_reader.specs.LineSteps.{Draft}
-use Rattle.description_reader.specs.Descriptions.{Taken, read, described}
+use Rattle.description_lines.specs.LineSteps.{Draft}
+use Rattle.description_lines.specs.Descriptions.{Taken, read, described}
 use Rattle.history_values.specs.Values.{withLiterals, filled, ActionsValued}
 use Rattle.history_values.proofs.Filling.{length-marked, length-filled, marked-zero, filled-zero, filled-valued}
 use Rattle.history_reader.specs.declared.HistoryAnswer.the-variants.{Complete}

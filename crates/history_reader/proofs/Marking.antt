@@ -18,7 +18,7 @@ use Rattle.text.proofs.Items.{items-next, items-end, items-start, items-none}
 use Rattle.text.specs.Lists as lists
 use Rattle.text.specs.Lists.{Listed, codes, items, listFrom, listOf}
 use Rattle.text.specs.Names.{literal}
-use Rattle.description_reader.specs.LineSteps.{Draft}
+use Rattle.description_lines.specs.LineSteps.{Draft}
 use Rattle.history_values.specs.Values.{withTrue, withFalse, withLiterals}
 use Rattle.history_reader.specs.Histories.{historyEnd, listed, listLine, undoneFalse, actLine, most, statesFrom}
 use Rattle.history_reader.specs.Internal.{recordFrom, isState, keyAt, placeFrom}

@@ -23,8 +23,8 @@ use Rattle.text.specs.Lines.{Line, firstLine}
 use Rattle.text.specs.Names.{literal}
 use Rattle.text.specs.Lists as lists
 use Rattle.text.specs.Lists.{Listed, codes, listFrom, listOf}
-use Rattle.description_reader.specs.LineSteps.{Draft}
-use Rattle.description_reader.specs.Descriptions.{read}
+use Rattle.description_lines.specs.LineSteps.{Draft}
+use Rattle.description_lines.specs.Descriptions.{read}
 use Rattle.history_values.specs.Values.{withLiterals, filled}
 use Rattle.history_values.proofs.Filling.{take-marked, take-filled}
 use Rattle.history_reader.specs.Histories.{historyEnd, listed, listLine, most, statesFrom, byNames}

@@ -14,8 +14,8 @@ use Rattle.history_reader.specs.declared.HistoryAnswer.the-variants.{Ref
 use Rattle.text.specs.Lines.{stateKey, actKey, endKey, Line, firstLine}
 use Rattle.text.specs.Lists as lists
 use Rattle.text.specs.Lists.{Listed, codes, listOf}
-use Rattle.description_reader.specs.LineSteps.{Draft}
-use Rattle.description_reader.specs.Descriptions.{Taken, read, described}
+use Rattle.description_lines.specs.LineSteps.{Draft}
+use Rattle.description_lines.specs.Descriptions.{Taken, read, described}
 use Rattle.history_values.specs.Values.{withLiterals, filled, ActionsValued}
 
 -- where bytes remain behind the end line: 7 at the next line

@@ -10,15 +10,15 @@ ghost use lib.Seq.{sets};
 ghost use Rattle.answer_set_theory.specs.Answers.{answer};
 ghost use Rattle.completion_theory.specs.Answers as completed;
 ghost use Rattle.history_reader.specs.Histories.{readHistory, historyReplied, valuesLeft};
-ghost use Rattle.report.specs.Output.{output};
-ghost use Rattle.report.specs.Program.{Program};
+ghost use Rattle.report_theory.specs.Output.{output};
+ghost use Rattle.report_theory.specs.Program.{Program};
 ghost use Rattle.answer_codes.specs.Codes.{replyCode, verdictCode, readCode};
 ghost use Rattle.answer_codes.specs.FormulaCodes.{formulaCode};
-ghost use Rattle.huntyghai.specs.Texts.{translatedText, tableOfText, checkedText, tableOfCheck, readingOfInput};
-ghost use Rattle.huntyghai.specs.SetCodes.{SetNumbered};
-ghost use Rattle.huntyghai.specs.FormulaNumbers.{CompletionNumbered, LevelsNumbered};
-ghost use Rattle.huntyghai.specs.TextReadings.{TextTranslates, TextChecks, TextSaysValues, InputReads, InputFault};
-ghost use Rattle.huntyghai.specs.CodeLists.{CodeAmong};
+ghost use Rattle.huntyghai_theory.specs.Texts.{translatedText, tableOfText, checkedText, tableOfCheck, readingOfInput};
+ghost use Rattle.huntyghai_theory.specs.SetCodes.{SetNumbered};
+ghost use Rattle.huntyghai_theory.specs.FormulaNumbers.{CompletionNumbered, LevelsNumbered};
+ghost use Rattle.huntyghai_theory.specs.TextReadings.{TextTranslates, TextChecks, TextSaysValues, InputReads, InputFault};
+ghost use Rattle.huntyghai_theory.specs.CodeLists.{CodeAmong};
 
 // What the program check prints for an input, as far as the buffer goes; the result is the whole output's length, at most 400.
 #[no_mangle]

@@ -7,12 +7,12 @@ ghost use mathlib.Core.Path.{_≡_};
 ghost use Prim.Native.Nat.{_-_, _≤_};
 ghost use lib.ListN.{length, take, drop, replicate};
 ghost use Rattle.action_language.specs.Atoms.{atomCount};
-ghost use Rattle.description_reader.specs.Descriptions.{described};
-ghost use Rattle.description_reader.specs.Answers.{recordOf, lawsLeft};
+ghost use Rattle.description_lines.specs.Descriptions.{described};
+ghost use Rattle.description_lines.specs.Answers.{recordOf, lawsLeft};
 ghost use Rattle.history_reader.specs.Histories.{historyReplyOf, historyReplied, valuesLeft};
 ghost use Rattle.law_runs.specs.Runs.{noLaws};
-ghost use Rattle.inputs.specs.Inputs.{movedBy, recordedIn};
-ghost use Rattle.inputs.specs.Internal.{CanMove};
+ghost use Rattle.whole_inputs.specs.Inputs.{movedBy, recordedIn};
+ghost use Rattle.whole_inputs.specs.Internal.{CanMove};
 
 // Room for the values of the most atoms.
 fn no_values() -> [u8; 1024]

@@ -4,7 +4,7 @@ use mathlib.Core.Path.{_≡_, fun-ext}
 use native.Mathlib.Nat.{sub-zero}
 use native.Mathlib.Omega.{arith}
 use borrow.Author.Tests.{le-ltb}
-use Rattle.action_language.specs.Meaning.{Interpretation, together}
+use Rattle.transitions.specs.Meaning.{Interpretation, together}
 
 -- with no fluents before it, a state alone
 pub alone : (s : Interpretation) → together 0 s s ≡ s

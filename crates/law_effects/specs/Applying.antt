@@ -10,7 +10,7 @@ use Rattle.action_language.specs.declared.Head.{Head}
 use Rattle.action_language.specs.declared.Head.the-variants.{Lit, False}
 use Rattle.action_language.specs.declared.Law.{Law}
 use Rattle.action_language.specs.Laws.{isStatic, ifList, afterList}
-use Rattle.action_language.specs.Meaning.{Interpretation, holds, satisfiesHead, together}
+use Rattle.transitions.specs.Meaning.{Interpretation, holds, satisfiesHead, together}
 
 -- part of a set's values as an interpretation: value 1 is true, any other false, and so is one past the end
 abbrev pub read : List ℕ → Interpretation

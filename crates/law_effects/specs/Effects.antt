@@ -3,7 +3,7 @@
 use mathlib.Core.Bool.{Bool, cond}
 use Rattle.action_language.specs.declared.Head.{Head}
 use Rattle.action_language.specs.declared.Head.the-variants.{Lit, False}
-use Rattle.action_language.specs.Meaning.{Interpretation, satisfies}
+use Rattle.transitions.specs.Meaning.{Interpretation, satisfies}
 use Rattle.law_effects.specs.declared.laws.Effect.{Effect}
 use Rattle.law_effects.specs.declared.laws.Effect.the-variants.{Idle, Causes, Contradicts}
 

@@ -6,7 +6,7 @@ use action_language::Kind;
 use action_language::Law;
 ghost use mathlib.Core.Path.{_≡_};
 ghost use mathlib.Core.Bool.{not, _&&_};
-ghost use Rattle.action_language.specs.Meaning.{satisfiesHead};
+ghost use Rattle.transitions.specs.Meaning.{satisfiesHead};
 ghost use Rattle.law_effects.specs.Applying.{read, contradicts, appliesAtStart, appliesInStep};
 ghost use Rattle.law_effects.specs.Effects.{effectOf};
 

@@ -5,7 +5,7 @@ ghost use mathlib.Core.Bool.{not, cond};
 ghost use Prim.Native.Nat.{_%_};
 ghost use lib.Dec.{eqb};
 ghost use lib.ListN.{take};
-ghost use Rattle.action_language.specs.Meaning.{satisfies, holds, together};
+ghost use Rattle.transitions.specs.Meaning.{satisfies, holds, together};
 ghost use Rattle.law_effects.specs.Applying.{read};
 
 // Whether the literal of a code holds where its fluent or action has this value.

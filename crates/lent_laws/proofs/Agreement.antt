@@ -12,7 +12,7 @@ use Rattle.action_language.specs.declared.Law.{Law}
 use Rattle.action_language.specs.declared.Description.{Description}
 use Rattle.action_language.specs.Acceptance.{countsFit, badRecord}
 use Rattle.action_language.proofs.Laws.{counts-limits}
-use Rattle.translation.specs.Translated as translated
+use Rattle.translation_rules.specs.Translated as translated
 use Rattle.history_check.specs.Checks as history
 use Rattle.causal_reading.specs.Readings as causal
 use Rattle.law_runs.specs.Internal.{gathered}

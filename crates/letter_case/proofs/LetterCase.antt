@@ -13,7 +13,7 @@ use Rattle.spelling.proofs.Comparing.{same-refl, same-equal}
 use Rattle.text.specs.Lines.{horizonKey, fluentKey, actionKey}
 use Rattle.text.specs.Names.{isNew, literal}
 use Rattle.text.specs.Lists.{listOf}
-use Rattle.description_reader.specs.LineSteps.{Due, Draft, endLine, readHead, fluentList, anyList, lineStep}
+use Rattle.description_lines.specs.LineSteps.{Due, Draft, endLine, readHead, fluentList, anyList, lineStep}
 use Rattle.letter_case.specs.Alike.{Alike, AlikeNames}
 use Rattle.letter_case.specs.LetterCase.{usesNames, LetterCase}
 use Rattle.letter_case.proofs.AlikeRuns.{lowers, alike-of, names-lower, names-refl}

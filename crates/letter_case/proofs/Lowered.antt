@@ -14,7 +14,7 @@ use Rattle.spelling.proofs.Lowering.{lowered-outside, no-letter, all-lowered-ag
 use Rattle.text.specs.Bytes.{comma, hyphen, cut}
 use Rattle.text.specs.Names.{declaredAt, inSort, literal, isNew}
 use Rattle.text.specs.Lists.{Listed, items, itemsIn, added, listFrom, listOf}
-use Rattle.description_reader.specs.LineSteps.{readHead}
+use Rattle.description_lines.specs.LineSteps.{readHead}
 
 -- declared names
 

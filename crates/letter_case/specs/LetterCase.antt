@@ -10,7 +10,7 @@ use Rattle.spelling.specs.Spelling.{sameName}
 use Rattle.text.specs.Lines.{ifKey, afterKey, stateKey, actKey, byKey}
 use Rattle.text.specs.Names.{isNew, literal}
 use Rattle.text.specs.Lists.{listOf}
-use Rattle.description_reader.specs.LineSteps.{Due, Draft, startsLaw, readHead, lineStep}
+use Rattle.description_lines.specs.LineSteps.{Due, Draft, startsLaw, readHead, lineStep}
 use Rattle.letter_case.specs.Alike.{Alike, AlikeNames}
 
 -- the keys of the lines that use names: heads, literals and lists, in descriptions and histories

@@ -8,7 +8,7 @@ use lib.Dec.{ltb}
 use lib.ListN.{length}
 use Rattle.basics.specs.Replies.{Reply, refused, answered}
 use Rattle.basics.proofs.Tests.{each-at}
-use Rattle.description_reader.specs.Descriptions.{Taken, read, described}
+use Rattle.description_lines.specs.Descriptions.{Taken, read, described}
 use Rattle.shown_names.specs.Shown.{fluentName, shownBy, shownFluent}
 use Rattle.reader_bounds.proofs.Drafts.{Short, chosen, BoundedReply, bounded}
 

@@ -26,22 +26,22 @@ use Rattle.action_language.specs.declared.Description.{Description}
 use Rattle.action_language.specs.Laws.{lawsOf}
 use Rattle.action_language.specs.Acceptance.{badRecord, badHorizon}
 use Rattle.action_language.proofs.Laws.{accepted-counts, accepted-few, accepted-horizon, accepted-law}
-use Rattle.translation.specs.Translated.{Written, written, rulesFor, tableFor, tooShort, outcome, afterTranslation}
-use Rattle.translation.proofs.Outcomes.{accepted-written}
+use Rattle.translation_rules.specs.Translated.{Written, written, rulesFor, tableFor, tooShort, outcome, afterTranslation}
+use Rattle.translation_rules.proofs.Outcomes.{accepted-written}
 use Rattle.translation_bounds.proofs.Bounds.{at-most-30912}
 use Rattle.history_check.specs.Checks.{finding, checked}
 use Rattle.history_check.proofs.Judging.{finding-answered}
 use Rattle.causal_reading.specs.Verdicts.{causalVerdict}
 use Rattle.causal_reading.specs.Readings.{notOneValue, reading}
-use Rattle.description_reader.specs.LineSteps.{Draft}
-use Rattle.description_reader.specs.Descriptions.{read, described, descriptionOf}
+use Rattle.description_lines.specs.LineSteps.{Draft}
+use Rattle.description_lines.specs.Descriptions.{read, described, descriptionOf}
 use Rattle.history_values.specs.Values.{ActionsValued}
 use Rattle.history_reader.specs.Histories.{atoms, readHistory}
 use Rattle.history_reader.proofs.Kept.{OfTaken}
 use Rattle.reader_bounds.specs.Accepts.{Accepted}
 use Rattle.reader_bounds.proofs.Accepting.{taken-accepted}
 use Rattle.reader_bounds.proofs.Recording.{taken-valued}
-use Rattle.inputs.specs.Inputs.{movedBy, recordedIn}
+use Rattle.whole_inputs.specs.Inputs.{movedBy, recordedIn}
 use Rattle.possible_refusals.specs.Refusals.{among, RefusedBy, WhichRefusals}
 use Rattle.possible_refusals.proofs.Readers.{refused-more, described-by, history-by, input-by, taken-history-by, taken-input-by}
 

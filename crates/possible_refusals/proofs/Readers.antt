@@ -22,15 +22,15 @@ use Rattle.text.specs.Names.{literal}
 use Rattle.text.specs.Lists as lists
 use Rattle.text.specs.Lists.{Listed, codes, itemsIn, items, added, listFrom, listOf}
 use Rattle.text.proofs.Cutting.{first-inside}
-use Rattle.description_reader.specs.LineSteps as step
-use Rattle.description_reader.specs.LineSteps.{Due, horizonDue, Draft, Step, next, finish, withIf, lineStep}
-use Rattle.description_reader.specs.Descriptions.{Taken, read, afterStep, afterFirst, blank, linesFrom, described}
+use Rattle.description_lines.specs.LineSteps as step
+use Rattle.description_lines.specs.LineSteps.{Due, horizonDue, Draft, Step, next, finish, withIf, lineStep}
+use Rattle.description_lines.specs.Descriptions.{Taken, read, afterStep, afterFirst, blank, linesFrom, described}
 use Rattle.history_reader.specs.Histories as histories
 use Rattle.history_reader.specs.Histories.{atEnd, historyEnd, listed, listLine, undoneFalse, statesFrom, atoms}
 use Rattle.history_reader.specs.Histories.{recorded, byNames, readHistory}
 use Rattle.reader_bounds.proofs.Drafts.{BoundedReply, bounded}
 use Rattle.reader_bounds.proofs.LineCases.{chosen, Cases, line-cases}
-use Rattle.inputs.specs.Inputs.{movedBy, recordedIn}
+use Rattle.whole_inputs.specs.Inputs.{movedBy, recordedIn}
 use Rattle.possible_refusals.specs.Refusals.{among, RefusedBy}
 
 -- a number among some is among others that hold them all

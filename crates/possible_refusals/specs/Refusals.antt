@@ -8,13 +8,13 @@ use lib.Dec.{eqb}
 use Rattle.basics.specs.Replies.{Reply, refused, answered}
 use Rattle.answer_set_theory.specs.Answers.{answer}
 use Rattle.completion_theory.specs.Answers as completed
-use Rattle.translation.specs.Translated.{outcome}
+use Rattle.translation_rules.specs.Translated.{outcome}
 use Rattle.history_check.specs.Checks.{checked}
 use Rattle.causal_reading.specs.Readings.{reading}
-use Rattle.description_reader.specs.LineSteps.{Draft}
-use Rattle.description_reader.specs.Descriptions.{read, described, descriptionOf}
+use Rattle.description_lines.specs.LineSteps.{Draft}
+use Rattle.description_lines.specs.Descriptions.{read, described, descriptionOf}
 use Rattle.history_reader.specs.Histories.{readHistory}
-use Rattle.inputs.specs.Inputs.{recordedIn}
+use Rattle.whole_inputs.specs.Inputs.{recordedIn}
 
 abbrev pub among : ℕ → List ℕ → Bool
 among k [] = false

@@ -24,10 +24,10 @@ use Rattle.action_language.specs.Laws.{padded, lawOf}
 use Rattle.action_language.specs.Acceptance.{codesBelow, headFits, lawFits, badRecord, badHorizon}
 use Rattle.text.specs.Lines.{Line, firstLine}
 use Rattle.line_values.specs.ShortLaws.{defaultLaw, inertialLaw, causesLaw, nonexecutableLaw}
-use Rattle.description_reader.specs.LineSteps as step
-use Rattle.description_reader.specs.LineSteps.{Due, horizonDue, firstFluentDue, fluentDue, actionDue, lawDue, ifDue}
-use Rattle.description_reader.specs.LineSteps.{afterDue, byDue, Draft, Step, next, finish, withIf, withAfter, lineStep}
-use Rattle.description_reader.specs.Descriptions.{Taken, read, afterStep, afterFirst, blank, linesFrom, described, descriptionOf}
+use Rattle.description_lines.specs.LineSteps as step
+use Rattle.description_lines.specs.LineSteps.{Due, horizonDue, firstFluentDue, fluentDue, actionDue, lawDue, ifDue}
+use Rattle.description_lines.specs.LineSteps.{afterDue, byDue, Draft, Step, next, finish, withIf, withAfter, lineStep}
+use Rattle.description_lines.specs.Descriptions.{Taken, read, afterStep, afterFirst, blank, linesFrom, described, descriptionOf}
 use Rattle.reader_bounds.specs.Accepts.{Tidy, Accepted, TakenAccepted, LeftAccepted}
 use Rattle.reader_bounds.proofs.LineCases.{chosen, Below, Held, Cases, line-cases}
 use Rattle.reader_bounds.proofs.Drafts.{Limited, BoundedReply, bounded}

@@ -20,8 +20,8 @@ use Rattle.text.specs.Lines.{firstLine}
 use Rattle.text.specs.Lists as lists-of
 use Rattle.text.specs.Lists.{Listed, codes, added, items, listFrom, listOf}
 use Rattle.text.specs.Names.{declaredAt, inSort, literal}
-use Rattle.description_reader.specs.LineSteps.{Draft}
-use Rattle.description_reader.specs.Descriptions.{read, described}
+use Rattle.description_lines.specs.LineSteps.{Draft}
+use Rattle.description_lines.specs.Descriptions.{read, described}
 use Rattle.history_values.specs.Values.{withTrue, withFalse, withLiterals, orFalse, filled}
 use Rattle.history_values.proofs.Filling.{filled-middle}
 use Rattle.history_reader.specs.Histories.{most, undoneFalse, statesFrom, atoms, recorded, byNames, readHistory}

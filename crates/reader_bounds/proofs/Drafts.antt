@@ -21,10 +21,10 @@ use Rattle.text.specs.Lines.{Line, keyed, valued, ended, keyNumber, firstLine}
 use Rattle.spelling.specs.Spelling.{isName}
 use Rattle.spelling.proofs.Naming.{named}
 use Rattle.text.specs.Names.{absent, isNew, declaredAt}
-use Rattle.description_reader.specs.LineSteps as step
-use Rattle.description_reader.specs.LineSteps.{Due, horizonDue, firstFluentDue, fluentDue, actionDue, lawDue, ifDue}
-use Rattle.description_reader.specs.LineSteps.{afterDue, byDue, Draft, Step, next, finish, withIf, lineStep}
-use Rattle.description_reader.specs.Descriptions.{Taken, read, afterStep, afterFirst, blank, linesFrom, described}
+use Rattle.description_lines.specs.LineSteps as step
+use Rattle.description_lines.specs.LineSteps.{Due, horizonDue, firstFluentDue, fluentDue, actionDue, lawDue, ifDue}
+use Rattle.description_lines.specs.LineSteps.{afterDue, byDue, Draft, Step, next, finish, withIf, lineStep}
+use Rattle.description_lines.specs.Descriptions.{Taken, read, afterStep, afterFirst, blank, linesFrom, described}
 use Rattle.reader_bounds.proofs.LineCases.{withName, Cases, line-cases}
 -- those who use this file choose too
 pub use Rattle.reader_bounds.proofs.LineCases.{chosen}

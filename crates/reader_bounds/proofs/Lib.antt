@@ -5,3 +5,4 @@ pub mod Drafts
 pub mod Accepting
 pub mod Recording
 pub mod ByLists
+pub mod Taking

@@ -30,12 +30,12 @@ use Rattle.text.specs.Lists as lists
 use Rattle.text.specs.Lists.{Listed, codes, items, added, listFrom, listOf}
 use Rattle.line_values.specs.HorizonText.{inHorizon, horizonOf}
 use Rattle.line_values.specs.ShortLaws.{defaultLaw, inertialLaw, causesLaw, nonexecutableLaw}
-use Rattle.description_reader.specs.LineSteps as step
-use Rattle.description_reader.specs.LineSteps.{Due, horizonDue, firstFluentDue, fluentDue, actionDue, lawDue, ifDue}
-use Rattle.description_reader.specs.LineSteps.{afterDue, byDue, Draft, startsLaw, allowed, Step, next, finish}
-use Rattle.description_reader.specs.LineSteps.{horizonLine, nameLine, litHead, readHead, begun, roomFor, whole, withIf}
-use Rattle.description_reader.specs.LineSteps.{ifLine, withAfter, afterLine, wholeByLiteral, wholeByList, endLine}
-use Rattle.description_reader.specs.LineSteps.{anyList, keyLine, lineStep}
+use Rattle.description_lines.specs.LineSteps as step
+use Rattle.description_lines.specs.LineSteps.{Due, horizonDue, firstFluentDue, fluentDue, actionDue, lawDue, ifDue}
+use Rattle.description_lines.specs.LineSteps.{afterDue, byDue, Draft, startsLaw, allowed, Step, next, finish}
+use Rattle.description_lines.specs.LineSteps.{horizonLine, nameLine, litHead, readHead, begun, roomFor, whole, withIf}
+use Rattle.description_lines.specs.LineSteps.{ifLine, withAfter, afterLine, wholeByLiteral, wholeByList, endLine}
+use Rattle.description_lines.specs.LineSteps.{anyList, keyLine, lineStep}
 
 -- a choice by what its test says
 pub chosen : {A : Type 0} (P : A → Type 0) (b : Bool) {x y : A} → (b ≡ true → P x) → (b ≡ false → P y) → P (cond b x y)

@@ -10,8 +10,8 @@ use lib.Dec.{eqb, ltb}
 use lib.ListN.{length, getD, set, replicate, length-set, length-replicate}
 use Rattle.basics.specs.Search.{Each}
 use Rattle.basics.specs.Replies.{Reply, refused, answered}
-use Rattle.description_reader.specs.LineSteps.{Draft}
-use Rattle.description_reader.specs.Descriptions.{Taken, read, described}
+use Rattle.description_lines.specs.LineSteps.{Draft}
+use Rattle.description_lines.specs.Descriptions.{Taken, read, described}
 use Rattle.history_values.specs.Values.{withTrue, withFalse, withLiterals, orFalse, filled, ActionsValued}
 use Rattle.history_reader.specs.Histories.{statesFrom, atoms, recorded, byNames, readHistory}
 use Rattle.history_reader.proofs.Kept.{OfAnswer, states-keep, states-act}

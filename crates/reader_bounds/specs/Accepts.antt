@@ -13,9 +13,9 @@ use Rattle.action_language.specs.declared.Kind.the-variants.{Static, Dynamic}
 use Rattle.action_language.specs.declared.Law.{Law}
 use Rattle.action_language.specs.Laws.{ifList, afterList, lawOf}
 use Rattle.action_language.specs.Acceptance.{badRecord, badHorizon}
-use Rattle.description_reader.specs.LineSteps.{Draft}
-use Rattle.description_reader.specs.Descriptions.{Taken, read, described, descriptionOf}
-use Rattle.description_reader.specs.Answers.{recordOf, lawsLeft}
+use Rattle.description_lines.specs.LineSteps.{Draft}
+use Rattle.description_lines.specs.Descriptions.{Taken, read, described, descriptionOf}
+use Rattle.description_lines.specs.Answers.{recordOf, lawsLeft}
 
 -- a static law's after-list is empty
 abbrev pub aftersOf : Kind → Law → List ℕ

@@ -11,8 +11,8 @@ use lib.ListN.{length}
 use Rattle.basics.specs.Replies.{answered}
 use Rattle.text.specs.Lines.{stateKey, actKey, Line, firstLine}
 use Rattle.text.specs.Lists.{codes, listOf}
-use Rattle.description_reader.specs.LineSteps.{Draft}
-use Rattle.description_reader.specs.Descriptions.{read, described}
+use Rattle.description_lines.specs.LineSteps.{Draft}
+use Rattle.description_lines.specs.Descriptions.{read, described}
 use Rattle.history_reader.specs.Histories.{most, readHistory}
 
 -- whether a code is listed

@@ -2,3 +2,4 @@
 pub mod Accepts
 pub mod Records
 pub mod ByLists
+pub mod Taking

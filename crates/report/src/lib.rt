@@ -8,9 +8,9 @@ ghost use mathlib.Core.Path.{_≡_};
 ghost use Prim.Native.Nat.{_+_, _≤_, min};
 ghost use lib.ListN.{length, take};
 ghost use lib.Seq.{sets};
-ghost use Rattle.translation.specs.Translated.{outcome};
-ghost use Rattle.report.specs.Output.{room, afterOutcome, output};
-ghost use Rattle.report.specs.Program.{Program};
+ghost use Rattle.translation_rules.specs.Translated.{outcome};
+ghost use Rattle.report_theory.specs.Output.{room, afterOutcome, output};
+ghost use Rattle.report_theory.specs.Program.{Program};
 
 // Room for the largest table.
 fn no_table() -> [u16; 30912]

@@ -7,16 +7,16 @@ use Rattle.basics.specs.Replies.{Reply, refused, answered}
 use Rattle.answer_set_theory.specs.Verdicts.{clash, broken, unfounded, passes}
 use Rattle.action_language.specs.declared.Law.{Law}
 use Rattle.action_language.specs.declared.Description.{Description}
-use Rattle.translation.specs.Translated.{Written, written, outcome}
+use Rattle.translation_rules.specs.Translated.{Written, written, outcome}
 use Rattle.history_check.specs.Checks.{Finding, missing, judged, checked}
 use Rattle.causal_reading.specs.Verdicts.{Causal, contradicted, uncaused, path}
 use Rattle.causal_reading.specs.Readings.{reading}
-use Rattle.description_reader.specs.Descriptions.{Taken, read, described, descriptionOf}
+use Rattle.description_lines.specs.Descriptions.{Taken, read, described, descriptionOf}
 use Rattle.history_reader.specs.Histories.{atoms, readHistory}
 use Rattle.shown_names.specs.Shown.{shownFluent}
-use Rattle.inputs.specs.Inputs.{movedBy, afterDescription, recordedIn}
+use Rattle.whole_inputs.specs.Inputs.{movedBy, afterDescription, recordedIn}
 use Rattle.output_lines.specs.Printed.{countLines, findingLines, causalLines, readingLines, causalAfter, checkedLines}
-use Rattle.report.specs.Output.{room, afterOutcome, afterInput, output}
+use Rattle.report_theory.specs.Output.{room, afterOutcome, afterInput, output}
 use Rattle.written_form.specs.Respelling.{Respelled, ReadAlike, both-refused, both-read}
 use Rattle.written_form.proofs.Respelled.{respelling}
 use Rattle.respelled_inputs.specs.RespelledInputs.{PrintsAlike}

@@ -5,7 +5,7 @@ use mathlib.Core.Path.{_≡_}
 use mathlib.Core.List.{List}
 use Prim.Native.Nat.{ℕ}
 use Rattle.written_form.specs.Respelling.{Respelled}
-use Rattle.report.specs.Output.{output}
+use Rattle.report_theory.specs.Output.{output}
 
 abbrev pub PrintsAlike : Type 0
 PrintsAlike = (input input′ : List ℕ) → Respelled input input′ → output input ≡ output input′

@@ -18,7 +18,7 @@ use Rattle.action_language.specs.declared.Kind.{Kind}
 use Rattle.action_language.specs.declared.Kind.the-variants.{Static, Dynamic}
 use Rattle.action_language.specs.declared.Law.{Law}
 use Rattle.action_language.specs.Laws.{ifList}
-use Rattle.rule_words.specs.RuleForms.{atTime, headAt, choices}
+use Rattle.translation_rules.specs.RuleForms.{atTime, headAt, choices}
 use Rattle.rule_words.specs.Internal.{byKind, plainList, ruleFor}
 
 map-at : (f : ℕ → ℕ) (xs : List ℕ) (i : ℕ) → i < length xs → getD (map f xs) i 0 ≡ f (getD xs i 0)

@@ -10,7 +10,7 @@ use Rattle.logic_programs.specs.Words.{ruleWords, words}
 use Rattle.action_language.specs.declared.Kind.{Kind}
 use Rattle.action_language.specs.declared.Kind.the-variants.{Static, Dynamic}
 use Rattle.action_language.specs.declared.Law.{Law}
-use Rattle.rule_words.specs.RuleForms.{staticRule, dynamicRule, choices}
+use Rattle.translation_rules.specs.RuleForms.{staticRule, dynamicRule, choices}
 
 -- the number for a law's kind, of one for static laws and one for dynamic laws
 abbrev pub byKind : ℕ → ℕ → Kind → ℕ

@@ -1,3 +1,2 @@
--- What a rule of the translation is, and its words by their place. Read in this order.
-pub mod RuleForms
+-- The words of a rule of the translation by their place.
 pub mod Internal

@@ -11,7 +11,7 @@ ghost use Prim.Native.Nat.{_+_, _*_, _<_, _≤_};
 ghost use lib.ListN.{getD};
 ghost use Rattle.logic_programs.specs.Literals.{complement};
 ghost use Rattle.logic_programs.specs.Words.{headWord};
-ghost use Rattle.rule_words.specs.RuleForms.{headAt};
+ghost use Rattle.translation_rules.specs.RuleForms.{headAt};
 ghost use Rattle.rule_words.specs.Internal.{ruleWord, choiceWord};
 
 pub mod lists;

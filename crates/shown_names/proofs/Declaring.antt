@@ -18,10 +18,10 @@ use Rattle.action_language.specs.declared.Law.{Law}
 use Rattle.text.specs.Lines.{Line, firstLine}
 use Rattle.text.specs.Places.{startOfLine}
 use Rattle.text.proofs.Placing.{lineNumber, next-line}
-use Rattle.description_reader.specs.LineSteps as step
-use Rattle.description_reader.specs.LineSteps.{Due, horizonDue, firstFluentDue, fluentDue, actionDue, lawDue, ifDue}
-use Rattle.description_reader.specs.LineSteps.{afterDue, byDue, Draft, Step, next, finish, withIf, lineStep}
-use Rattle.description_reader.specs.Descriptions.{Taken, read, afterStep, afterFirst, blank, linesFrom, described}
+use Rattle.description_lines.specs.LineSteps as step
+use Rattle.description_lines.specs.LineSteps.{Due, horizonDue, firstFluentDue, fluentDue, actionDue, lawDue, ifDue}
+use Rattle.description_lines.specs.LineSteps.{afterDue, byDue, Draft, Step, next, finish, withIf, lineStep}
+use Rattle.description_lines.specs.Descriptions.{Taken, read, afterStep, afterFirst, blank, linesFrom, described}
 use Rattle.reader_bounds.proofs.LineCases.{chosen, timed, withName, Cases, line-cases}
 
 module _ (text : List ℕ) where

@@ -11,8 +11,8 @@ use lib.ListN.{length, getD, List·getD-eq-default}
 use Rattle.basics.specs.Replies.{Reply, refused, answered}
 use Rattle.text.specs.Places.{valueOfLine, startOfValue, LiesAt}
 use Rattle.text.proofs.Placing.{line-value}
-use Rattle.description_reader.specs.LineSteps.{Draft}
-use Rattle.description_reader.specs.Descriptions.{Taken, read, described}
+use Rattle.description_lines.specs.LineSteps.{Draft}
+use Rattle.description_lines.specs.Descriptions.{Taken, read, described}
 use Rattle.shown_names.specs.Shown.{fluentName, actionName, shownBy, shownFluent, shownAction, fluentStart}
 use Rattle.shown_names.specs.Shown.{actionStart, startBy, shownFluentStart, shownActionStart}
 use Rattle.shown_names.proofs.Declaring.{declared-at}

@@ -6,9 +6,9 @@ use Prim.Native.Nat.{ℕ, suc, _+_}
 use lib.Dec.{ltb}
 use lib.ListN.{length, getD}
 use Rattle.text.specs.Places.{startOfValue}
-use Rattle.description_reader.specs.LineSteps.{Draft}
+use Rattle.description_lines.specs.LineSteps.{Draft}
 use Rattle.basics.specs.Replies.{Reply, refused, answered}
-use Rattle.description_reader.specs.Descriptions.{Taken, read, described}
+use Rattle.description_lines.specs.Descriptions.{Taken, read, described}
 
 abbrev pub fluentName : Draft → ℕ → List ℕ
 fluentName d f = cond (ltb f (d .fluents)) (getD (d .names) f []) []

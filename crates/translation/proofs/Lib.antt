@@ -1,7 +1,4 @@
--- What the functions' proofs cite: the translation's counts for an open horizon, what its writers store, its outcomes.
-pub mod Counts
+-- What the functions' proofs cite: what the writers store, turn by turn, and sums over the laws.
 pub mod Sums
 pub mod Writing
 pub mod Turns
-pub mod Outcomes
-pub mod Histories

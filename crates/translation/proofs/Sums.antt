@@ -15,8 +15,8 @@ use Rattle.action_language.specs.Laws.{ifList}
 use Rattle.basics.proofs.Loops.{rest-cons, rest-done}
 use Rattle.logic_programs.specs.Words.{words as wordsOf}
 use Rattle.rule_words.specs.Internal.{byKind, plainList}
-use Rattle.translation.specs.Rules.{translation}
-use Rattle.translation.proofs.Counts.{sumLaws, staticOf, dynamicOf, statics, dynamics, lawWordsOf, rule-count, word-count}
+use Rattle.translation_rules.specs.Rules.{translation}
+use Rattle.translation_rules.proofs.Counts.{sumLaws, staticOf, dynamicOf, statics, dynamics, lawWordsOf, rule-count, word-count}
 
 -- what is counted and what the laws not yet passed count make up what the count began with and what all of them count
 abbrev pub Counted : (Kind → Law → ℕ) → List Law → ℕ → ℕ → ℕ → Type 0

@@ -16,12 +16,12 @@ use Rattle.basics.proofs.Tests.{true-or-false}
 use Rattle.action_language.specs.declared.Kind.{Kind}
 use Rattle.action_language.specs.declared.Kind.the-variants.{Static, Dynamic}
 use Rattle.action_language.specs.declared.Law.{Law}
-use Rattle.rule_words.specs.RuleForms.{choices}
-use Rattle.translation.specs.Rules.{staticRules, dynamicRules, perLaw, actionAtoms, translation}
+use Rattle.translation_rules.specs.RuleForms.{choices}
+use Rattle.translation_rules.specs.Rules.{staticRules, dynamicRules, perLaw, actionAtoms, translation}
 use Rattle.translation.specs.Internal.{lawRules}
 use Rattle.logic_programs.specs.Rules.{Rule}
 use Rattle.logic_programs.specs.Words.{words}
-use Rattle.translation.proofs.Counts.{words-append}
+use Rattle.translation_rules.proofs.Counts.{words-append}
 
 pub product-bound : (t n a b : ℕ) → t ≤ a → n ≤ b → t * n ≤ a * b
 product-bound t n a b p q = mul-le-mul p q

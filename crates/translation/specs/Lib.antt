@@ -1,4 +1,3 @@
--- What the translation's promise means. Read in this order.
-pub mod Rules
-pub mod Translated
+-- What the translation's promise means, besides the definitions of translation_rules.
+pub mod Answers
 pub mod Internal

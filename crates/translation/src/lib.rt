@@ -6,7 +6,8 @@ use basics::Tested;
 ghost use mathlib.Core.Path.{_≡_};
 ghost use lib.ListN.{length};
 ghost use Rattle.basics.specs.Replies.{testedOf};
-ghost use Rattle.translation.specs.Translated.{outcomeOf, outcome, tableAfter, outcomeFor, tableAfterFor};
+ghost use Rattle.translation.specs.Answers.{outcomeOf};
+ghost use Rattle.translation_rules.specs.Translated.{outcome, tableAfter, outcomeFor, tableAfterFor};
 
 mod sizes;
 mod writers;

@@ -8,7 +8,7 @@ ghost use Prim.Native.Nat.{_+_, _*_, _≤_};
 ghost use lib.ListN.{length};
 ghost use Rattle.action_language.specs.Laws.{ifList};
 ghost use Rattle.rule_words.specs.Internal.{byKind, plainList};
-ghost use Rattle.translation.specs.Translated.{rulesFor, tableFor};
+ghost use Rattle.translation_rules.specs.Translated.{rulesFor, tableFor};
 
 // How many rules and words.
 pub(crate) struct Sizes {

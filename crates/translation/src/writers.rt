@@ -13,10 +13,10 @@ ghost use lib.ListN.{length, take};
 ghost use lib.Seq.{sets};
 ghost use Rattle.basics.specs.Search.{range};
 ghost use Rattle.logic_programs.specs.Words.{ruleWords, words};
-ghost use Rattle.rule_words.specs.RuleForms.{choices};
+ghost use Rattle.translation_rules.specs.RuleForms.{choices};
 ghost use Rattle.rule_words.specs.Internal.{ruleFor};
-ghost use Rattle.translation.specs.Rules.{perLaw, actionAtoms};
-ghost use Rattle.translation.specs.Translated.{tableFor, overwritten};
+ghost use Rattle.translation_rules.specs.Rules.{perLaw, actionAtoms};
+ghost use Rattle.translation_rules.specs.Translated.{tableFor, overwritten};
 ghost use Rattle.translation.specs.Internal.{lawRules};
 
 // A law's rule for time t.

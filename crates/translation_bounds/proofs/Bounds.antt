@@ -25,10 +25,10 @@ use Rattle.action_language.specs.Atoms.{actionAtom, atomCount}
 use Rattle.action_language.specs.Acceptance.{lawFits}
 use Rattle.action_language.proofs.Fits as fits
 use Rattle.action_language.proofs.Laws.{AllFit, fits-if, fits-after}
-use Rattle.rule_words.specs.RuleForms.{atTime, headAt, complementsAt, literalsAt}
-use Rattle.translation.specs.Rules.{translation}
+use Rattle.translation_rules.specs.RuleForms.{atTime, headAt, complementsAt, literalsAt}
+use Rattle.translation_rules.specs.Rules.{translation}
 use Rattle.translation_bounds.proofs.RuleByRule.{AtStart, AtChoice, stepRule, each-rule}
-use Rattle.translation.proofs.Counts.{sumLaws, staticOf, dynamicOf, statics, dynamics, lawWordsOf, rule-count, word-count}
+use Rattle.translation_rules.proofs.Counts.{sumLaws, staticOf, dynamicOf, statics, dynamics, lawWordsOf, rule-count, word-count}
 
 -- Counts
 

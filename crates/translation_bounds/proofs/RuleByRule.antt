@@ -13,8 +13,8 @@ use Rattle.action_language.specs.declared.Kind.{Kind}
 use Rattle.action_language.specs.declared.Kind.the-variants.{Static, Dynamic}
 use Rattle.action_language.specs.declared.Law.{Law}
 use Rattle.action_language.specs.Atoms.{fluentAtom, actionAtom}
-use Rattle.rule_words.specs.RuleForms.{staticRule, dynamicRule, choices}
-use Rattle.translation.specs.Rules.{staticRules, dynamicRules, perLaw, actionAtoms, choiceAtoms, translation}
+use Rattle.translation_rules.specs.RuleForms.{staticRule, dynamicRule, choices}
+use Rattle.translation_rules.specs.Rules.{staticRules, dynamicRules, perLaw, actionAtoms, choiceAtoms, translation}
 
 -- the rule of a law for the step from time t: its head is at t + 1
 abbrev pub stepRule : ℕ → ℕ → Kind → Law → Rule

@@ -23,8 +23,8 @@ use Rattle.action_language.specs.Laws.{lawsOf}
 use Rattle.action_language.specs.Atoms.{atomCount}
 use Rattle.action_language.proofs.Laws.{accepted-law, accepted-few}
 use Rattle.action_language.proofs.Atoms as counts
-use Rattle.translation.specs.Translated.{written, rulesFor, tableFor, outcome, overwritten, tableAfter}
-use Rattle.translation.proofs.Outcomes.{Accepted, written-accepted, written-left, written-limits}
+use Rattle.translation_rules.specs.Translated.{written, rulesFor, tableFor, outcome, overwritten, tableAfter}
+use Rattle.translation_rules.proofs.Outcomes.{Accepted, written-accepted, written-left, written-limits}
 use Rattle.translation_bounds.specs.Tables.{TablesHoldRules}
 use Rattle.translation_bounds.proofs.Bounds.{at-most-4096, codes-below}
 

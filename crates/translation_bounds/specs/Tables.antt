@@ -10,7 +10,7 @@ use Rattle.logic_programs.specs.Words.{rulesOf}
 use Rattle.action_language.specs.declared.Law.{Law}
 use Rattle.action_language.specs.declared.Description.{Description}
 use Rattle.action_language.specs.Atoms.{atomCount}
-use Rattle.translation.specs.Translated.{written, rulesFor, outcome, tableAfter}
+use Rattle.translation_rules.specs.Translated.{written, rulesFor, outcome, tableAfter}
 
 -- the table afterwards, where so many atoms, rules and words are answered
 pub record HoldsRules (d : Description) (ls : List Law) (atoms rules words : ℕ) (old table : List ℕ) : Type 0 where

@@ -4,8 +4,8 @@ use mathlib.Core.Path.{_≡_}
 use Rattle.basics.specs.Replies.{refused, answered}
 use Rattle.action_language.specs.Acceptance.{badRecord, badHorizon}
 use Rattle.action_language.specs.Examples.{largest, largestLaws}
-use Rattle.translation.specs.Translated.{written, outcome}
-use Rattle.translation.proofs.Counts.{rule-count, word-count}
+use Rattle.translation_rules.specs.Translated.{written, outcome}
+use Rattle.translation_rules.proofs.Counts.{rule-count, word-count}
 
 pub largest-taken : outcome largest largestLaws 64 30912 ≡ answered (written 984 2448 30912)
 unfolding outcome badRecord badHorizon

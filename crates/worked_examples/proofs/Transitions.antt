@@ -11,7 +11,7 @@ use Rattle.basics.specs.Search.{Each, tuples}
 use Rattle.basics.proofs.Tests.{each-map}
 use Rattle.basics.proofs.Lists.{chosen-iff, tuples-all}
 use Rattle.action_language.specs.declared.Law.{Law}
-use Rattle.action_language.specs.Meaning.{Path}
+use Rattle.transitions.specs.Meaning.{Path}
 use Rattle.action_language.specs.Examples.{doorLaws, waterLaws}
 use Rattle.causal_reading.specs.Verdicts.{Causal, contradicted, uncaused, path, causalVerdict}
 use Rattle.worked_examples.specs.Examples.{isPath, paths}

@@ -11,8 +11,8 @@ use Rattle.completion_theory.specs.Findings as formulas
 use Rattle.completion_theory.specs.LevelLists.{badLevels}
 use Rattle.completion_theory.specs.Answers as completion
 use Rattle.action_language.specs.Acceptance.{badRecord, badHorizon}
-use Rattle.translation.specs.Rules.{translation}
-use Rattle.translation.specs.Translated as translated
+use Rattle.translation_rules.specs.Rules.{translation}
+use Rattle.translation_rules.specs.Translated as translated
 use Rattle.history_check.specs.Checks as history
 use Rattle.worked_examples.specs.Examples.{Holds}
 use Rattle.worked_examples.specs.Faults.{faultExamples}

@@ -8,8 +8,8 @@ use Rattle.answer_set_theory.specs.Verdicts.{verdict}
 use Rattle.logic_programs.specs.Words.{rulesOf, badRule}
 use Rattle.answer_set_theory.specs.Answers as engine
 use Rattle.action_language.specs.Acceptance.{badRecord, badHorizon}
-use Rattle.translation.specs.Rules.{translation}
-use Rattle.translation.specs.Translated as translated
+use Rattle.translation_rules.specs.Rules.{translation}
+use Rattle.translation_rules.specs.Translated as translated
 use Rattle.history_check.specs.Checks as history
 use Rattle.causal_reading.specs.Verdicts.{causalVerdict}
 use Rattle.causal_reading.specs.Readings as causal
@@ -19,8 +19,8 @@ use Rattle.spelling.specs.Spelling.{isName}
 use Rattle.text.specs.Names.{literal}
 use Rattle.text.specs.Lists.{items, listOf}
 use Rattle.line_values.specs.HorizonText.{horizonOf}
-use Rattle.description_reader.specs.LineSteps.{readHead, lineStep}
-use Rattle.description_reader.specs.Descriptions.{described}
+use Rattle.description_lines.specs.LineSteps.{readHead, lineStep}
+use Rattle.description_lines.specs.Descriptions.{described}
 use Rattle.history_reader.specs.Histories.{readHistory}
 use Rattle.written_form.specs.HistoryWriting.{valuesText}
 use Rattle.worked_examples.specs.Examples.{Holds}

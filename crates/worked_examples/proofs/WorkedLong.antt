@@ -14,8 +14,8 @@ use Rattle.text.specs.Bytes.{cut, cutAt, newline}
 use Rattle.text.specs.Lines.{keyNumber, ended, firstLine}
 use Rattle.spelling.specs.Spelling.{isName}
 use Rattle.line_values.specs.HorizonText.{horizonOf}
-use Rattle.description_reader.specs.LineSteps.{lineStep}
-use Rattle.description_reader.specs.Descriptions.{read, described}
+use Rattle.description_lines.specs.LineSteps.{lineStep}
+use Rattle.description_lines.specs.Descriptions.{read, described}
 use Rattle.history_reader.specs.Histories.{readHistory, byNames}
 use Rattle.worked_examples.specs.Examples.{Holds}
 use Rattle.worked_examples.specs.Texts.{tinyText, letters}

@@ -11,8 +11,8 @@ use Rattle.answer_set_theory.specs.Answers as engine
 use Rattle.answer_set_theory.specs.Examples as engine-list
 use Rattle.answer_set_theory.proofs.Examples as engine-list-holds
 use Rattle.action_language.specs.Acceptance.{badRecord, badHorizon}
-use Rattle.translation.specs.Rules.{translation}
-use Rattle.translation.specs.Translated as translated
+use Rattle.translation_rules.specs.Rules.{translation}
+use Rattle.translation_rules.specs.Translated as translated
 use Rattle.history_check.specs.Checks as history
 use Rattle.causal_reading.specs.Verdicts.{causalVerdict}
 use Rattle.causal_reading.specs.Readings as causal

@@ -10,8 +10,8 @@ use Rattle.spelling.specs.Spelling.{isName}
 use Rattle.text.specs.Names.{literal}
 use Rattle.text.specs.Lists.{items, listOf}
 use Rattle.line_values.specs.HorizonText.{horizonOf}
-use Rattle.description_reader.specs.LineSteps.{readHead, lineStep}
-use Rattle.description_reader.specs.Descriptions.{described}
+use Rattle.description_lines.specs.LineSteps.{readHead, lineStep}
+use Rattle.description_lines.specs.Descriptions.{described}
 use Rattle.shown_names.specs.Shown.{shownFluent, shownAction}
 use Rattle.history_reader.specs.Histories.{readHistory}
 use Rattle.written_form.specs.Writing.{descriptionText}

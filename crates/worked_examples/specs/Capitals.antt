@@ -13,7 +13,7 @@ use Rattle.action_language.specs.declared.Law.{Law}
 use Rattle.action_language.specs.Laws.{lawOf}
 use Rattle.action_language.specs.Examples.{recipeLaws}
 use Rattle.spelling.specs.Letters.{isSmall}
-use Rattle.description_reader.specs.Descriptions.{read}
+use Rattle.description_lines.specs.Descriptions.{read}
 use Rattle.written_form.specs.Writing.{inFull, asCauses, Spelling}
 use Rattle.written_form.specs.HistoryWriting.{everyAction}
 use Rattle.worked_examples.specs.Texts.{recipeText, historyText, smallNames, tinyLines, withFluent}

@@ -10,7 +10,7 @@ use Rattle.action_language.specs.declared.Law.{Law}
 use Rattle.action_language.specs.declared.Description.{Description}
 use Rattle.action_language.specs.Laws.{withHorizon}
 use Rattle.action_language.specs.Examples.{recipe, recipeLaws, door, doorLaws, water, waterLaws}
-use Rattle.translation.specs.Translated.{tableFor}
+use Rattle.translation_rules.specs.Translated.{tableFor}
 use Rattle.history_check.specs.Checks.{judged}
 use Rattle.causal_reading.specs.Verdicts.{uncaused, path}
 use Rattle.worked_examples.specs.Examples.{Example, engineSays, formulasSay, historySays, causalSays, cutAs, joinedAs, statesAre}

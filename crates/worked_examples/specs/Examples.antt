@@ -13,15 +13,15 @@ use Rattle.completion_theory.specs.Findings as formulas
 use Rattle.completion_theory.specs.Answers as completion
 use Rattle.action_language.specs.declared.Law.{Law}
 use Rattle.action_language.specs.declared.Description.{Description}
-use Rattle.translation.specs.Translated as translated
-use Rattle.translation.specs.Translated.{Written}
+use Rattle.translation_rules.specs.Translated as translated
+use Rattle.translation_rules.specs.Translated.{Written}
 use Rattle.history_check.specs.Checks as history
 use Rattle.history_check.specs.Checks.{Finding}
 use Rattle.former_answers.specs.Former.{formerChecked, formerAnswer, formerAnswerByLevels}
 use Rattle.causal_reading.specs.Verdicts.{Causal, contradicted, uncaused, path, causalVerdict}
 use Rattle.causal_reading.specs.Readings as causal
 use Rattle.cut_and_join.specs.Halves.{firstSteps, laterSteps, lastState, firstState, joined}
-use Rattle.description_reader.specs.Descriptions.{Taken, described}
+use Rattle.description_lines.specs.Descriptions.{Taken, described}
 use Rattle.shown_names.specs.Shown.{shownFluent, shownAction}
 use Rattle.history_reader.specs.Histories.{readHistory}
 use Rattle.written_form.specs.Writing.{Form, Spelling, descriptionText}
@@ -29,7 +29,7 @@ use Rattle.history_values.specs.Values.{ActionsValued}
 use Rattle.written_form.specs.HistoryWriting.{valuesText}
 use Rattle.written_form.specs.Writable.{Writable}
 use Rattle.written_form.specs.Respelling.{InCapitals}
-use Rattle.report.specs.Output.{room, output}
+use Rattle.report_theory.specs.Output.{room, output}
 use Rattle.answer_codes.specs.Codes.{coded, pair}
 use Rattle.worked_examples.specs.Program11.{allValues, passing}
 

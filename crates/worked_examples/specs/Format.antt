@@ -10,8 +10,8 @@ use Rattle.action_language.specs.declared.Kind.the-variants.{Static, Dynamic}
 use Rattle.action_language.specs.declared.Law.{Law}
 use Rattle.action_language.specs.Laws.{lawOf}
 use Rattle.action_language.specs.Examples.{doorLaws}
-use Rattle.description_reader.specs.LineSteps.{Draft}
-use Rattle.description_reader.specs.Descriptions.{read}
+use Rattle.description_lines.specs.LineSteps.{Draft}
+use Rattle.description_lines.specs.Descriptions.{read}
 use Rattle.worked_examples.specs.Texts.{doorText, doorHistoryText, tinyText, tinyLines, tinyWithHorizon, withFluent}
 use Rattle.worked_examples.specs.Texts.{smallNames, smallText, lawText, badLawText, copies, letters, fluents24, actions8}
 use Rattle.worked_examples.specs.Examples.{Example, reads, readsHistory, showsFluent}

@@ -4,7 +4,7 @@ use Rattle.basics.specs.Quoted.{bytes}
 use mathlib.Core.List.{List, [], _∷_, _++_}
 use Prim.Native.Nat.{ℕ}
 use Rattle.action_language.specs.Examples.{recipeLaws}
-use Rattle.description_reader.specs.LineSteps.{Draft}
+use Rattle.description_lines.specs.LineSteps.{Draft}
 
 abbrev pub recipeFluents : List (List ℕ)
 recipeFluents = bytes "locked" ∷ bytes "flowed" ∷ []

@@ -12,7 +12,7 @@ use Rattle.action_language.specs.declared.Head.the-variants.{Lit, False}
 use Rattle.action_language.specs.declared.Kind.the-variants.{Static, Dynamic}
 use Rattle.action_language.specs.Laws.{lawOf}
 use Rattle.action_language.specs.Examples.{recipeLaws}
-use Rattle.description_reader.specs.Descriptions.{read}
+use Rattle.description_lines.specs.Descriptions.{read}
 use Rattle.written_form.specs.Writing.{Form, asCauses, asNonexecutable, asInertial, asDeclared}
 use Rattle.worked_examples.specs.Texts.{tinyLines, smallNames, lawText, copies}
 use Rattle.worked_examples.specs.Format.{drafted, takesLaws}

@@ -17,10 +17,10 @@ use Rattle.action_language.specs.declared.Law.{Law}
 use Rattle.action_language.specs.declared.Description.{Description}
 use Rattle.action_language.specs.Laws.{lawOf, withHorizon}
 use Rattle.action_language.specs.Examples.{recipe, recipeLaws, door, doorLaws, water, waterLaws, largest, largestLaws}
-use Rattle.translation.specs.Translated.{written}
+use Rattle.translation_rules.specs.Translated.{written}
 use Rattle.history_check.specs.Checks.{Finding, missing, judged}
 use Rattle.causal_reading.specs.Verdicts.{Causal, contradicted, uncaused, path}
-use Rattle.description_reader.specs.Descriptions.{read}
+use Rattle.description_lines.specs.Descriptions.{read}
 use Rattle.written_form.specs.Writing.{inFull, asDeclared}
 use Rattle.written_form.specs.HistoryWriting.{everyAction}
 use Rattle.worked_examples.specs.Tables.{recipeTable, doorTable1, doorTable2, waterTable1, waterTable2}

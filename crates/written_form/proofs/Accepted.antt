@@ -14,8 +14,8 @@ use Rattle.basics.specs.Replies.{refused, answered}
 use Rattle.action_language.specs.declared.Law.{Law}
 use Rattle.written_form.specs.Writable.{Writable, linesWritten, draftWritten}
 use Rattle.spelling.specs.Spelling.{isName}
-use Rattle.description_reader.specs.Descriptions.{read, described}
-use Rattle.description_reader.specs.Answers.{behind, replied, recordOf, lawsLeft}
+use Rattle.description_lines.specs.Descriptions.{read, described}
+use Rattle.description_lines.specs.Answers.{behind, replied, recordOf, lawsLeft}
 use Rattle.shown_names.specs.Shown.{fluentName, actionName, shownBy, shownFluent, shownAction}
 use Rattle.written_form.specs.Writing.{Form, Spelling, descriptionText}
 use Rattle.written_form.specs.Respelling.{InCapitals}

@@ -16,7 +16,7 @@ use Rattle.action_language.specs.declared.Law.{Law}
 use Rattle.written_form.specs.Writable.{Writable, draftWritten, AreNames, Distinct}
 use Rattle.text.specs.Lines.{keys, noKey, stateKey, actKey, endKey, firstLine}
 use Rattle.text.specs.Lists.{Listed}
-use Rattle.description_reader.specs.LineSteps.{Draft}
+use Rattle.description_lines.specs.LineSteps.{Draft}
 use Rattle.history_values.specs.Values.{withLiterals, orFalse, filled}
 use Rattle.history_reader.specs.Histories.{most, listed, listLine, stateLine, actLine, historyEnd, statesFrom, byNames, readHistory}
 use Rattle.written_form.specs.Writing.{Form, asDeclared, lineText, listText, descriptionText}

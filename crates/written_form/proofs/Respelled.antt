@@ -20,8 +20,8 @@ use Rattle.text.specs.Lines.{inertialKey, causesKey, byKey, nonexecutableKey, n
 use Rattle.text.specs.Lines.{Line, keyed, valued, ended, firstLine}
 use Rattle.text.specs.Lists as lists
 use Rattle.text.specs.Lists.{Listed, codes, listOf}
-use Rattle.description_reader.specs.LineSteps.{Due, horizonDue, Draft, Step, refused, next, finish, lineStep}
-use Rattle.description_reader.specs.Descriptions.{Taken, afterStep, afterFirst, linesFrom, blank, described}
+use Rattle.description_lines.specs.LineSteps.{Due, horizonDue, Draft, Step, refused, next, finish, lineStep}
+use Rattle.description_lines.specs.Descriptions.{Taken, afterStep, afterFirst, linesFrom, blank, described}
 use Rattle.history_reader.specs.Histories.{most, listed, listLine, actLine, undoneFalse, atEnd, historyEnd, statesFrom}
 use Rattle.history_reader.specs.Histories.{atoms, recorded, byNames, readHistory}
 use Rattle.shown_names.specs.Shown.{shownBy, fluentName, actionName, shownFluent, shownAction}

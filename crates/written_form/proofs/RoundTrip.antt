@@ -16,9 +16,9 @@ use Rattle.text.specs.Bytes.{newline}
 use Rattle.text.specs.Lines.{horizonKey, fluentKey, actionKey, staticKey, endKey, noKey}
 use Rattle.spelling.specs.Spelling.{isName}
 use Rattle.text.specs.Names.{declaredAt}
-use Rattle.description_reader.specs.LineSteps.{Due, horizonDue, firstFluentDue, fluentDue, actionDue, lawDue, Draft}
-use Rattle.description_reader.specs.LineSteps.{allowed, next, lineStep}
-use Rattle.description_reader.specs.Descriptions.{blank, read, linesFrom, described}
+use Rattle.description_lines.specs.LineSteps.{Due, horizonDue, firstFluentDue, fluentDue, actionDue, lawDue, Draft}
+use Rattle.description_lines.specs.LineSteps.{allowed, next, lineStep}
+use Rattle.description_lines.specs.Descriptions.{blank, read, linesFrom, described}
 use Rattle.written_form.specs.Writing.{Form, asDeclared, lineText, horizonText, lawsText, namesText, descriptionText}
 use Rattle.written_form.proofs.WrittenNames.{distinct-front, name-lacks, undeclared}
 use Rattle.written_form.proofs.WrittenSteps.{horizon-clean, horizon-step, fluent-step, action-step, Passes}

@@ -25,12 +25,12 @@ use Rattle.letter_case.proofs.AlikeRuns.{names-refl}
 use Rattle.letter_case.proofs.LetterCase.{letter-case}
 use Rattle.line_values.specs.HorizonText.{horizonOf}
 use Rattle.line_values.specs.ShortLaws.{defaultLaw, inertialLaw, causesLaw, nonexecutableLaw}
-use Rattle.description_reader.specs.LineSteps.{Due, fluentDue, actionDue, lawDue, ifDue, byDue, Draft, startsLaw}
-use Rattle.description_reader.specs.LineSteps.{allowed, Step, refused, next, finish, horizonLine, nameLine}
-use Rattle.description_reader.specs.LineSteps.{readHead, begun, roomFor, whole, withIf, ifLine, afterLine}
-use Rattle.description_reader.specs.LineSteps.{wholeByLiteral, wholeByList, endLine, lawIn, fluentList, anyList}
-use Rattle.description_reader.specs.LineSteps.{lineStep}
-use Rattle.description_reader.specs.Descriptions.{described}
+use Rattle.description_lines.specs.LineSteps.{Due, fluentDue, actionDue, lawDue, ifDue, byDue, Draft, startsLaw}
+use Rattle.description_lines.specs.LineSteps.{allowed, Step, refused, next, finish, horizonLine, nameLine}
+use Rattle.description_lines.specs.LineSteps.{readHead, begun, roomFor, whole, withIf, ifLine, afterLine}
+use Rattle.description_lines.specs.LineSteps.{wholeByLiteral, wholeByList, endLine, lawIn, fluentList, anyList}
+use Rattle.description_lines.specs.LineSteps.{lineStep}
+use Rattle.description_lines.specs.Descriptions.{described}
 use Rattle.written_form.specs.Writing.{Form, Spelling, descriptionText}
 use Rattle.written_form.specs.Respelling.{InCapitals}
 use Rattle.written_form.specs.Writable.{AreNames, Writable}

@@ -19,8 +19,8 @@ use Rattle.spelling.specs.Spelling.{falseBytes, isName}
 use Rattle.text.specs.Bytes.{newline, comma, hyphen, equalsSign}
 use Rattle.text.specs.Lines.{keys, horizonKey, fluentKey, actionKey, staticKey, dynamicKey, ifKey, afterKey, endKey, noKey}
 use Rattle.text.specs.Lines.{defaultKey, inertialKey, causesKey, byKey, nonexecutableKey}
-use Rattle.description_reader.specs.LineSteps.{Draft}
-use Rattle.description_reader.specs.Descriptions.{Taken, read, described}
+use Rattle.description_lines.specs.LineSteps.{Draft}
+use Rattle.description_lines.specs.Descriptions.{Taken, read, described}
 use Rattle.reader_bounds.proofs.Drafts.{BoundedReply, bounded}
 use Rattle.letter_case.specs.Alike.{Alike, equal}
 use Rattle.letter_case.specs.LetterCase.{usesNames}

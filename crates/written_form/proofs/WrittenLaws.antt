@@ -19,8 +19,8 @@ use Rattle.text.specs.Lines.{staticKey, dynamicKey, ifKey, afterKey, defaultKey
 use Rattle.text.specs.Names.{literal}
 use Rattle.text.specs.Lists.{codes}
 use Rattle.line_values.specs.ShortLaws.{defaultLaw, inertialLaw}
-use Rattle.description_reader.specs.LineSteps.{Due, lawDue, ifDue, afterDue, byDue, Draft, startsLaw, allowed, next}
-use Rattle.description_reader.specs.LineSteps.{readHead, whole, ifLine, anyList, lineStep}
+use Rattle.description_lines.specs.LineSteps.{Due, lawDue, ifDue, afterDue, byDue, Draft, startsLaw, allowed, next}
+use Rattle.description_lines.specs.LineSteps.{readHead, whole, ifLine, anyList, lineStep}
 use Rattle.written_form.specs.Writing.{Form, inFull, asDefault, asInertial, asCauses, asNonexecutable, hasForm, writtenAs}
 use Rattle.written_form.specs.Writing.{asDeclared, lineText, listText, headText, fullText, formText, lawsText}
 use Rattle.written_form.specs.Writable.{formLines, lawLines, lawsLines, AreNames, Distinct, draft}

@@ -22,7 +22,7 @@ use Rattle.written_form.specs.Writable.{AreNames, Distinct}
 use Rattle.spelling.specs.Spelling.{sameName, falseBytes, isName}
 use Rattle.spelling.proofs.Comparing.{same-refl}
 use Rattle.text.specs.Names.{declaredAt, inSort, literal}
-use Rattle.description_reader.specs.LineSteps.{litHead, readHead}
+use Rattle.description_lines.specs.LineSteps.{litHead, readHead}
 use Rattle.written_form.specs.Writing.{literalText, headText}
 use Rattle.spelling.proofs.Naming.{named}
 use Rattle.written_form.proofs.WrittenLines.{Lacks}

@@ -25,12 +25,12 @@ use Rattle.text.specs.Lists.{codes}
 use Rattle.written_form.specs.Writable.{draft}
 use Rattle.line_values.specs.HorizonText.{horizonOf}
 use Rattle.line_values.specs.ShortLaws.{defaultLaw, inertialLaw, causesLaw, nonexecutableLaw}
-use Rattle.description_reader.specs.LineSteps.{Due, horizonDue, firstFluentDue, fluentDue, actionDue, lawDue, ifDue}
-use Rattle.description_reader.specs.LineSteps.{afterDue, byDue, Draft, startsLaw, allowed, next, finish}
-use Rattle.description_reader.specs.LineSteps.{horizonLine, readHead, begun, lawLine, whole, ifLine, afterLine}
-use Rattle.description_reader.specs.LineSteps.{wholeByLiteral, wholeByList, literalLine, fluentList, anyList, lineStep}
+use Rattle.description_lines.specs.LineSteps.{Due, horizonDue, firstFluentDue, fluentDue, actionDue, lawDue, ifDue}
+use Rattle.description_lines.specs.LineSteps.{afterDue, byDue, Draft, startsLaw, allowed, next, finish}
+use Rattle.description_lines.specs.LineSteps.{horizonLine, readHead, begun, lawLine, whole, ifLine, afterLine}
+use Rattle.description_lines.specs.LineSteps.{wholeByLiteral, wholeByList, literalLine, fluentList, anyList, lineStep}
 use Rattle.action_language.specs.Laws.{lawOf}
-use Rattle.description_reader.specs.Descriptions.{read, afterStep, afterFirst, linesFrom}
+use Rattle.description_lines.specs.Descriptions.{read, afterStep, afterFirst, linesFrom}
 use Rattle.written_form.specs.Writing.{lineText, horizonText}
 use Rattle.written_form.proofs.WrittenLines.{Lacks, answers, answers-some, passed-by, first-line}
 

@@ -8,8 +8,8 @@ use lib.Dec.{eqb}
 use Rattle.basics.specs.Search.{Each}
 use Rattle.basics.specs.Replies.{Reply, refused, answered}
 use Rattle.text.specs.Bytes.{newline}
-use Rattle.description_reader.specs.LineSteps.{Draft}
-use Rattle.description_reader.specs.Descriptions.{Taken, read, described}
+use Rattle.description_lines.specs.LineSteps.{Draft}
+use Rattle.description_lines.specs.Descriptions.{Taken, read, described}
 use Rattle.history_reader.specs.Histories.{readHistory}
 use Rattle.shown_names.specs.Shown.{shownFluent, shownAction}
 use Rattle.letter_case.specs.Alike.{Alike}

@@ -8,8 +8,8 @@ use Rattle.basics.specs.Replies as replies
 use Rattle.basics.specs.Replies.{Reply, answered}
 use Rattle.text.specs.Lines.{staticKey, dynamicKey, ifKey, afterKey, defaultKey, inertialKey, causesKey, byKey, nonexecutableKey}
 use Rattle.spelling.specs.Spelling.{falseBytes}
-use Rattle.description_reader.specs.LineSteps.{Due, Draft, Step, refused, next, finish, lineStep}
-use Rattle.description_reader.specs.Descriptions.{Taken, read, blank}
+use Rattle.description_lines.specs.LineSteps.{Due, Draft, Step, refused, next, finish, lineStep}
+use Rattle.description_lines.specs.Descriptions.{Taken, read, blank}
 use Rattle.written_form.specs.Writable.{AreNames}
 
 -- a line, then those behind it; behind a refusal and behind the end nothing is read

@@ -11,7 +11,7 @@ use Rattle.action_language.specs.declared.Kind.the-variants.{Static, Dynamic}
 use Rattle.action_language.specs.declared.Law.{Law}
 use Rattle.action_language.specs.Acceptance.{lawFits}
 use Rattle.spelling.specs.Spelling.{sameName, isName}
-use Rattle.description_reader.specs.LineSteps.{Draft}
+use Rattle.description_lines.specs.LineSteps.{Draft}
 use Rattle.reader_bounds.specs.Accepts.{Tidy}
 use Rattle.written_form.specs.Writing.{Form, inFull, asDefault, asInertial, asCauses, asNonexecutable, writtenAs}
 

@@ -5,7 +5,7 @@ use native.Mathlib.Omega.{arith}
 use lib.ListN.{length-take, replicate}
 use Rattle.history_reader.specs.Histories.{historyReplyOf}
 use Rattle.answer_codes.specs.Codes.{replyCode, causalCode}
-use Rattle.huntyghai.proofs.Texts.{reading-refused, reading-read}
+use Rattle.huntyghai_theory.proofs.Texts.{reading-refused, reading-read}
 use borrow.Author.Needs.{needs}
 use Rattle.bench_causal_reading.proofs.causal_times.Statement.{statement}
 use Rattle.bench_causal_reading.proofs.causal_times.Tie as tie

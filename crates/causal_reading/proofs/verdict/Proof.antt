@@ -4,7 +4,7 @@ use mathlib.Core.Path.{_≡_, _∙_}
 use Rattle.basics.specs.Search.{first, placeOf}
 use Rattle.basics.proofs.Loops.{at-place, no-place}
 use Rattle.action_language.specs.Laws.{lawsOf}
-use Rattle.action_language.specs.Meaning.{stateAt}
+use Rattle.transitions.specs.Meaning.{stateAt}
 use Rattle.law_effects.specs.Applying.{contradicts, appliesAtStart}
 use Rattle.causal_reading.specs.Verdicts.{causalVerdict}
 use Rattle.causal_reading.proofs.States.{first-at-start}

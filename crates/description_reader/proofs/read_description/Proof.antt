@@ -1,7 +1,7 @@
 -- `read_description` meets its contract: a refusal, or what was read.
 -- Assumes nothing.
 use mathlib.Core.Path.{sym, _∙_, ap}
-use Rattle.description_reader.specs.Answers.{replied, recordOf, lawsLeft}
+use Rattle.description_lines.specs.Answers.{replied, recordOf, lawsLeft}
 use Rattle.description_reader.proofs.Answering.{ends-refused, ends-read, read-reply, read-record, read-laws}
 use borrow.Author.Needs.{needs}
 use Rattle.description_reader.proofs.read_description.Statement.{statement}

@@ -44,9 +44,10 @@ use denote.Triple.Walked.{Stays, stay-dropped, walkOf, goes-dropped}
 use denote.Exit.{yes}
 use Rattle.action_language.specs.declared.Law.{Law}
 use Rattle.action_language.proofs.Law as T
-use Rattle.description_reader.specs.Descriptions.{described}
-use Rattle.description_reader.specs.Answers.{replyOf, replied, recordOf, lawsLeft}
-use Rattle.lent_laws.specs.Taking.{TakesAccepted}
+use Rattle.description_lines.specs.Descriptions.{described}
+use Rattle.description_lines.specs.Answers.{replied, recordOf, lawsLeft}
+use Rattle.description_reader.specs.Answers.{replyOf}
+use Rattle.reader_bounds.specs.Taking.{TakesAccepted}
 use Rattle.lent_laws.specs.declared.Read.{Read}
 use Rattle.held_laws.specs.declared.ReadRun.{ReadRun}
 use Rattle.lent_laws.proofs.Read as R

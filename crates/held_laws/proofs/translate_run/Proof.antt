@@ -49,7 +49,8 @@ use Rattle.action_language.proofs.Law as T
 use Rattle.action_language.proofs.Description as D
 use Rattle.action_language.proofs.Description.Laws as D′
 use Rattle.translation.specs.declared.Translated.{Translated}
-use Rattle.translation.specs.Translated.{outcomeOf, outcome, tableAfter}
+use Rattle.translation.specs.Answers.{outcomeOf}
+use Rattle.translation_rules.specs.Translated.{outcome, tableAfter}
 use Rattle.translation.proofs.Translated as S
 use Rattle.translation.proofs.Translated.Laws as S′
 use Rattle.law_runs.proofs.Walking.{walk-shows}

@@ -3,9 +3,9 @@
 use mathlib.Core.Path.{sym, ap, _∙_}
 use native.Mathlib.Omega.{arith}
 use lib.ListN.{take, length-take}
-use Rattle.translation.specs.Translated.{outcomeOf}
-use Rattle.translation.proofs.Outcomes.{written-accepted}
-use Rattle.translation.proofs.Histories.{written-passed, refused-left, written-left}
+use Rattle.translation.specs.Answers.{outcomeOf}
+use Rattle.translation_rules.proofs.Outcomes.{written-accepted}
+use Rattle.translation_rules.proofs.Histories.{written-passed, refused-left, written-left}
 use Rattle.history_check.specs.Checks.{finding}
 use Rattle.history_check.proofs.Judging.{words-front, says-refused, says-verdict, leaves-table}
 use borrow.Author.Needs.{needs}

@@ -5,9 +5,9 @@ use native.Mathlib.Omega.{arith}
 use lib.ListN.{length-take, replicate}
 use Rattle.history_reader.specs.Histories.{historyReplyOf}
 use Rattle.answer_codes.specs.Codes.{replyCode, causalCode}
-use Rattle.huntyghai.proofs.Texts.{reading-refused, reading-read}
-use Rattle.huntyghai.proofs.CodeLists.{as-listed, causalCodes, causal-codes}
-use Rattle.huntyghai.proofs.CausalNumbers.{input-reads, input-fault}
+use Rattle.huntyghai_theory.proofs.Texts.{reading-refused, reading-read}
+use Rattle.huntyghai_theory.proofs.CodeLists.{as-listed, causalCodes, causal-codes}
+use Rattle.huntyghai_theory.proofs.CausalNumbers.{input-reads, input-fault}
 use borrow.Author.Needs.{needs}
 use Rattle.huntyghai.proofs.huntyghai_causal_reading.Statement.{statement}
 use Rattle.huntyghai.proofs.huntyghai_causal_reading.Tie as tie

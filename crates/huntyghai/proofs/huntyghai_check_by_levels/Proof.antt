@@ -4,8 +4,8 @@ use mathlib.Core.Path.{_∙_, ap, subst}
 use Rattle.completion_theory.specs.Meaning.{SaysLevels}
 use Rattle.answer_codes.specs.Codes.{replyCode}
 use Rattle.answer_codes.specs.FormulaCodes.{formulaCode}
-use Rattle.huntyghai.proofs.FormulaNumbers.{levels-numbered}
-use Rattle.huntyghai.proofs.CodeLists.{as-listed, levelCodes, level-codes}
+use Rattle.huntyghai_theory.proofs.FormulaNumbers.{levels-numbered}
+use Rattle.huntyghai_theory.proofs.CodeLists.{as-listed, levelCodes, level-codes}
 use borrow.Author.Needs.{needs}
 use Rattle.huntyghai.proofs.huntyghai_check_by_levels.Statement.{statement}
 use Rattle.huntyghai.proofs.huntyghai_check_by_levels.Tie as tie

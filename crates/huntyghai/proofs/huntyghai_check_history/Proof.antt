@@ -4,9 +4,9 @@ use mathlib.Core.Path.{sym, ap, _∙_}
 use lib.ListN.{length}
 use Rattle.description_reader.specs.Answers.{replyOf}
 use Rattle.answer_codes.specs.Codes.{replyCode, findingCode}
-use Rattle.huntyghai.proofs.Texts.{check-refused, check-table-refused, check-read, check-table-read}
-use Rattle.huntyghai.proofs.CodeLists.{as-listed, checkCodes, check-codes}
-use Rattle.huntyghai.proofs.TextReadings.{text-checks, text-says-values}
+use Rattle.huntyghai_theory.proofs.Texts.{check-refused, check-table-refused, check-read, check-table-read}
+use Rattle.huntyghai_theory.proofs.CodeLists.{as-listed, checkCodes, check-codes}
+use Rattle.huntyghai_theory.proofs.TextReadings.{text-checks, text-says-values}
 use borrow.Author.Needs.{needs}
 use Rattle.huntyghai.proofs.huntyghai_check_history.Statement.{statement}
 use Rattle.huntyghai.proofs.huntyghai_check_history.Tie as tie

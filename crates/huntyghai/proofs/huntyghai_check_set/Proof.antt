@@ -3,8 +3,8 @@
 use mathlib.Core.Path.{_∙_, ap, subst}
 use Rattle.answer_set_theory.specs.Demand2.{Demand2}
 use Rattle.answer_codes.specs.Codes.{replyCode, verdictCode}
-use Rattle.huntyghai.proofs.SetCodes.{set-numbered}
-use Rattle.huntyghai.proofs.CodeLists.{as-listed, engineCodes, set-codes}
+use Rattle.huntyghai_theory.proofs.SetCodes.{set-numbered}
+use Rattle.huntyghai_theory.proofs.CodeLists.{as-listed, engineCodes, set-codes}
 use borrow.Author.Needs.{needs}
 use Rattle.huntyghai.proofs.huntyghai_check_set.Statement.{statement}
 use Rattle.huntyghai.proofs.huntyghai_check_set.Tie as tie

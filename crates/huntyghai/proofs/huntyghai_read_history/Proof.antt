@@ -3,7 +3,7 @@
 use mathlib.Core.Path.{_∙_, ap}
 use lib.ListN.{length}
 use Rattle.answer_codes.specs.Codes.{replyCode, readCode}
-use Rattle.huntyghai.proofs.CodeLists.{as-listed, historyCodes, history-codes}
+use Rattle.huntyghai_theory.proofs.CodeLists.{as-listed, historyCodes, history-codes}
 use borrow.Author.Needs.{needs}
 use Rattle.huntyghai.proofs.huntyghai_read_history.Statement.{statement}
 use Rattle.huntyghai.proofs.huntyghai_read_history.Tie as tie

@@ -4,9 +4,9 @@ use mathlib.Core.Path.{sym, ap, _∙_}
 use lib.ListN.{length}
 use Rattle.description_reader.specs.Answers.{replyOf}
 use Rattle.answer_codes.specs.Codes.{replyCode, writtenCode}
-use Rattle.huntyghai.proofs.Texts.{translate-refused, table-refused, translate-read, table-read}
-use Rattle.huntyghai.proofs.CodeLists.{as-listed, translateCodes, translate-codes}
-use Rattle.huntyghai.proofs.TextReadings.{text-translates}
+use Rattle.huntyghai_theory.proofs.Texts.{translate-refused, table-refused, translate-read, table-read}
+use Rattle.huntyghai_theory.proofs.CodeLists.{as-listed, translateCodes, translate-codes}
+use Rattle.huntyghai_theory.proofs.TextReadings.{text-translates}
 use borrow.Author.Needs.{needs}
 use Rattle.huntyghai.proofs.huntyghai_translate.Statement.{statement}
 use Rattle.huntyghai.proofs.huntyghai_translate.Tie as tie

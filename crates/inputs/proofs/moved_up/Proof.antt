@@ -4,7 +4,7 @@ use native.Mathlib.Omega.{arith}
 use mathlib.Core.Path.{refl, subst}
 use borrow.Author.Tests.{eq-eqb, ne-eqb}
 use Rattle.history_reader.specs.Histories.{historyReplyOf}
-use Rattle.inputs.specs.Internal.{CanMove}
+use Rattle.whole_inputs.specs.Internal.{CanMove}
 use borrow.Author.Needs.{needs}
 use Rattle.inputs.proofs.moved_up.Statement.{statement}
 use Rattle.inputs.proofs.moved_up.Tie as tie

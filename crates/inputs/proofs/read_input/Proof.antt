@@ -9,10 +9,11 @@ use lib.ListN.{length, take, drop, replicate, length-take, length-drop, length-a
 use Rattle.action_language.specs.declared.Description.{Description}
 use Rattle.action_language.specs.Atoms.{atomCount}
 use Rattle.action_language.proofs.Atoms.{few-atoms, atoms-within}
-use Rattle.description_reader.specs.Descriptions.{described}
-use Rattle.description_reader.specs.Answers.{replyOf, recordOf, lawsLeft}
+use Rattle.description_lines.specs.Descriptions.{described}
+use Rattle.description_lines.specs.Answers.{recordOf, lawsLeft}
+use Rattle.description_reader.specs.Answers.{replyOf}
 use Rattle.history_reader.specs.Histories.{historyReplyOf, historyReplied}
-use Rattle.inputs.proofs.Known.{known, limits, description-refused, recorded-refused, says, can-move, values-read}
+use Rattle.whole_inputs.proofs.Known.{known, limits, description-refused, recorded-refused, says, can-move, values-read}
 use borrow.Author.Needs.{needs}
 use Rattle.inputs.proofs.read_input.Statement.{statement}
 use Rattle.inputs.proofs.read_input.Tie as tie

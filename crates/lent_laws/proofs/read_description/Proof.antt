@@ -46,8 +46,9 @@ use Rattle.action_language.specs.declared.Law.{Law}
 use Rattle.action_language.proofs.Law as T
 use Rattle.description_reader.specs.declared.Described.{Described}
 use Rattle.basics.specs.Replies.{Reply}
-use Rattle.description_reader.specs.Descriptions.{Taken, described}
-use Rattle.description_reader.specs.Answers.{replyOf, replied, recordOf, lawsLeft}
+use Rattle.description_lines.specs.Descriptions.{Taken, described}
+use Rattle.description_lines.specs.Answers.{replied, recordOf, lawsLeft}
+use Rattle.description_reader.specs.Answers.{replyOf}
 use Rattle.description_reader.proofs.Described as D
 use Rattle.description_reader.proofs.Described.Laws as D′
 use Rattle.description_reader.proofs.read_description as core
@@ -58,7 +59,8 @@ use Rattle.lent_laws.specs.declared.Read.{Read}
 use Rattle.law_runs.specs.Internal.{gathered, scattered}
 use Rattle.lent_laws.proofs.Read as S
 use Rattle.lent_laws.proofs.Read.Laws as S′
-use Rattle.lent_laws.proofs.Reading.{left-stored, takes-accepted}
+use Rattle.reader_bounds.proofs.Taking.{takes-accepted}
+use Rattle.lent_laws.proofs.Reading.{left-stored}
 use Rattle.law_runs.proofs.Walking.{walk-shows}
 use Rattle.law_runs.proofs.Answers.{answers, both-said, and-said, says-both, ends-saying}
 use Rattle.law_runs.proofs.Records.{Run, run-typed, run-makes}

@@ -1,7 +1,7 @@
 -- `put_outcome` meets its contract. The table has the room that the output's definition names.
 -- Assumes nothing.
 use mathlib.Core.Path.{_≡_, sym, ap, _∙_}
-use Rattle.translation.specs.Translated.{outcomeOf}
+use Rattle.translation.specs.Answers.{outcomeOf}
 use Rattle.history_check.specs.Checks.{replyOf, checked}
 use borrow.Author.Needs.{needs}
 use Rattle.report.proofs.put_outcome.Statement.{statement}

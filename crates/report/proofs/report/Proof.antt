@@ -4,9 +4,9 @@ use mathlib.Core.Path.{sym, ap, _∙_}
 use native.Mathlib.Omega.{arith}
 use lib.ListN.{length, take, replicate, length-take}
 use Rattle.history_reader.specs.Histories.{historyReplyOf}
-use Rattle.report.specs.Output.{output}
-use Rattle.report.proofs.Reported.{from-first, says-refused, says-values}
-use Rattle.report.proofs.Program.{program}
+use Rattle.report_theory.specs.Output.{output}
+use Rattle.report_theory.proofs.Reported.{from-first, says-refused, says-values}
+use Rattle.report_theory.proofs.Program.{program}
 use borrow.Author.Needs.{needs}
 use Rattle.report.proofs.report.Statement.{statement}
 use Rattle.report.proofs.report.Tie as tie

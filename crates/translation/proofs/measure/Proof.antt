@@ -9,7 +9,7 @@ use Rattle.action_language.proofs.Laws.{accepted-counts, accepted-horizon}
 use Rattle.action_language.proofs.Atoms.{accepted-atoms}
 use Rattle.basics.proofs.Loops.{refused-at, not-refused}
 use Rattle.action_language.specs.Acceptance.{badRecord, badHorizon}
-use Rattle.translation.specs.Translated.{outcome}
+use Rattle.translation_rules.specs.Translated.{outcome}
 use Rattle.translation.proofs.measure.Statement.{statement}
 use Rattle.translation.proofs.measure.Tie as tie
 

@@ -3,8 +3,8 @@
 use mathlib.Core.Path.{sym, ap, _∙_}
 use borrow.Author.Needs.{needs}
 use lib.ListN.{length}
-use Rattle.translation.specs.Translated.{outcomeOf}
-use Rattle.translation.proofs.Outcomes.{written-accepted, refused-left, written-left, written-limits}
+use Rattle.translation.specs.Answers.{outcomeOf}
+use Rattle.translation_rules.proofs.Outcomes.{written-accepted, refused-left, written-left, written-limits}
 use Rattle.translation.proofs.translate.Statement.{statement}
 use Rattle.translation.proofs.translate.Tie as tie
 

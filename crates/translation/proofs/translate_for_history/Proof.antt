@@ -4,9 +4,9 @@ use mathlib.Core.Path.{sym, ap, _∙_}
 use borrow.Author.Needs.{needs}
 use Rattle.basics.specs.Replies.{testedOf}
 use Rattle.basics.proofs.Loops.{refused-at, not-refused}
-use Rattle.translation.specs.Translated.{outcomeOf}
-use Rattle.translation.proofs.Outcomes.{written-accepted, written-limits}
-use Rattle.translation.proofs.Histories.{first-refused, says-10, says-11, later-refused, all-passed}
+use Rattle.translation.specs.Answers.{outcomeOf}
+use Rattle.translation_rules.proofs.Outcomes.{written-accepted, written-limits}
+use Rattle.translation_rules.proofs.Histories.{first-refused, says-10, says-11, later-refused, all-passed}
 use Rattle.translation.proofs.translate_for_history.Statement.{statement}
 use Rattle.translation.proofs.translate_for_history.Tie as tie
 

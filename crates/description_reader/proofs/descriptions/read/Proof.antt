@@ -4,7 +4,7 @@ use native.Mathlib.Omega.{arith}
 use mathlib.Core.Path.{_∙_}
 use lib.ListN.{length}
 use borrow.Author.Tests.{lt-ltb}
-use Rattle.description_reader.specs.Descriptions.{described}
+use Rattle.description_lines.specs.Descriptions.{described}
 use Rattle.description_reader.specs.Internal.{dueAt, Sound}
 use Rattle.description_reader.proofs.Walking.{outcome-refused, blank-sound}
 use Rattle.description_reader.proofs.Joining.{has-number}

@@ -11,7 +11,7 @@ use Rattle.text.specs.declared.lines.LineAt.{LineAt}
 use Rattle.description_reader.specs.declared.states.ReaderState.{ReaderState}
 use Rattle.text.specs.Lists as lists
 use Rattle.text.specs.Lists.{listFrom}
-use Rattle.description_reader.specs.Descriptions.{described}
+use Rattle.description_lines.specs.Descriptions.{described}
 use Rattle.description_reader.specs.Internal.{dueAt, draftOf, Padded, Sound, Follows, stepOf, stepWith}
 use Rattle.text.specs.Internal.{spelled, itemsAt}
 use Rattle.text.specs.Lines.{noKey}

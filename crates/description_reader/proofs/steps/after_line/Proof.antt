@@ -1,7 +1,7 @@
 -- `steps::after_line` meets its contract.
 -- Assumes nothing.
 use mathlib.Core.Path.{_∙_, ap}
-use Rattle.description_reader.specs.LineSteps.{next, lawDue, whole}
+use Rattle.description_lines.specs.LineSteps.{next, lawDue, whole}
 use Rattle.description_reader.specs.Internal.{draftOf}
 use Rattle.description_reader.proofs.Stepping.{law-after}
 use borrow.Author.Needs.{needs}

@@ -1,7 +1,7 @@
 -- `steps::by_line` meets its contract.
 -- Assumes nothing.
 use mathlib.Core.Path.{_∙_, ap}
-use Rattle.description_reader.specs.LineSteps.{next, lawDue, whole}
+use Rattle.description_lines.specs.LineSteps.{next, lawDue, whole}
 use Rattle.description_reader.specs.Internal.{draftOf}
 use Rattle.action_language.specs.declared.Kind.the-variants.{Dynamic}
 use Rattle.line_values.specs.Internal.{noPlaces, lawWith}

@@ -3,7 +3,7 @@
 use mathlib.Core.Path.{refl, _∙_, ap}
 use lib.ListN.{take}
 use Rattle.action_language.specs.declared.Kind.the-variants.{Static, Dynamic}
-use Rattle.description_reader.specs.LineSteps.{next, lawDue, afterDue, whole}
+use Rattle.description_lines.specs.LineSteps.{next, lawDue, afterDue, whole}
 use Rattle.description_reader.specs.Internal.{draftOf, stepOf}
 use Rattle.description_reader.proofs.Stepping.{law-if, if-static, if-dynamic}
 use borrow.Author.Needs.{needs}

@@ -11,7 +11,7 @@ use Rattle.basics.proofs.Loops.{at-place, no-place}
 use Rattle.text.specs.Names.{literal}
 use Rattle.text.specs.Internal.{spelled}
 use Rattle.text.proofs.Spelling.{literal-small}
-use Rattle.description_reader.specs.LineSteps.{readHead}
+use Rattle.description_lines.specs.LineSteps.{readHead}
 use Rattle.description_reader.proofs.Stepping.{room-64}
 use borrow.Author.Needs.{needs}
 use Rattle.description_reader.proofs.steps.law_head.Statement.{statement}

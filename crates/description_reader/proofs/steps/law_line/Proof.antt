@@ -2,7 +2,7 @@
 -- Assumes nothing.
 use mathlib.Core.Path.{_≡_, refl, sym, _∙_, ap}
 use mathlib.Core.Bool.{cond}
-use Rattle.description_reader.specs.LineSteps.{next, lawLine, ifDue, byDue}
+use Rattle.description_lines.specs.LineSteps.{next, lawLine, ifDue, byDue}
 use Rattle.description_reader.specs.Internal.{dueOf, draftOf, begunWith, stepOf}
 use Rattle.description_reader.proofs.Stepping.{counted, sound-64, room-any}
 use borrow.Author.Needs.{needs}

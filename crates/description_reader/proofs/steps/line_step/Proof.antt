@@ -5,7 +5,7 @@ use mathlib.Core.Bool.{true}
 use mathlib.Core.List.{[]}
 use Prim.Native.Nat.{_<_}
 use borrow.Author.Tests.{eq-eqb, ne-eqb, not-true, not-false}
-use Rattle.description_reader.specs.LineSteps.{allowed, lawIn}
+use Rattle.description_lines.specs.LineSteps.{allowed, lawIn}
 use Rattle.description_reader.specs.Internal.{dueAt, stepWith}
 use Rattle.description_reader.proofs.Stepping.{if-begun, after-begun, by-begun}
 use Rattle.description_reader.proofs.Joining.{refused-joins, stays}

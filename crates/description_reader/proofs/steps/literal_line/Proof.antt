@@ -10,7 +10,7 @@ use Rattle.text.specs.Names.{literal}
 use Rattle.text.specs.Internal.{spelled}
 use Rattle.text.proofs.Spelling.{literal-small}
 use Rattle.line_values.specs.ShortLaws.{defaultLaw, inertialLaw}
-use Rattle.description_reader.specs.LineSteps.{Draft, roomFor}
+use Rattle.description_lines.specs.LineSteps.{Draft, roomFor}
 use Rattle.description_reader.specs.Internal.{draftOf}
 use Rattle.description_reader.proofs.Stepping.{room-here, room-64, refused-some, literal-unknown, literal-full}
 use Rattle.description_reader.proofs.Stepping.{literal-room, literal-whole}

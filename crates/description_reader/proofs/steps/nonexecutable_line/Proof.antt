@@ -10,7 +10,7 @@ use Rattle.text.specs.Lists.{codes}
 use Rattle.action_language.specs.declared.Head.the-variants.{False}
 use Rattle.action_language.specs.declared.Kind.the-variants.{Dynamic}
 use Rattle.line_values.specs.Internal.{noPlaces, lawWith}
-use Rattle.description_reader.specs.LineSteps.{roomFor}
+use Rattle.description_lines.specs.LineSteps.{roomFor}
 use Rattle.description_reader.specs.Internal.{draftOf}
 use Rattle.description_reader.proofs.Stepping.{room-here, room-64, list-full, list-whole}
 use borrow.Author.Needs.{needs}

@@ -1,7 +1,7 @@
 -- `steps::whole_law` meets its contract.
 -- Assumes nothing.
 use mathlib.Core.Path.{ap}
-use Rattle.description_reader.specs.LineSteps.{next, lawDue}
+use Rattle.description_lines.specs.LineSteps.{next, lawDue}
 use Rattle.description_reader.specs.Internal.{stepOf}
 use Rattle.description_reader.proofs.Stepping.{pushed-sound}
 use borrow.Author.Needs.{needs}

@@ -4,7 +4,7 @@ use mathlib.Core.Path.{_≡_, _∙_, ap}
 use mathlib.Core.Bool.{not}
 use Rattle.basics.proofs.Loops.{and-stop, and-go}
 use Rattle.action_language.specs.Laws.{ifList}
-use Rattle.action_language.specs.Meaning.{holds}
+use Rattle.transitions.specs.Meaning.{holds}
 use Rattle.law_effects.specs.Applying.{read}
 use Rattle.law_effects.proofs.Interpretations.{alone}
 use borrow.Author.Needs.{needs}

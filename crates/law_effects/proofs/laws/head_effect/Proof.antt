@@ -1,7 +1,7 @@
 -- `head_effect` meets its contract: where the law applies, its head decides.
 -- Assumes nothing.
 use mathlib.Core.Path.{_≡_, refl, sym, _∙_, ap}
-use Rattle.action_language.specs.Meaning.{satisfies}
+use Rattle.transitions.specs.Meaning.{satisfies}
 use Rattle.law_effects.specs.Applying.{read}
 use Rattle.law_effects.proofs.Interpretations.{alone}
 use borrow.Author.Tests.{not-true, not-false}

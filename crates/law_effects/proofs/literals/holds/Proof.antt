@@ -5,7 +5,7 @@ use Prim.Native.Nat.{_≤_, _-_}
 use native.Mathlib.Omega.{arith}
 use borrow.Author.Tests.{not-true, not-false}
 use lib.ListN.{length, take, drop}
-use Rattle.action_language.specs.Meaning.{holds, together}
+use Rattle.transitions.specs.Meaning.{holds, together}
 use Rattle.basics.proofs.Loops.{all-prefix-stop, all-prefix-go, all-prefix-done}
 use Rattle.law_effects.specs.Applying.{read}
 use Rattle.law_effects.proofs.Prefixes.{take-least}

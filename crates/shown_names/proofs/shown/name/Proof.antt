@@ -7,8 +7,8 @@ use native.Mathlib.Omega.{arith}
 use lib.ListN.{length, getD}
 use Rattle.basics.specs.Replies.{refused, answered}
 use Rattle.text.proofs.Spelling.{spelled-length}
-use Rattle.description_reader.specs.LineSteps.{Draft}
-use Rattle.description_reader.specs.Descriptions.{read, described}
+use Rattle.description_lines.specs.LineSteps.{Draft}
+use Rattle.description_lines.specs.Descriptions.{read, described}
 use Rattle.description_reader.specs.Internal.{draftBy}
 use Rattle.description_reader.specs.declared.descriptions.Declarations.{Declarations}
 use Rattle.description_reader.proofs.Answering.{Declared, declared-refused, declared-read}

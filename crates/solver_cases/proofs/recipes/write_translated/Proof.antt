@@ -4,8 +4,8 @@ use mathlib.Core.Path.{sym, ap, _∙_}
 use native.Mathlib.Omega.{arith}
 use lib.ListN.{length-take}
 use borrow.Author.Needs.{needs}
-use Rattle.translation.specs.Translated.{outcomeOf}
-use Rattle.translation.proofs.Outcomes.{written-accepted}
+use Rattle.translation.specs.Answers.{outcomeOf}
+use Rattle.translation_rules.proofs.Outcomes.{written-accepted}
 use Rattle.solver_cases.proofs.recipes.write_translated.Statement.{statement}
 use Rattle.solver_cases.proofs.recipes.write_translated.Tie as tie
 

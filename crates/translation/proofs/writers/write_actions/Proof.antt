@@ -6,9 +6,9 @@ use native.Mathlib.Nat.{sub-zero, add-zero}
 use native.Mathlib.Omega.{arith}
 use Rattle.basics.specs.Search.{range}
 use Rattle.logic_programs.specs.Words.{words}
-use Rattle.rule_words.specs.RuleForms.{choices}
-use Rattle.translation.specs.Rules.{actionAtoms}
-use Rattle.translation.proofs.Counts.{words-append}
+use Rattle.translation_rules.specs.RuleForms.{choices}
+use Rattle.translation_rules.specs.Rules.{actionAtoms}
+use Rattle.translation_rules.proofs.Counts.{words-append}
 use Rattle.translation.proofs.Turns.{Turns, counted, Before, starts, fits, turned, finished}
 use Rattle.translation.proofs.Writing.{product-bound, choices-append}
 use Rattle.translation.proofs.writers.write_actions.Statement.{statement}

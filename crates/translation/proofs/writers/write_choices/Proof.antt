@@ -8,8 +8,8 @@ use lib.ListN.{length}
 use Rattle.basics.specs.Search.{range}
 use Rattle.basics.proofs.Tests.{length-range}
 use Rattle.logic_programs.specs.Words.{words}
-use Rattle.rule_words.specs.RuleForms.{choices}
-use Rattle.translation.proofs.Counts.{length-words-choices}
+use Rattle.translation_rules.specs.RuleForms.{choices}
+use Rattle.translation_rules.proofs.Counts.{length-words-choices}
 use Rattle.translation.proofs.Writing.{choices-at, Storing, storing-first, storing-next, storing-last}
 use Rattle.translation.proofs.writers.write_choices.Statement.{statement}
 use Rattle.translation.proofs.writers.write_choices.Tie as tie

@@ -10,9 +10,9 @@ use Rattle.logic_programs.specs.Words.{words}
 use Rattle.basics.proofs.Loops.{rest-cons, rest-done}
 use Rattle.action_language.specs.declared.Kind.{Kind}
 use Rattle.action_language.specs.declared.Law.{Law}
-use Rattle.translation.specs.Rules.{perLaw}
+use Rattle.translation_rules.specs.Rules.{perLaw}
 use Rattle.translation.specs.Internal.{lawRules}
-use Rattle.translation.proofs.Counts.{words-append}
+use Rattle.translation_rules.proofs.Counts.{words-append}
 use Rattle.rule_words.proofs.RuleWords.{by-kind-bound}
 use Rattle.translation.proofs.Sums.{past}
 use Rattle.translation.proofs.Turns.{Turns, Before, starts, fits, turned, finished}

@@ -8,7 +8,7 @@ use native.Mathlib.Omega.{arith}
 use lib.ListN.{length}
 use borrow.Author.Needs.{needs}
 use Rattle.action_language.specs.Laws.{lawsOf}
-use Rattle.translation.specs.Translated.{tableFor}
+use Rattle.translation_rules.specs.Translated.{tableFor}
 use Rattle.translation.proofs.Writing.{Left, front, last, begun, wrote, room, ended, stored, staticWords}
 use Rattle.translation.proofs.Writing.{dynamicWords, fluentWords, actionWords, passes, sets-front}
 use Rattle.translation.proofs.writers.write_table.Statement.{statement}

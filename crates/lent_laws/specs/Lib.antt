@@ -1,2 +1,0 @@
--- What the functions over a lent run promise besides the definitions of the crates below.
-pub mod Taking

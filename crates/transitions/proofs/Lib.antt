@@ -1,0 +1,3 @@
+-- Literals of one fluent, and the worked examples.
+pub mod Literals
+pub mod MeaningExamples

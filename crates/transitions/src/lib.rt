@@ -1,0 +1,1 @@
+// What C means: states, causally explained transitions and paths: no function.
