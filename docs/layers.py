@@ -46,30 +46,30 @@ MAY_USE = {
 
 # The lanes by bands, the highest first: where each begins and ends, from the left.
 BANDS = [
-    {"tests and benchmarks": (20, 1448)},
-    {"faces": (624, 1260)},
-    {"lent laws": (832, 1052)},
-    {"engine": (20, 448), "action language": (492, 920), "text": (964, 1392)},
-    {"base": (20, 1448)},
+    {"tests and benchmarks": (20, 1864)},
+    {"faces": (832, 1468)},
+    {"lent laws": (1040, 1260)},
+    {"engine": (20, 448), "action language": (492, 1128), "text": (1172, 1808)},
+    {"base": (20, 1864)},
 ]
 # Where a thick arrow goes down, from the left; None where it goes straight across to the lane on the left.
 DOWN = {
-    ("tests and benchmarks", "faces"): 942,
+    ("tests and benchmarks", "faces"): 1150,
     ("tests and benchmarks", "engine"): 80,
     ("tests and benchmarks", "action language"): 558,
-    ("tests and benchmarks", "text"): 1326,
-    ("tests and benchmarks", "base"): 1420,
-    ("faces", "lent laws"): 942,
+    ("tests and benchmarks", "text"): 1742,
+    ("tests and benchmarks", "base"): 1836,
+    ("faces", "lent laws"): 1150,
     ("faces", "engine"): 388,
-    ("faces", "action language"): 728,
-    ("faces", "text"): 1156,
-    ("lent laws", "action language"): 876,
-    ("lent laws", "text"): 1008,
+    ("faces", "action language"): 936,
+    ("faces", "text"): 1364,
+    ("lent laws", "action language"): 1084,
+    ("lent laws", "text"): 1216,
     ("action language", "engine"): None,
     ("text", "action language"): None,
     ("engine", "base"): 234,
-    ("action language", "base"): 706,
-    ("text", "base"): 1178,
+    ("action language", "base"): 810,
+    ("text", "base"): 1490,
 }
 APART = "tests and benchmarks"  # its lane has a colour of its own
 
