@@ -19,11 +19,11 @@ use Rattle.action_language.proofs.Laws.{accepted-counts, accepted-horizon}
 use Rattle.translation_rules.specs.Translated.{Written, written, tooShort, rulesFor, tableFor, outcome, overwritten, tableAfter}
 
 enough : (needed room : ℕ) → tooShort needed room ≡ none → needed ≤ room
-enough needed room e = go (ltb room needed) refl e
+enough needed room e = go (ltb room needed) refl
   where
-    go : (b : Bool) → ltb room needed ≡ b → cond b (some needed) none ≡ none → needed ≤ room
-    go true q h = absurd (let z : _≡_ {A = ℕ} 0 1 = cc in omega arith)
-    go false q h = ltb-false room needed q
+    go : (b : Bool) → ltb room needed ≡ b → needed ≤ room
+    go true q = let h = rw q at e in absurd (let z : _≡_ {A = ℕ} 0 1 = cc in omega arith)
+    go false q = ltb-false room needed q
 
 pub record Accepted (d : Description) (ls : List Law) (lent room a r w : ℕ) : Type 0 where
   pub taken : badRecord d ls lent ≡ none
