@@ -1,6 +1,7 @@
 -- The engine's theory: its verdicts are those of the reduct definition, and it accepts what is within its limits.
 pub mod Sets
 pub mod Least
+pub mod Deriving
 pub mod FirstFault
 pub mod Passes
 pub mod Decoding

@@ -14,7 +14,6 @@ use lib.ListN.{length, getD, take, drop, set, replicate, length-set, length-take
 use lib.Seq.{drop-cons, getD-take, take-suc-set, take-set-lt, drop-set-lt, append-snoc, getD-set-same, getD-set-other}
 use Rattle.basics.specs.Search.{all}
 use Rattle.basics.proofs.Loops.{to-the-end}
-use Rattle.basics.proofs.Tests.{false-of-not}
 use Rattle.logic_programs.specs.Literals.{Lits}
 use Rattle.logic_programs.specs.Rules.{Rule}
 use Rattle.logic_programs.specs.AnswerSets.{Subset, Closed, reduct, literalHeaded}
@@ -22,9 +21,8 @@ use Rattle.logic_programs.specs.Words.{rulesOf}
 use Rattle.literal_sets.specs.Marks.{marked}
 use Rattle.literal_sets.proofs.Bits.{withMark, in-clear, in-stored, length-with}
 use Rattle.answer_set_theory.specs.Verdicts.{round, rounds}
-use Rattle.answer_sets.specs.Derived.{Derived}
 use Rattle.answer_sets.specs.Internal.{headWordAt, plainAt, heads, waitsFor, Waiting, EachWaiting, Begun, Made}
-use Rattle.answer_set_theory.proofs.Least.{HeadsBelow, rounds-within, rounds-below, least-closed}
+use Rattle.answer_set_theory.proofs.Least.{rounds-within}
 use Rattle.answer_set_theory.proofs.Sets.{all-within, within-subset}
 use Rattle.answer_sets.proofs.Outside.{wordsFrom, settled, still}
 use Rattle.answer_sets.proofs.Starts.{heads-append}
@@ -233,15 +231,3 @@ module _ (table : List ℕ) (X : Lits) (starts waits : List ℕ) (count : ℕ) (
         λ Z up sub c. let wide : Subset (marked marks) Z = λ d t. up d (rw (made .added d, t)) in
         rw (← e) (made .kept Z wide c) ∙ inv .covers Z wide sub c;
   }
-
-pub derived : (n : ℕ) (Π : List Rule) (X : Lits) (words : List ℕ) → HeadsBelow (2 * n) Π → length words ≡ 32
-    → marked words ≡ rounds (2 * n) Π X
-    → Derived n Π X words
-derived n Π X words low size is = record {
-  least-marked = λ e. record {
-    size = size;
-    least = rw is (least-closed n Π X low);
-    past = λ c h. false-of-not (marked words c) (λ t. let b = rounds-below (2 * n) Π X low (2 * n) c (rw is at t) in omega arith);
-  };
-  last-round = λ e. is;
-}

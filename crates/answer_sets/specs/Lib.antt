@@ -1,4 +1,3 @@
 -- What the answer-set engine's promises mean. Read in this order.
 pub mod Answers
-pub mod Derived
 pub mod Internal

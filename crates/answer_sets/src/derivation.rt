@@ -10,7 +10,7 @@ ghost use Rattle.basics.specs.Search.{first, placeOf};
 ghost use Rattle.logic_programs.specs.Words.{rulesOf, badRule};
 ghost use Rattle.literal_sets.specs.Marks.{marked};
 ghost use Rattle.answer_set_theory.specs.Verdicts.{isBroken};
-ghost use Rattle.answer_sets.specs.Derived.{Derived};
+ghost use Rattle.answer_set_theory.specs.Derived.{Derived};
 ghost use Rattle.answer_sets.specs.Internal.{EachWaiting, Made, Roomy};
 
 // The marks after a round, and how many rules still wait.

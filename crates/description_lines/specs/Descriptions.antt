@@ -8,7 +8,7 @@ use lib.Dec.{ltb}
 use lib.ListN.{length}
 use Rattle.basics.specs.Replies.{Reply, refused, answered}
 use Rattle.action_language.specs.declared.Description.{Description}
-use Rattle.text.specs.Lines.{Line, firstLine}
+use Rattle.text_forms.specs.Lines.{Line, firstLine}
 use Rattle.description_lines.specs.LineSteps as step
 use Rattle.description_lines.specs.LineSteps.{Due, horizonDue, Draft, Step, next, finish, lineStep}
 

@@ -11,8 +11,8 @@ use borrow.Author.Tests.{lt-ltb, le-ltb, leb-true, leb-false, eq-eqb, ne-eqb}
 use lib.Dec.{ltb, leb}
 use lib.ListN.{length, take, drop, set, replicate, length-take, length-append}
 use lib.Seq.{length-take-le, take-suc-set, set-split, drop-at, drop-drop}
-use Rattle.text.specs.Names.{literal}
-use Rattle.text.specs.Lists.{Listed, refused, codes, added, listFrom}
+use Rattle.text_forms.specs.Names.{literal}
+use Rattle.text_forms.specs.Lists.{Listed, refused, codes, added, listFrom}
 use Rattle.text.specs.Internal.{itemAt, nextAt, itemsAt}
 use Rattle.text.proofs.Items.{items-next, items-end}
 use Rattle.action_language.specs.Laws.{padded}

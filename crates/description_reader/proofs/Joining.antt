@@ -6,11 +6,11 @@ use mathlib.Core.List.{List}
 use Prim.Native.Nat.{ℕ, suc, _+_, _-_, _<_}
 use native.Mathlib.Omega.{arith}
 use lib.ListN.{length, drop, length-take, length-drop}
-use Rattle.text.specs.declared.lines.LineAt.{LineAt}
-use Rattle.text.specs.declared.names.Names.{Names}
-use Rattle.text.specs.Lines.{noKey}
-use Rattle.text.specs.Places.{lineSize, startOfLine, lineAt, valueAt}
-use Rattle.text.specs.NamePlaces.{declaresName, joined, joinedBy, namesIn}
+use Rattle.text_forms.specs.declared.LineAt.{LineAt}
+use Rattle.text_forms.specs.declared.Names.{Names}
+use Rattle.text_forms.specs.Lines.{noKey}
+use Rattle.text_forms.specs.Places.{lineSize, startOfLine, lineAt, valueAt}
+use Rattle.text_forms.specs.NamePlaces.{declaresName, joined, joinedBy, namesIn}
 use Rattle.text.proofs.Placing.{line-fits}
 use Rattle.description_reader.specs.declared.states.ReaderState.{ReaderState}
 use Rattle.description_lines.specs.LineSteps as step

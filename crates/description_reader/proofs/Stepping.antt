@@ -23,9 +23,9 @@ use Rattle.description_reader.specs.declared.states.HeldDraft.{HeldDraft
 use Rattle.description_lines.specs.LineSteps.{Due, horizonDue, firstFluentDue, fluentDue, actionDue, lawDue}
 use Rattle.description_lines.specs.LineSteps.{ifDue, afterDue, byDue, allowed, withAfter}
 use Rattle.action_language.specs.Laws.{lawOf}
-use Rattle.text.specs.Lines.{ifKey, afterKey, byKey}
-use Rattle.text.specs.Names.{literal}
-use Rattle.text.specs.Lists.{Listed, codes}
+use Rattle.text_forms.specs.Lines.{ifKey, afterKey, byKey}
+use Rattle.text_forms.specs.Names.{literal}
+use Rattle.text_forms.specs.Lists.{Listed, codes}
 use Rattle.description_lines.specs.LineSteps as step
 use Rattle.description_lines.specs.LineSteps.{Draft, next, whole, withIf, lawIn, roomFor, wholeByLiteral}
 use Rattle.description_lines.specs.LineSteps.{literalLine, nonexecutableLine}

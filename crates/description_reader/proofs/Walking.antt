@@ -13,8 +13,8 @@ use lib.ListN.{length, take, drop, length-drop}
 use Rattle.basics.specs.Search.{first}
 use Rattle.basics.proofs.Tests.{and-iff, not-both}
 use Rattle.action_language.specs.declared.Law.{Law}
-use Rattle.text.specs.Bytes.{newline, equalsSign, Cut, cutAt, cut}
-use Rattle.text.specs.Lines.{noKey, Line, keyed, valued, ended, keyNumber, firstLine}
+use Rattle.text_forms.specs.Bytes.{newline, equalsSign, Cut, cutAt, cut}
+use Rattle.text_forms.specs.Lines.{noKey, Line, keyed, valued, ended, keyNumber, firstLine}
 use Rattle.description_lines.specs.LineSteps.{Due, horizonDue, firstFluentDue, fluentDue, actionDue, lawDue}
 use Rattle.description_lines.specs.LineSteps.{ifDue, afterDue, byDue, Draft, startsLaw, allowed, roomFor}
 use Rattle.description_lines.specs.LineSteps.{anyList}
@@ -22,11 +22,11 @@ use Rattle.description_lines.specs.LineSteps as step
 use Rattle.description_lines.specs.LineSteps.{Step, next, finish, lineStep}
 use Rattle.basics.specs.Replies.{Reply, refused}
 use Rattle.description_lines.specs.Descriptions.{Taken, afterStep, afterFirst, linesFrom, described}
-use Rattle.text.specs.declared.lines.LineAt.{LineAt}
+use Rattle.text_forms.specs.declared.LineAt.{LineAt}
 use Rattle.description_reader.specs.declared.states.HeldDraft.{HeldDraft}
 use Rattle.description_reader.specs.declared.states.ReaderState.{ReaderState}
-use Rattle.text.specs.Lists as lists
-use Rattle.text.specs.Lists.{Listed, codes, listFrom, listOf}
+use Rattle.text_forms.specs.Lists as lists
+use Rattle.text_forms.specs.Lists.{Listed, codes, listFrom, listOf}
 use Rattle.text.specs.Internal.{spelled, itemsAt}
 use Rattle.description_reader.specs.Internal.{dueAt, draftOf, stepOf, stepWith, isListKey, itemsFrom, highFor}
 use Rattle.description_reader.specs.Internal.{takenOf, blankState, Sound}

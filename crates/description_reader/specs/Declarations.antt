@@ -4,7 +4,7 @@
 use mathlib.Core.List.{List}
 use Prim.Native.Nat.{ℕ}
 use Rattle.basics.specs.Replies.{Reply, refused, answered}
-use Rattle.text.specs.NamePlaces.{noNames, namesIn}
+use Rattle.text_forms.specs.NamePlaces.{noNames, namesIn}
 use Rattle.description_reader.specs.declared.descriptions.Declarations.{Declarations}
 use Rattle.description_lines.specs.Descriptions.{Taken, read}
 

@@ -17,12 +17,12 @@ use Rattle.description_reader.specs.declared.descriptions.Declarations.{
 use Rattle.description_reader.specs.declared.states.Due as code
 use Rattle.description_reader.specs.declared.states.Due.the-variants as code-due
 use Rattle.description_reader.specs.declared.codes.Codes.{Codes}
-use Rattle.text.specs.Lines.{horizonKey, fluentKey, actionKey, staticKey, dynamicKey, ifKey, afterKey}
-use Rattle.text.specs.Lines.{defaultKey, inertialKey, causesKey, byKey, nonexecutableKey}
-use Rattle.text.specs.Lists as lists
-use Rattle.text.specs.Lists.{Listed, codes, added}
+use Rattle.text_forms.specs.Lines.{horizonKey, fluentKey, actionKey, staticKey, dynamicKey, ifKey, afterKey}
+use Rattle.text_forms.specs.Lines.{defaultKey, inertialKey, causesKey, byKey, nonexecutableKey}
+use Rattle.text_forms.specs.Lists as lists
+use Rattle.text_forms.specs.Lists.{Listed, codes, added}
 use Rattle.text.specs.Internal.{spelled}
-use Rattle.text.specs.NamePlaces.{noNames, joined, namesIn}
+use Rattle.text_forms.specs.NamePlaces.{noNames, joined, namesIn}
 use Rattle.description_lines.specs.LineSteps.{Due, horizonDue, firstFluentDue, fluentDue, actionDue, lawDue}
 use Rattle.description_lines.specs.LineSteps.{ifDue, afterDue, byDue, Draft, allowed}
 use Rattle.description_lines.specs.LineSteps as step

@@ -13,14 +13,14 @@ use line_values::law_forms;
 use line_values::orders;
 use text::lines;
 use text::lists;
-use text::names::Names;
+use text_forms::Names;
 ghost use mathlib.Core.Path.{_≡_};
 ghost use Prim.Native.Nat.{_≤_, _<_, min};
 ghost use lib.Dec.{ltb};
 ghost use lib.ListN.{length};
 ghost use Rattle.action_language.specs.declared.Law.{Law};
 ghost use Rattle.description_lines.specs.Descriptions.{described};
-ghost use Rattle.text.specs.NamePlaces.{noNames};
+ghost use Rattle.text_forms.specs.NamePlaces.{noNames};
 ghost use Rattle.description_reader.specs.Declarations.{declarations};
 ghost use Rattle.description_reader.specs.Internal.{dueOf, blankState, isListKey, itemsFrom, highFor, takenOf, Ended, Declares};
 

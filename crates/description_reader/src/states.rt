@@ -2,7 +2,7 @@
 use crate::Run;
 use action_language::Law;
 use text::lines;
-use text::names::Names;
+use text_forms::Names;
 ghost use mathlib.Core.Path.{_≡_};
 ghost use Prim.Native.Nat.{min};
 ghost use lib.Dec.{ltb};

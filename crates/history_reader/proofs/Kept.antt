@@ -12,9 +12,9 @@ use lib.Dec.{eqb, ltb}
 use lib.ListN.{length, getD, replicate, length-replicate}
 use Rattle.basics.specs.Replies.{Reply, refused, answered}
 use Rattle.action_language.specs.Atoms.{actionAtom, atomCount}
-use Rattle.text.specs.Lines.{Line, firstLine, endKey}
-use Rattle.text.specs.Lists as lists
-use Rattle.text.specs.Lists.{Listed, codes, listOf}
+use Rattle.text_forms.specs.Lines.{Line, firstLine, endKey}
+use Rattle.text_forms.specs.Lists as lists
+use Rattle.text_forms.specs.Lists.{Listed, codes, listOf}
 use Rattle.description_lines.specs.LineSteps.{Draft}
 use Rattle.description_lines.specs.Descriptions.{Taken, read, described}
 use Rattle.history_values.specs.Values.{withLiterals, filled, ActionsValued}

@@ -11,13 +11,13 @@ use borrow.Author.Tests.{eq-eqb, ne-eqb, lt-ltb, ltb-true, ltb-false}
 use lib.Dec.{eqb, ltb}
 use lib.ListN.{length, getD, set}
 use Rattle.basics.specs.Replies.{Reply, refused, answered}
-use Rattle.text.specs.Lines.{noKey, Line, keyed, firstLine}
+use Rattle.text_forms.specs.Lines.{noKey, Line, keyed, firstLine}
 use Rattle.text.specs.Internal.{itemAt, nextAt, itemsAt}
 use Rattle.text.proofs.Placing.{keyIn}
 use Rattle.text.proofs.Items.{items-next, items-end, items-start, items-none}
-use Rattle.text.specs.Lists as lists
-use Rattle.text.specs.Lists.{Listed, codes, items, listFrom, listOf}
-use Rattle.text.specs.Names.{literal}
+use Rattle.text_forms.specs.Lists as lists
+use Rattle.text_forms.specs.Lists.{Listed, codes, items, listFrom, listOf}
+use Rattle.text_forms.specs.Names.{literal}
 use Rattle.description_lines.specs.LineSteps.{Draft}
 use Rattle.history_values.specs.Values.{withTrue, withFalse, withLiterals}
 use Rattle.history_reader.specs.Histories.{historyEnd, listed, listLine, undoneFalse, actLine, most, statesFrom}

@@ -11,7 +11,7 @@ use borrow.Author.Tests.{eq-eqb, ne-eqb, lt-ltb, le-ltb}
 use lib.Dec.{ltb}
 use lib.ListN.{length, getD, take, drop, set, replicate, length-append, drop-of-length-le}
 use lib.Seq.{length-take-le, take-suc, drop-cons, set-at}
-use Rattle.text.specs.declared.lines.LineAt.{LineAt}
+use Rattle.text_forms.specs.declared.LineAt.{LineAt}
 use Rattle.action_language.specs.declared.Law.{Law}
 use Rattle.description_reader.specs.declared.descriptions.Declarations.{Declarations}
 use Rattle.history_reader.specs.declared.histories.EndAt.{EndAt}
@@ -19,10 +19,10 @@ use Rattle.history_reader.specs.declared.histories.Lines.{Lines}
 use Rattle.history_reader.specs.declared.histories.Record.{Record}
 use Rattle.history_reader.specs.declared.histories.Wanted.{Wanted}
 use Rattle.basics.specs.Replies.{Reply, refused, answered}
-use Rattle.text.specs.Lines.{Line, firstLine}
-use Rattle.text.specs.Names.{literal}
-use Rattle.text.specs.Lists as lists
-use Rattle.text.specs.Lists.{Listed, codes, listFrom, listOf}
+use Rattle.text_forms.specs.Lines.{Line, firstLine}
+use Rattle.text_forms.specs.Names.{literal}
+use Rattle.text_forms.specs.Lists as lists
+use Rattle.text_forms.specs.Lists.{Listed, codes, listFrom, listOf}
 use Rattle.description_lines.specs.LineSteps.{Draft}
 use Rattle.description_lines.specs.Descriptions.{read}
 use Rattle.history_values.specs.Values.{withLiterals, filled}

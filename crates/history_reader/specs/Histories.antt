@@ -11,9 +11,9 @@ use Rattle.basics.specs.Replies.{Reply, refused, answered, orRefuse, leftAfter}
 use Rattle.action_language.specs.Atoms.{atomCount, wrongLength}
 use Rattle.history_reader.specs.declared.HistoryAnswer.{HistoryAnswer}
 use Rattle.history_reader.specs.declared.HistoryAnswer.the-variants.{Refused, Complete}
-use Rattle.text.specs.Lines.{stateKey, actKey, endKey, Line, firstLine}
-use Rattle.text.specs.Lists as lists
-use Rattle.text.specs.Lists.{Listed, codes, listOf}
+use Rattle.text_forms.specs.Lines.{stateKey, actKey, endKey, Line, firstLine}
+use Rattle.text_forms.specs.Lists as lists
+use Rattle.text_forms.specs.Lists.{Listed, codes, listOf}
 use Rattle.description_lines.specs.LineSteps.{Draft}
 use Rattle.description_lines.specs.Descriptions.{Taken, read, described}
 use Rattle.history_values.specs.Values.{withLiterals, filled, ActionsValued}

@@ -12,7 +12,7 @@ use Rattle.history_reader.specs.declared.histories.Record.{Record}
 use Rattle.history_reader.specs.declared.histories.Lines.{Lines}
 use Rattle.history_reader.specs.declared.histories.Wanted.{Wanted}
 use Rattle.description_reader.specs.declared.descriptions.Declarations.{Declarations}
-use Rattle.text.specs.Lines.{firstLine, stateKey, actKey}
+use Rattle.text_forms.specs.Lines.{firstLine, stateKey, actKey}
 use Rattle.description_lines.specs.LineSteps.{Draft}
 use Rattle.history_values.specs.Values.{filled}
 use Rattle.history_reader.specs.Histories.{historyEnd, listLine}

@@ -7,7 +7,7 @@ ghost use mathlib.Core.Path.{_≡_};
 ghost use mathlib.Core.List.{List};
 ghost use Prim.Native.Nat.{ℕ, _+_, _≤_, _<_};
 ghost use lib.ListN.{length, drop, replicate};
-ghost use Rattle.text.specs.Lines.{firstLine};
+ghost use Rattle.text_forms.specs.Lines.{firstLine};
 ghost use Rattle.history_reader.specs.Histories.{historyEnd, statesFrom, valuesLeft};
 ghost use Rattle.history_reader.specs.Internal.{endingOf, wantedAt, placeFrom, leftOf, LinesFit, valuesRead, atomsOf};
 ghost use Rattle.description_reader.specs.Internal.{draftBy, Limits};

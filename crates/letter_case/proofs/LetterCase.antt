@@ -10,9 +10,9 @@ use lib.ListN.{length}
 use Rattle.basics.proofs.Tests.{not-both}
 use Rattle.spelling.specs.Letters.{lowered}
 use Rattle.spelling.proofs.Comparing.{same-refl, same-equal}
-use Rattle.text.specs.Lines.{horizonKey, fluentKey, actionKey}
-use Rattle.text.specs.Names.{isNew, literal}
-use Rattle.text.specs.Lists.{listOf}
+use Rattle.text_forms.specs.Lines.{horizonKey, fluentKey, actionKey}
+use Rattle.text_forms.specs.Names.{isNew, literal}
+use Rattle.text_forms.specs.Lists.{listOf}
 use Rattle.description_lines.specs.LineSteps.{Due, Draft, endLine, readHead, fluentList, anyList, lineStep}
 use Rattle.letter_case.specs.Alike.{Alike, AlikeNames}
 use Rattle.letter_case.specs.LetterCase.{usesNames, LetterCase}

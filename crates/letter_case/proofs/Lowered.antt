@@ -11,9 +11,9 @@ use lib.ListN.{length, take, drop, length-map}
 use Rattle.basics.specs.Search.{first}
 use Rattle.spelling.specs.Letters.{lowered, same}
 use Rattle.spelling.proofs.Lowering.{lowered-outside, no-letter, all-lowered-again, name-lowered}
-use Rattle.text.specs.Bytes.{comma, hyphen, cut}
-use Rattle.text.specs.Names.{declaredAt, inSort, literal, isNew}
-use Rattle.text.specs.Lists.{Listed, items, itemsIn, added, listFrom, listOf}
+use Rattle.text_forms.specs.Bytes.{comma, hyphen, cut}
+use Rattle.text_forms.specs.Names.{declaredAt, inSort, literal, isNew}
+use Rattle.text_forms.specs.Lists.{Listed, items, itemsIn, added, listFrom, listOf}
 use Rattle.description_lines.specs.LineSteps.{readHead}
 
 -- declared names

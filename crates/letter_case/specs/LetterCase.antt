@@ -7,9 +7,9 @@ use mathlib.Core.List.{List}
 use Prim.Native.Nat.{ℕ}
 use lib.Dec.{eqb}
 use Rattle.spelling.specs.Spelling.{sameName}
-use Rattle.text.specs.Lines.{ifKey, afterKey, stateKey, actKey, byKey}
-use Rattle.text.specs.Names.{isNew, literal}
-use Rattle.text.specs.Lists.{listOf}
+use Rattle.text_forms.specs.Lines.{ifKey, afterKey, stateKey, actKey, byKey}
+use Rattle.text_forms.specs.Names.{isNew, literal}
+use Rattle.text_forms.specs.Lists.{listOf}
 use Rattle.description_lines.specs.LineSteps.{Due, Draft, startsLaw, readHead, lineStep}
 use Rattle.letter_case.specs.Alike.{Alike, AlikeNames}
 

@@ -10,7 +10,7 @@ use borrow.Author.Tests.{lt-ltb, le-ltb, ltb-true, ltb-false}
 use lib.Dec.{ltb, lit<}
 use lib.Pow.{pow-add}
 use Rattle.io.specs.Digits.{digits, Fewest}
-use Rattle.output_lines.specs.Writing.{placesIn, decimal}
+use Rattle.printed_lines.specs.Writing.{placesIn, decimal}
 
 pub pow-ten : (k : ℕ) → 1 ≤ 10 ^ k
 pow-ten zero = omega arith

@@ -1,4 +1,3 @@
-pub mod Stores
 pub mod Decimals
 pub mod WordTable
 pub mod Names

@@ -13,7 +13,7 @@ use Rattle.history_check.specs.declared.Checked.the-variants.{Refused, Missing,
 use Rattle.history_check.specs.Checks.{replyOf}
 use Rattle.history_check.proofs.Checked.{the-type}
 use Rattle.causal_reading.specs.Verdicts.{Causal, contradicted, uncaused, path}
-use Rattle.output_lines.specs.Printed.{readingLines, checkedLines}
+use Rattle.printed_lines.specs.Printed.{readingLines, checkedLines}
 use Rattle.output_lines.specs.Internal.{wordAt, verdictBytes, causalBytes, verdictShown, causalShown, causalShownAfter}
 
 reading-shown : (input : List ℕ) (r : Reply Causal) → readingLines input r ≡ causalBytes input (causalShown r)

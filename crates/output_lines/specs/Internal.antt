@@ -12,10 +12,10 @@ use Rattle.output_lines.specs.declared.shown.Value.{Value}
 use Rattle.output_lines.specs.declared.shown.Value.the-variants.{Word, Number, Fluent}
 use Rattle.output_lines.specs.declared.shown.Verdict.{Verdict}
 use Rattle.output_lines.specs.declared.shown.Causal.{Causal}
-use Rattle.output_lines.specs.Writing.{outputLine, decimal, horizonWord, atomsWord, rulesWord, wordsWord}
-use Rattle.output_lines.specs.Writing.{answerWord, atWord, causalWord, timeWord, itemWord, refusedWord, placeWord}
-use Rattle.output_lines.specs.Writing.{passesWord, missingWord, clashWord, brokenWord, unfoundedWord, noneWord}
-use Rattle.output_lines.specs.Writing.{pathWord, contradictedWord, uncausedWord}
+use Rattle.printed_lines.specs.Writing.{outputLine, decimal, horizonWord, atomsWord, rulesWord, wordsWord}
+use Rattle.printed_lines.specs.Writing.{answerWord, atWord, causalWord, timeWord, itemWord, refusedWord, placeWord}
+use Rattle.printed_lines.specs.Writing.{passesWord, missingWord, clashWord, brokenWord, unfoundedWord, noneWord}
+use Rattle.printed_lines.specs.Writing.{pathWord, contradictedWord, uncausedWord}
 
 -- the words by their numbers; a number that is no word's has no bytes
 abbrev pub words : List (List ℕ)

@@ -1,4 +1,2 @@
--- What is printed for an answer. Read in this order.
-pub mod Writing
-pub mod Printed
+-- What these functions promise each other.
 pub mod Internal

@@ -27,8 +27,8 @@ ghost use lib.ListN.{length};
 ghost use lib.Seq.{sets};
 ghost use Rattle.history_check.specs.Checks;
 ghost use Rattle.causal_reading.specs.Readings;
-ghost use Rattle.output_lines.specs.Writing.{outputLine, decimal};
-ghost use Rattle.output_lines.specs.Printed.{refusalLines, countLines, checkedLines};
+ghost use Rattle.printed_lines.specs.Writing.{outputLine, decimal};
+ghost use Rattle.printed_lines.specs.Printed.{refusalLines, countLines, checkedLines};
 ghost use Rattle.output_lines.specs.Internal.{wordAt, valueBytes, verdictBytes, causalBytes};
 
 // What the output says of a translation.

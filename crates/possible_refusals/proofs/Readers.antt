@@ -16,11 +16,11 @@ use Rattle.basics.proofs.Tests.{not-both, and-iff, or-iff}
 use Rattle.action_language.specs.declared.Head.{Head}
 use Rattle.action_language.specs.declared.Kind.{Kind}
 use Rattle.action_language.specs.declared.Kind.the-variants.{Static, Dynamic}
-use Rattle.text.specs.Bytes.{newline, comma, equalsSign, cutAt, cut}
-use Rattle.text.specs.Lines.{endKey, Line, keyed, valued, ended, keyNumber, firstLine}
-use Rattle.text.specs.Names.{literal}
-use Rattle.text.specs.Lists as lists
-use Rattle.text.specs.Lists.{Listed, codes, itemsIn, items, added, listFrom, listOf}
+use Rattle.text_forms.specs.Bytes.{newline, comma, equalsSign, cutAt, cut}
+use Rattle.text_forms.specs.Lines.{endKey, Line, keyed, valued, ended, keyNumber, firstLine}
+use Rattle.text_forms.specs.Names.{literal}
+use Rattle.text_forms.specs.Lists as lists
+use Rattle.text_forms.specs.Lists.{Listed, codes, itemsIn, items, added, listFrom, listOf}
 use Rattle.text.proofs.Cutting.{first-inside}
 use Rattle.description_lines.specs.LineSteps as step
 use Rattle.description_lines.specs.LineSteps.{Due, horizonDue, Draft, Step, next, finish, withIf, lineStep}

@@ -22,7 +22,7 @@ use Rattle.action_language.specs.declared.Kind.the-variants.{Static, Dynamic}
 use Rattle.action_language.specs.declared.Law.{Law}
 use Rattle.action_language.specs.Laws.{padded, lawOf}
 use Rattle.action_language.specs.Acceptance.{codesBelow, headFits, lawFits, badRecord, badHorizon}
-use Rattle.text.specs.Lines.{Line, firstLine}
+use Rattle.text_forms.specs.Lines.{Line, firstLine}
 use Rattle.line_values.specs.ShortLaws.{defaultLaw, inertialLaw, causesLaw, nonexecutableLaw}
 use Rattle.description_lines.specs.LineSteps as step
 use Rattle.description_lines.specs.LineSteps.{Due, horizonDue, firstFluentDue, fluentDue, actionDue, lawDue, ifDue}

@@ -15,11 +15,11 @@ use Rattle.basics.specs.Search.{Each}
 use Rattle.basics.specs.Replies.{Reply, refused, answered}
 use Rattle.basics.proofs.Tests.{and-iff, each-append}
 use Rattle.action_language.specs.Atoms.{atomCount}
-use Rattle.text.specs.Bytes.{hyphen}
-use Rattle.text.specs.Lines.{firstLine}
-use Rattle.text.specs.Lists as lists-of
-use Rattle.text.specs.Lists.{Listed, codes, added, items, listFrom, listOf}
-use Rattle.text.specs.Names.{declaredAt, inSort, literal}
+use Rattle.text_forms.specs.Bytes.{hyphen}
+use Rattle.text_forms.specs.Lines.{firstLine}
+use Rattle.text_forms.specs.Lists as lists-of
+use Rattle.text_forms.specs.Lists.{Listed, codes, added, items, listFrom, listOf}
+use Rattle.text_forms.specs.Names.{declaredAt, inSort, literal}
 use Rattle.description_lines.specs.LineSteps.{Draft}
 use Rattle.description_lines.specs.Descriptions.{read, described}
 use Rattle.history_values.specs.Values.{withTrue, withFalse, withLiterals, orFalse, filled}

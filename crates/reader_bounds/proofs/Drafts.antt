@@ -16,11 +16,11 @@ use Rattle.basics.proofs.Tests.{and-iff, each-append}
 use Rattle.action_language.specs.declared.Kind.{Kind}
 use Rattle.action_language.specs.declared.Kind.the-variants.{Static, Dynamic}
 use Rattle.action_language.specs.declared.Law.{Law}
-use Rattle.text.specs.Bytes.{newline, equalsSign, Cut, cutAt, cut}
-use Rattle.text.specs.Lines.{Line, keyed, valued, ended, keyNumber, firstLine}
+use Rattle.text_forms.specs.Bytes.{newline, equalsSign, Cut, cutAt, cut}
+use Rattle.text_forms.specs.Lines.{Line, keyed, valued, ended, keyNumber, firstLine}
 use Rattle.spelling.specs.Spelling.{isName}
 use Rattle.spelling.proofs.Naming.{named}
-use Rattle.text.specs.Names.{absent, isNew, declaredAt}
+use Rattle.text_forms.specs.Names.{absent, isNew, declaredAt}
 use Rattle.description_lines.specs.LineSteps as step
 use Rattle.description_lines.specs.LineSteps.{Due, horizonDue, firstFluentDue, fluentDue, actionDue, lawDue, ifDue}
 use Rattle.description_lines.specs.LineSteps.{afterDue, byDue, Draft, Step, next, finish, withIf, lineStep}

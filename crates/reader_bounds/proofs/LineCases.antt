@@ -21,13 +21,13 @@ use Rattle.action_language.specs.declared.Law.{Law}
 use Rattle.action_language.specs.Laws.{lawOf}
 use Rattle.action_language.specs.Acceptance.{headFits}
 use Rattle.spelling.specs.Letters.{isDigit}
-use Rattle.text.specs.Bytes.{hyphen}
-use Rattle.text.specs.Lines.{horizonKey, fluentKey, actionKey, staticKey, dynamicKey, ifKey, afterKey, endKey}
-use Rattle.text.specs.Lines.{defaultKey, inertialKey, causesKey, byKey, nonexecutableKey}
+use Rattle.text_forms.specs.Bytes.{hyphen}
+use Rattle.text_forms.specs.Lines.{horizonKey, fluentKey, actionKey, staticKey, dynamicKey, ifKey, afterKey, endKey}
+use Rattle.text_forms.specs.Lines.{defaultKey, inertialKey, causesKey, byKey, nonexecutableKey}
 use Rattle.spelling.specs.Spelling.{sameName, falseBytes}
-use Rattle.text.specs.Names.{isNew, declaredAt, inSort, literal}
-use Rattle.text.specs.Lists as lists
-use Rattle.text.specs.Lists.{Listed, codes, items, added, listFrom, listOf}
+use Rattle.text_forms.specs.Names.{isNew, declaredAt, inSort, literal}
+use Rattle.text_forms.specs.Lists as lists
+use Rattle.text_forms.specs.Lists.{Listed, codes, items, added, listFrom, listOf}
 use Rattle.line_values.specs.HorizonText.{inHorizon, horizonOf}
 use Rattle.line_values.specs.ShortLaws.{defaultLaw, inertialLaw, causesLaw, nonexecutableLaw}
 use Rattle.description_lines.specs.LineSteps as step

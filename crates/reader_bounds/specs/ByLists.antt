@@ -9,8 +9,8 @@ use Prim.Native.Nat.{ℕ, zero, suc, _+_, _-_, _*_}
 use lib.Dec.{eqb}
 use lib.ListN.{length}
 use Rattle.basics.specs.Replies.{answered}
-use Rattle.text.specs.Lines.{stateKey, actKey, Line, firstLine}
-use Rattle.text.specs.Lists.{codes, listOf}
+use Rattle.text_forms.specs.Lines.{stateKey, actKey, Line, firstLine}
+use Rattle.text_forms.specs.Lists.{codes, listOf}
 use Rattle.description_lines.specs.LineSteps.{Draft}
 use Rattle.description_lines.specs.Descriptions.{read, described}
 use Rattle.history_reader.specs.Histories.{most, readHistory}

@@ -45,7 +45,7 @@ use Rattle.whole_inputs.proofs.Known.{recorded-refused}
 use Rattle.possible_refusals.specs.Refusals.{among}
 use Rattle.possible_refusals.proofs.Readers.{input-by}
 use Rattle.possible_refusals.proofs.Checks.{fits, in-time, small-table, is-written, values-count, values-small, values-acted}
-use Rattle.output_lines.specs.Printed.{causalAfter}
+use Rattle.printed_lines.specs.Printed.{causalAfter}
 use Rattle.report_theory.specs.Output.{room, afterOutcome, output}
 use Rattle.report_theory.specs.Program.{Refused, causalShown, missingOrClash, EngineTold, CausalTold, VerdictPrinted, Program}
 

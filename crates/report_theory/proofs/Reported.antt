@@ -16,8 +16,8 @@ use Rattle.history_reader.specs.Histories.{historyReplied, valuesLeft}
 use Rattle.law_runs.specs.Runs.{noLaws}
 use Rattle.whole_inputs.specs.Inputs.{recordedIn}
 use Rattle.whole_inputs.proofs.Known.{history-refused, history-read}
-use Rattle.output_lines.specs.Printed.{refusalLines}
-use Rattle.output_lines.proofs.Stores.{Wrote}
+use Rattle.printed_lines.specs.Printed.{refusalLines}
+use Rattle.printed_lines.proofs.Stores.{Wrote}
 use Rattle.report_theory.specs.Output.{room, afterOutcome, lawsTaken, afterInput, output}
 use Rattle.report_theory.proofs.Composing.{laws-behind}
 

@@ -11,7 +11,7 @@ use Rattle.causal_reading.specs.Readings.{reading}
 use Rattle.description_lines.specs.Descriptions.{Taken, read, described}
 use Rattle.description_lines.specs.Answers.{recordOf}
 use Rattle.whole_inputs.specs.Inputs.{recordedIn}
-use Rattle.output_lines.specs.Printed.{refusalLines, countLines, checkedLines}
+use Rattle.printed_lines.specs.Printed.{refusalLines, countLines, checkedLines}
 
 -- room for the largest table
 abbrev pub room : ℕ

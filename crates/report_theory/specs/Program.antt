@@ -26,7 +26,7 @@ use Rattle.description_lines.specs.Descriptions.{read, described, descriptionOf
 use Rattle.history_values.specs.Values.{ActionsValued}
 use Rattle.history_reader.specs.Histories.{atoms}
 use Rattle.whole_inputs.specs.Inputs.{recordedIn}
-use Rattle.output_lines.specs.Printed.{refusalLines, countLines, findingLines, causalLines, noCausal}
+use Rattle.printed_lines.specs.Printed.{refusalLines, countLines, findingLines, causalLines, noCausal}
 
 -- the refusal of the input, by one of 1 to 7
 pub record Refused (input out : List ℕ) : Type 0 where

@@ -15,7 +15,7 @@ use Rattle.description_lines.specs.Descriptions.{Taken, read, described, descri
 use Rattle.history_reader.specs.Histories.{atoms, readHistory}
 use Rattle.shown_names.specs.Shown.{shownFluent}
 use Rattle.whole_inputs.specs.Inputs.{movedBy, afterDescription, recordedIn}
-use Rattle.output_lines.specs.Printed.{countLines, findingLines, causalLines, readingLines, causalAfter, checkedLines}
+use Rattle.printed_lines.specs.Printed.{countLines, findingLines, causalLines, readingLines, causalAfter, checkedLines}
 use Rattle.report_theory.specs.Output.{room, afterOutcome, afterInput, output}
 use Rattle.written_form.specs.Respelling.{Respelled, ReadAlike, both-refused, both-read}
 use Rattle.written_form.proofs.Respelled.{respelling}

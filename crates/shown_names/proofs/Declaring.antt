@@ -15,8 +15,8 @@ use Rattle.basics.specs.Replies.{Reply, refused, answered}
 use Rattle.action_language.specs.declared.Kind.{Kind}
 use Rattle.action_language.specs.declared.Kind.the-variants.{Static, Dynamic}
 use Rattle.action_language.specs.declared.Law.{Law}
-use Rattle.text.specs.Lines.{Line, firstLine}
-use Rattle.text.specs.Places.{startOfLine}
+use Rattle.text_forms.specs.Lines.{Line, firstLine}
+use Rattle.text_forms.specs.Places.{startOfLine}
 use Rattle.text.proofs.Placing.{lineNumber, next-line}
 use Rattle.description_lines.specs.LineSteps as step
 use Rattle.description_lines.specs.LineSteps.{Due, horizonDue, firstFluentDue, fluentDue, actionDue, lawDue, ifDue}

@@ -9,7 +9,7 @@ use borrow.Author.Tests.{lt-ltb, le-ltb}
 use denote.Ref.{RefT, ptr, now}
 use lib.ListN.{length, getD, List·getD-eq-default}
 use Rattle.basics.specs.Replies.{Reply, refused, answered}
-use Rattle.text.specs.Places.{valueOfLine, startOfValue, LiesAt}
+use Rattle.text_forms.specs.Places.{valueOfLine, startOfValue, LiesAt}
 use Rattle.text.proofs.Placing.{line-value}
 use Rattle.description_lines.specs.LineSteps.{Draft}
 use Rattle.description_lines.specs.Descriptions.{Taken, read, described}

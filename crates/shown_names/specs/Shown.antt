@@ -5,7 +5,7 @@ use mathlib.Core.List.{List, []}
 use Prim.Native.Nat.{ℕ, suc, _+_}
 use lib.Dec.{ltb}
 use lib.ListN.{length, getD}
-use Rattle.text.specs.Places.{startOfValue}
+use Rattle.text_forms.specs.Places.{startOfValue}
 use Rattle.description_lines.specs.LineSteps.{Draft}
 use Rattle.basics.specs.Replies.{Reply, refused, answered}
 use Rattle.description_lines.specs.Descriptions.{Taken, read, described}

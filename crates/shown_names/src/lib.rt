@@ -2,7 +2,7 @@
 mod shown;
 
 ghost use mathlib.Core.Path.{_≡_};
-ghost use Rattle.text.specs.Places.{LiesAt};
+ghost use Rattle.text_forms.specs.Places.{LiesAt};
 ghost use Rattle.shown_names.specs.Shown.{shownFluent, shownAction, shownFluentStart, shownActionStart};
 
 // The part of the description text where a fluent was declared; empty for a number that nothing declares, and in a text that is refused.

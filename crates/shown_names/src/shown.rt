@@ -3,7 +3,7 @@ use description_reader::descriptions;
 use text::lines;
 ghost use mathlib.Core.Path.{_≡_};
 ghost use mathlib.Core.Bool.{cond};
-ghost use Rattle.text.specs.Places.{LiesAt};
+ghost use Rattle.text_forms.specs.Places.{LiesAt};
 ghost use Rattle.shown_names.specs.Shown.{shownFluent, shownAction, shownFluentStart, shownActionStart};
 
 // The name of an action or a fluent by its number, or nothing: behind the horizon's line each line declares one name, the fluents

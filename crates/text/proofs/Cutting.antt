@@ -11,10 +11,10 @@ use lib.ListN.{length, take, drop, length-drop, length-take}
 use lib.Seq.{take-nil}
 use Rattle.basics.specs.Search.{first}
 use Rattle.basics.proofs.Tests.{first-some}
-use Rattle.text.specs.declared.lines.LineAt.{LineAt}
-use Rattle.text.specs.Bytes.{newline, comma, equalsSign}
-use Rattle.text.specs.Lines.{keyNumber}
-use Rattle.text.specs.Places.{numberOr, noLine, lineAt}
+use Rattle.text_forms.specs.declared.LineAt.{LineAt}
+use Rattle.text_forms.specs.Bytes.{newline, comma, equalsSign}
+use Rattle.text_forms.specs.Lines.{keyNumber}
+use Rattle.text_forms.specs.Places.{numberOr, noLine, lineAt}
 use Rattle.text.specs.Internal.{itemAt, nextAt}
 
 -- what is found stands inside

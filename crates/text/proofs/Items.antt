@@ -11,8 +11,8 @@ use lib.Dec.{eqb, leb}
 use lib.ListN.{length, take, drop, length-drop}
 use lib.Seq.{drop-drop}
 use Rattle.basics.specs.Search.{first}
-use Rattle.text.specs.Bytes.{comma, cut}
-use Rattle.text.specs.Lists.{itemsIn, items}
+use Rattle.text_forms.specs.Bytes.{comma, cut}
+use Rattle.text_forms.specs.Lists.{itemsIn, items}
 use Rattle.text.specs.Internal.{itemAt, nextAt, itemsAt}
 use Rattle.text.proofs.Cutting.{first-inside}
 

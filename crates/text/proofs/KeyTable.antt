@@ -4,7 +4,7 @@ use mathlib.Core.Path.{refl}
 use mathlib.Core.List.{List}
 use Prim.Native.Nat.{ℕ, _<_}
 use Rattle.basics.proofs.Tables.{tableOf, Row, rows}
-use Rattle.text.specs.Lines.{keys, noKey}
+use Rattle.text_forms.specs.Lines.{keys, noKey}
 
 abbrev pub table : List ℕ
 table = tableOf 14 keys

@@ -1,8 +1,7 @@
--- What the functions' proofs share, and small worked examples.
+-- What the functions' proofs share.
 pub mod Runs
 pub mod KeyTable
 pub mod Cutting
 pub mod Placing
 pub mod Spelling
 pub mod Items
-pub mod Examples

@@ -14,11 +14,11 @@ use lib.Seq.{drop-drop}
 use Rattle.basics.specs.Search.{first}
 use Rattle.basics.proofs.Tests.{first-some}
 use Rattle.spelling.specs.Letters.{same}
-use Rattle.text.specs.declared.lines.LineAt.{LineAt}
-use Rattle.text.specs.Bytes.{newline, equalsSign, Cut, cutAt, cut}
-use Rattle.text.specs.Lines.{keys, noKey, keyNumber, Line, keyed, valued, ended, firstLine}
-use Rattle.text.specs.Places.{sizeUpTo, lineSize, startOfLine, numberOr, noLine, splitAt, endedAt, lineAt}
-use Rattle.text.specs.Places.{valueAt, valueOfLine}
+use Rattle.text_forms.specs.declared.LineAt.{LineAt}
+use Rattle.text_forms.specs.Bytes.{newline, equalsSign, Cut, cutAt, cut}
+use Rattle.text_forms.specs.Lines.{keys, noKey, keyNumber, Line, keyed, valued, ended, firstLine}
+use Rattle.text_forms.specs.Places.{sizeUpTo, lineSize, startOfLine, numberOr, noLine, splitAt, endedAt, lineAt}
+use Rattle.text_forms.specs.Places.{valueAt, valueOfLine}
 use Rattle.text.proofs.Cutting.{first-inside, drop-take, line-inside, sign-inside}
 
 -- the size of the first line

@@ -12,11 +12,11 @@ use lib.ListN.{length, getD, take, drop, set, length-map, List·getD-eq-default}
 use lib.Seq.{getD-set-same, getD-set-other}
 use Rattle.basics.specs.Search.{first, range}
 use Rattle.basics.proofs.Tests.{and-iff, length-range}
-use Rattle.text.specs.declared.names.Names.{Names}
+use Rattle.text_forms.specs.declared.Names.{Names}
 use borrow.Author.Tests.{eq-eqb, ne-eqb, ltb-true, ltb-false}
 use lib.Dec.{eqb, ltb, leb}
 use Rattle.spelling.specs.Spelling.{sameName}
-use Rattle.text.specs.Names.{declaredAt, inSort, literal}
+use Rattle.text_forms.specs.Names.{declaredAt, inSort, literal}
 use Rattle.text.specs.Internal.{nameAt, spelled, PlaceFits, CodeFits}
 
 pub first-mapped : {A B : Type 0} (p : B → Bool) (f : A → B) (k : ℕ) (xs : List A) → first p k (map f xs) ≡ first (λ x. p (f x)) k xs

@@ -8,9 +8,9 @@ use Prim.Native.Nat.{ℕ, suc, _+_, _<_}
 use lib.Dec.{eqb, leb}
 use lib.ListN.{length, getD, take, drop}
 use Rattle.basics.specs.Search.{first, range}
-use Rattle.text.specs.declared.names.Names.{Names}
-use Rattle.text.specs.Bytes.{comma}
-use Rattle.text.specs.Lists.{itemsIn}
+use Rattle.text_forms.specs.declared.Names.{Names}
+use Rattle.text_forms.specs.Bytes.{comma}
+use Rattle.text_forms.specs.Lists.{itemsIn}
 
 -- the names that stand at some places of a text
 abbrev pub nameAt : List ℕ → Names → ℕ → List ℕ

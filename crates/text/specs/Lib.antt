@@ -1,8 +1,2 @@
--- What bytes, lines, names, literals and lists are. Read in this order.
-pub mod Bytes
-pub mod Lines
-pub mod Places
-pub mod Names
-pub mod Lists
-pub mod NamePlaces
+-- What these functions promise the readers'.
 pub mod Internal

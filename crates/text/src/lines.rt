@@ -2,13 +2,14 @@
 use crate::bytes;
 use basics::Found;
 use spelling;
+use text_forms::LineAt;
 ghost use mathlib.Core.Path.{_≡_};
 ghost use mathlib.Core.List.{[]};
 ghost use Prim.Native.Nat.{_≤_, _<_};
 ghost use lib.ListN.{length, getD};
 ghost use Rattle.spelling.specs.Letters.{same};
-ghost use Rattle.text.specs.Lines.{keys, noKey, keyNumber};
-ghost use Rattle.text.specs.Places.{lineSize, startOfLine, numberOr, noLine, lineAt, valueOfLine, startOfValue, LiesAt};
+ghost use Rattle.text_forms.specs.Lines.{keys, noKey, keyNumber};
+ghost use Rattle.text_forms.specs.Places.{lineSize, startOfLine, numberOr, noLine, lineAt, valueOfLine, startOfValue, LiesAt};
 
 // The fifteen keys in the order of their numbers, 14 bytes each: the key's length, then its bytes.
 const KEYS: [u8; 210] = *b"\
@@ -60,15 +61,6 @@ pub const BY: usize = 13;
 pub const NONEXECUTABLE: usize = 14;
 
 pub const NO_KEY: usize = 15;
-
-// A line: its key's number (NO_KEY where the line or the key is lacking), where its value begins and ends, and where the next line begins.
-// Where the line is lacking, all places are at the text's end.
-pub struct LineAt {
-    pub key: usize,
-    pub from: usize,
-    pub to: usize,
-    pub next: usize,
-}
 
 // Whether some bytes are the key of a number; keys are in lower case, so nothing is lowered.
 fn is_key(front: &[u8], k: usize) -> bool

@@ -1,11 +1,11 @@
 // Lists of literals between single commas, read item by item.
 use crate::bytes;
 use crate::names;
-use crate::names::Names;
 use basics::Found;
+use text_forms::Names;
 ghost use mathlib.Core.Path.{_≡_};
 ghost use Rattle.basics.specs.Search.{placeOf};
-ghost use Rattle.text.specs.Names.{literal};
+ghost use Rattle.text_forms.specs.Names.{literal};
 ghost use Rattle.text.specs.Internal.{spelled, itemAt, nextAt};
 
 // An item: its literal's code, if it is one of the allowed sort, and where the next item begins (behind the end: there is none).

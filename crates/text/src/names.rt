@@ -2,19 +2,13 @@
 use crate::bytes;
 use basics::Found;
 use spelling;
+use text_forms::Names;
 ghost use mathlib.Core.Path.{_≡_};
 ghost use Prim.Native.Nat.{_≤_};
 ghost use lib.ListN.{getD};
 ghost use Rattle.basics.specs.Search.{placeOf};
-ghost use Rattle.text.specs.Names.{isNew, declaredAt, inSort, literal};
+ghost use Rattle.text_forms.specs.Names.{isNew, declaredAt, inSort, literal};
 ghost use Rattle.text.specs.Internal.{spelled, PlaceFits};
-
-// Where each declared name begins and how long it is, fluents first.
-pub struct Names {
-    pub starts: [usize; 32],
-    pub lengths: [usize; 32],
-    pub count: usize,
-}
 
 // The number at a place, or 0 past the end.
 fn number_at(numbers: &[usize], i: usize) -> usize

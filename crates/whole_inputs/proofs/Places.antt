@@ -6,10 +6,10 @@ use mathlib.Core.Option.{Option, none, some}
 use Prim.Native.Nat.{ℕ, zero, suc, _+_, _*_, _≤_}
 use native.Mathlib.Omega.{arith}
 use lib.Dec.{eqb}
-use Rattle.text.specs.Lines.{Line, firstLine, endKey}
+use Rattle.text_forms.specs.Lines.{Line, firstLine, endKey}
 use Rattle.basics.specs.Replies.{Reply, refused, answered}
-use Rattle.text.specs.Lists as lists
-use Rattle.text.specs.Lists.{Listed, codes, listOf}
+use Rattle.text_forms.specs.Lists as lists
+use Rattle.text_forms.specs.Lists.{Listed, codes, listOf}
 use Rattle.description_lines.specs.LineSteps.{Draft}
 use Rattle.history_reader.specs.Histories.{atEnd, historyEnd, listed, listLine, undoneFalse, statesFrom}
 use Rattle.history_reader.specs.Histories as histories

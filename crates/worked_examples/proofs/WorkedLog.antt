@@ -13,11 +13,11 @@ use Rattle.translation_rules.specs.Translated as translated
 use Rattle.history_check.specs.Checks as history
 use Rattle.causal_reading.specs.Verdicts.{causalVerdict}
 use Rattle.causal_reading.specs.Readings as causal
-use Rattle.text.specs.Bytes.{cut}
-use Rattle.text.specs.Lines.{keyNumber, firstLine}
+use Rattle.text_forms.specs.Bytes.{cut}
+use Rattle.text_forms.specs.Lines.{keyNumber, firstLine}
 use Rattle.spelling.specs.Spelling.{isName}
-use Rattle.text.specs.Names.{literal}
-use Rattle.text.specs.Lists.{items, listOf}
+use Rattle.text_forms.specs.Names.{literal}
+use Rattle.text_forms.specs.Lists.{items, listOf}
 use Rattle.line_values.specs.HorizonText.{horizonOf}
 use Rattle.description_lines.specs.LineSteps.{readHead, lineStep}
 use Rattle.description_lines.specs.Descriptions.{described}

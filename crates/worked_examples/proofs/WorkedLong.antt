@@ -10,8 +10,8 @@ use lib.ListN.{length, replicate, length-append, length-replicate}
 use Rattle.basics.specs.Search.{Each, first}
 use Rattle.basics.specs.Replies.{refused, answered}
 use Rattle.basics.specs.Quoted.{bytes}
-use Rattle.text.specs.Bytes.{cut, cutAt, newline}
-use Rattle.text.specs.Lines.{keyNumber, ended, firstLine}
+use Rattle.text_forms.specs.Bytes.{cut, cutAt, newline}
+use Rattle.text_forms.specs.Lines.{keyNumber, ended, firstLine}
 use Rattle.spelling.specs.Spelling.{isName}
 use Rattle.line_values.specs.HorizonText.{horizonOf}
 use Rattle.description_lines.specs.LineSteps.{lineStep}

@@ -4,11 +4,11 @@ use mathlib.Core.Path.{refl}
 use native.Mathlib.Omega.{arith}
 use Rattle.basics.specs.Search.{Each}
 use Rattle.basics.proofs.Pairs.{_&_}
-use Rattle.text.specs.Bytes.{cut}
-use Rattle.text.specs.Lines.{keyNumber, firstLine}
+use Rattle.text_forms.specs.Bytes.{cut}
+use Rattle.text_forms.specs.Lines.{keyNumber, firstLine}
 use Rattle.spelling.specs.Spelling.{isName}
-use Rattle.text.specs.Names.{literal}
-use Rattle.text.specs.Lists.{items, listOf}
+use Rattle.text_forms.specs.Names.{literal}
+use Rattle.text_forms.specs.Lists.{items, listOf}
 use Rattle.line_values.specs.HorizonText.{horizonOf}
 use Rattle.description_lines.specs.LineSteps.{readHead, lineStep}
 use Rattle.description_lines.specs.Descriptions.{described}

@@ -14,8 +14,8 @@ use Rattle.basics.specs.Replies.{Reply, answered}
 use Rattle.action_language.specs.Atoms.{atomCount}
 use Rattle.action_language.specs.declared.Law.{Law}
 use Rattle.written_form.specs.Writable.{Writable, draftWritten, AreNames, Distinct}
-use Rattle.text.specs.Lines.{keys, noKey, stateKey, actKey, endKey, firstLine}
-use Rattle.text.specs.Lists.{Listed}
+use Rattle.text_forms.specs.Lines.{keys, noKey, stateKey, actKey, endKey, firstLine}
+use Rattle.text_forms.specs.Lists.{Listed}
 use Rattle.description_lines.specs.LineSteps.{Draft}
 use Rattle.history_values.specs.Values.{withLiterals, orFalse, filled}
 use Rattle.history_reader.specs.Histories.{most, listed, listLine, stateLine, actLine, historyEnd, statesFrom, byNames, readHistory}

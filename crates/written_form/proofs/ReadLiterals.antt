@@ -11,11 +11,11 @@ use lib.Dec.{eqb, ltb, leb}
 use lib.ListN.{length, getD}
 use Rattle.basics.proofs.Tests.{first-some}
 use Rattle.spelling.specs.Letters.{lowered}
-use Rattle.text.specs.Bytes.{comma, hyphen}
+use Rattle.text_forms.specs.Bytes.{comma, hyphen}
 use Rattle.spelling.specs.Spelling.{sameName, falseBytes, isName}
 use Rattle.spelling.proofs.Comparing.{same-equal}
 use Rattle.spelling.proofs.Lowering.{name-same}
-use Rattle.text.specs.Names.{declaredAt, inSort, literal}
+use Rattle.text_forms.specs.Names.{declaredAt, inSort, literal}
 use Rattle.spelling.proofs.Naming.{named}
 use Rattle.written_form.specs.Writable.{AreNames}
 use Rattle.written_form.proofs.WrittenLines.{Lacks}

@@ -14,12 +14,12 @@ use Rattle.basics.specs.Replies as replies
 use Rattle.basics.specs.Replies.{Reply, orRefuse}
 use Rattle.basics.proofs.Tests.{not-both}
 use Rattle.action_language.specs.Atoms.{wrongLength}
-use Rattle.text.specs.Bytes.{newline, equalsSign, Cut, cut}
-use Rattle.text.specs.Lines.{keyNumber, staticKey, dynamicKey, ifKey, afterKey, stateKey, actKey, endKey, defaultKey}
-use Rattle.text.specs.Lines.{inertialKey, causesKey, byKey, nonexecutableKey, noKey}
-use Rattle.text.specs.Lines.{Line, keyed, valued, ended, firstLine}
-use Rattle.text.specs.Lists as lists
-use Rattle.text.specs.Lists.{Listed, codes, listOf}
+use Rattle.text_forms.specs.Bytes.{newline, equalsSign, Cut, cut}
+use Rattle.text_forms.specs.Lines.{keyNumber, staticKey, dynamicKey, ifKey, afterKey, stateKey, actKey, endKey, defaultKey}
+use Rattle.text_forms.specs.Lines.{inertialKey, causesKey, byKey, nonexecutableKey, noKey}
+use Rattle.text_forms.specs.Lines.{Line, keyed, valued, ended, firstLine}
+use Rattle.text_forms.specs.Lists as lists
+use Rattle.text_forms.specs.Lists.{Listed, codes, listOf}
 use Rattle.description_lines.specs.LineSteps.{Due, horizonDue, Draft, Step, refused, next, finish, lineStep}
 use Rattle.description_lines.specs.Descriptions.{Taken, afterStep, afterFirst, linesFrom, blank, described}
 use Rattle.history_reader.specs.Histories.{most, listed, listLine, actLine, undoneFalse, atEnd, historyEnd, statesFrom}

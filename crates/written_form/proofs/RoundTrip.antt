@@ -12,10 +12,10 @@ use Rattle.basics.proofs.Tests.{each-append}
 use Rattle.basics.specs.Replies.{answered}
 use Rattle.action_language.specs.declared.Law.{Law}
 use Rattle.written_form.specs.Writable.{Writable, lawsLines, linesWritten, draftWritten, AreNames, Distinct, draft}
-use Rattle.text.specs.Bytes.{newline}
-use Rattle.text.specs.Lines.{horizonKey, fluentKey, actionKey, staticKey, endKey, noKey}
+use Rattle.text_forms.specs.Bytes.{newline}
+use Rattle.text_forms.specs.Lines.{horizonKey, fluentKey, actionKey, staticKey, endKey, noKey}
 use Rattle.spelling.specs.Spelling.{isName}
-use Rattle.text.specs.Names.{declaredAt}
+use Rattle.text_forms.specs.Names.{declaredAt}
 use Rattle.description_lines.specs.LineSteps.{Due, horizonDue, firstFluentDue, fluentDue, actionDue, lawDue, Draft}
 use Rattle.description_lines.specs.LineSteps.{allowed, next, lineStep}
 use Rattle.description_lines.specs.Descriptions.{blank, read, linesFrom, described}

@@ -15,12 +15,12 @@ use Rattle.action_language.specs.declared.Kind.{Kind}
 use Rattle.action_language.specs.declared.Kind.the-variants.{Static, Dynamic}
 use Rattle.action_language.specs.declared.Law.{Law}
 use Rattle.action_language.specs.Laws.{lawOf}
-use Rattle.text.specs.Lines.{horizonKey, fluentKey, actionKey, staticKey, dynamicKey, ifKey, afterKey, defaultKey}
-use Rattle.text.specs.Lines.{inertialKey, causesKey, byKey, nonexecutableKey}
+use Rattle.text_forms.specs.Lines.{horizonKey, fluentKey, actionKey, staticKey, dynamicKey, ifKey, afterKey, defaultKey}
+use Rattle.text_forms.specs.Lines.{inertialKey, causesKey, byKey, nonexecutableKey}
 use Rattle.spelling.specs.Spelling.{sameName, falseBytes, isName}
-use Rattle.text.specs.Names.{absent, declaredAt, isNew, literal}
-use Rattle.text.specs.Lists as lists
-use Rattle.text.specs.Lists.{Listed, codes, items, added, listOf}
+use Rattle.text_forms.specs.Names.{absent, declaredAt, isNew, literal}
+use Rattle.text_forms.specs.Lists as lists
+use Rattle.text_forms.specs.Lists.{Listed, codes, items, added, listOf}
 use Rattle.letter_case.proofs.AlikeRuns.{names-refl}
 use Rattle.letter_case.proofs.LetterCase.{letter-case}
 use Rattle.line_values.specs.HorizonText.{horizonOf}

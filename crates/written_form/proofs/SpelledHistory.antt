@@ -8,7 +8,7 @@ use lib.ListN.{length, take, drop}
 use Rattle.basics.specs.Replies.{Reply, answered}
 use Rattle.action_language.specs.Atoms.{atomCount}
 use Rattle.action_language.specs.declared.Law.{Law}
-use Rattle.text.specs.Lines.{stateKey, actKey, endKey}
+use Rattle.text_forms.specs.Lines.{stateKey, actKey, endKey}
 use Rattle.history_values.specs.Values.{ActionsValued}
 use Rattle.history_reader.specs.Histories.{readHistory}
 use Rattle.written_form.specs.Writing.{Form, Spelling, asDeclared, lineText, listText, descriptionText}

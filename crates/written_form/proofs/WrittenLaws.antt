@@ -15,9 +15,9 @@ use Rattle.action_language.specs.declared.Law.{Law}
 use Rattle.action_language.specs.Laws.{ifList, afterList, lawOf}
 use Rattle.action_language.proofs.Fits.{CodesBelow, HeadBelow}
 use Rattle.reader_bounds.specs.Accepts.{aftersOf, Tidy}
-use Rattle.text.specs.Lines.{staticKey, dynamicKey, ifKey, afterKey, defaultKey, inertialKey, causesKey, byKey, nonexecutableKey, noKey}
-use Rattle.text.specs.Names.{literal}
-use Rattle.text.specs.Lists.{codes}
+use Rattle.text_forms.specs.Lines.{staticKey, dynamicKey, ifKey, afterKey, defaultKey, inertialKey, causesKey, byKey, nonexecutableKey, noKey}
+use Rattle.text_forms.specs.Names.{literal}
+use Rattle.text_forms.specs.Lists.{codes}
 use Rattle.line_values.specs.ShortLaws.{defaultLaw, inertialLaw}
 use Rattle.description_lines.specs.LineSteps.{Due, lawDue, ifDue, afterDue, byDue, Draft, startsLaw, allowed, next}
 use Rattle.description_lines.specs.LineSteps.{readHead, whole, ifLine, anyList, lineStep}

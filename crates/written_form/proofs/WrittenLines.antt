@@ -14,8 +14,8 @@ use lib.Seq.{take-append-seam}
 use Rattle.basics.specs.Search.{all, Each, first, range}
 use Rattle.basics.proofs.Tests.{not-both, and₃-iff, all-each, each-map, each-append}
 use Rattle.basics.proofs.Lists.{none-iff, each-range}
-use Rattle.text.specs.Bytes.{newline, equalsSign, cutAt, cut}
-use Rattle.text.specs.Lines.{keys, noKey, keyNumber, keyed, valued, ended, firstLine}
+use Rattle.text_forms.specs.Bytes.{newline, equalsSign, cutAt, cut}
+use Rattle.text_forms.specs.Lines.{keys, noKey, keyNumber, keyed, valued, ended, firstLine}
 use Rattle.written_form.specs.Writing.{lineText}
 
 -- no byte of a run is b

@@ -12,9 +12,9 @@ use Rattle.action_language.specs.declared.Head.{Head}
 use Rattle.action_language.specs.declared.Head.the-variants.{Lit, False}
 use Rattle.action_language.proofs.Fits.{CodesBelow}
 use Rattle.written_form.specs.Writable.{AreNames, Distinct}
-use Rattle.text.specs.Bytes.{newline, comma, cut}
-use Rattle.text.specs.Names.{literal}
-use Rattle.text.specs.Lists.{codes, itemsCut, itemsIn, items, added, listFrom, listOf}
+use Rattle.text_forms.specs.Bytes.{newline, comma, cut}
+use Rattle.text_forms.specs.Names.{literal}
+use Rattle.text_forms.specs.Lists.{codes, itemsCut, itemsIn, items, added, listFrom, listOf}
 use Rattle.written_form.specs.Writing.{literalText, listText, headText}
 use Rattle.written_form.proofs.WrittenLines.{Lacks, cut-there, cut-nowhere}
 use Rattle.written_form.proofs.WrittenNames.{plain, plains, literal-lacks, literal-size, literal-read}

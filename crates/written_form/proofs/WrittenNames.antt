@@ -17,11 +17,11 @@ use Rattle.action_language.specs.declared.Head.{Head}
 use Rattle.action_language.specs.declared.Head.the-variants.{Lit, False}
 use Rattle.action_language.proofs.Fits.{HeadBelow}
 use Rattle.spelling.specs.Letters.{isNameByte, lowered}
-use Rattle.text.specs.Bytes.{hyphen}
+use Rattle.text_forms.specs.Bytes.{hyphen}
 use Rattle.written_form.specs.Writable.{AreNames, Distinct}
 use Rattle.spelling.specs.Spelling.{sameName, falseBytes, isName}
 use Rattle.spelling.proofs.Comparing.{same-refl}
-use Rattle.text.specs.Names.{declaredAt, inSort, literal}
+use Rattle.text_forms.specs.Names.{declaredAt, inSort, literal}
 use Rattle.description_lines.specs.LineSteps.{litHead, readHead}
 use Rattle.written_form.specs.Writing.{literalText, headText}
 use Rattle.spelling.proofs.Naming.{named}

@@ -18,9 +18,9 @@ use Rattle.action_language.specs.Laws.{ifList, afterList}
 use Rattle.action_language.proofs.Fits.{HeadBelow}
 use Rattle.reader_bounds.specs.Accepts.{aftersOf}
 use Rattle.written_form.specs.Writable.{formLines, lawsLines, linesWritten, Writable, AreNames}
-use Rattle.text.specs.Bytes.{newline, equalsSign}
-use Rattle.text.specs.Lines.{keys, horizonKey, fluentKey, actionKey, staticKey, dynamicKey, ifKey, afterKey, endKey}
-use Rattle.text.specs.Lines.{defaultKey, inertialKey, causesKey, byKey, nonexecutableKey}
+use Rattle.text_forms.specs.Bytes.{newline, equalsSign}
+use Rattle.text_forms.specs.Lines.{keys, horizonKey, fluentKey, actionKey, staticKey, dynamicKey, ifKey, afterKey, endKey}
+use Rattle.text_forms.specs.Lines.{defaultKey, inertialKey, causesKey, byKey, nonexecutableKey}
 use Rattle.spelling.specs.Spelling.{isName}
 use Rattle.written_form.specs.Writing.{Form, inFull, asDefault, asInertial, asCauses, asNonexecutable, hasForm, writtenAs}
 use Rattle.written_form.specs.Writing.{asDeclared, lineText, horizonText, listText, headText, fullText, formText}

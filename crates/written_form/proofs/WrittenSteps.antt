@@ -16,12 +16,12 @@ use Rattle.action_language.specs.declared.Head.{Head}
 use Rattle.action_language.specs.declared.Kind.{Kind}
 use Rattle.action_language.specs.declared.Kind.the-variants.{Static, Dynamic}
 use Rattle.action_language.specs.declared.Law.{Law}
-use Rattle.text.specs.Bytes.{newline}
-use Rattle.text.specs.Lines.{horizonKey, fluentKey, actionKey, staticKey, dynamicKey, ifKey, afterKey, endKey, noKey}
-use Rattle.text.specs.Lines.{defaultKey, inertialKey, causesKey, byKey, nonexecutableKey}
+use Rattle.text_forms.specs.Bytes.{newline}
+use Rattle.text_forms.specs.Lines.{horizonKey, fluentKey, actionKey, staticKey, dynamicKey, ifKey, afterKey, endKey, noKey}
+use Rattle.text_forms.specs.Lines.{defaultKey, inertialKey, causesKey, byKey, nonexecutableKey}
 use Rattle.spelling.specs.Spelling.{isName}
-use Rattle.text.specs.Names.{declaredAt, literal}
-use Rattle.text.specs.Lists.{codes}
+use Rattle.text_forms.specs.Names.{declaredAt, literal}
+use Rattle.text_forms.specs.Lists.{codes}
 use Rattle.written_form.specs.Writable.{draft}
 use Rattle.line_values.specs.HorizonText.{horizonOf}
 use Rattle.line_values.specs.ShortLaws.{defaultLaw, inertialLaw, causesLaw, nonexecutableLaw}

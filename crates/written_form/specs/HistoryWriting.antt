@@ -6,7 +6,7 @@ use mathlib.Core.List.{List, [], _∷_, _++_, map}
 use Prim.Native.Nat.{ℕ, zero, suc, _+_, _*_, _%_}
 use lib.Dec.{eqb, ltb}
 use lib.ListN.{length, take, drop}
-use Rattle.text.specs.Lines.{stateKey, actKey, endKey}
+use Rattle.text_forms.specs.Lines.{stateKey, actKey, endKey}
 use Rattle.history_values.specs.Values.{orFalse}
 use Rattle.written_form.specs.Writing.{Spelling, lineText, listText}
 

@@ -7,7 +7,7 @@ use Prim.Native.Nat.{ℕ}
 use lib.Dec.{eqb}
 use Rattle.basics.specs.Search.{Each}
 use Rattle.basics.specs.Replies.{Reply, refused, answered}
-use Rattle.text.specs.Bytes.{newline}
+use Rattle.text_forms.specs.Bytes.{newline}
 use Rattle.description_lines.specs.LineSteps.{Draft}
 use Rattle.description_lines.specs.Descriptions.{Taken, read, described}
 use Rattle.history_reader.specs.Histories.{readHistory}

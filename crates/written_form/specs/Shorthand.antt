@@ -6,7 +6,7 @@ use mathlib.Core.Option.{Option, none, some}
 use Prim.Native.Nat.{ℕ}
 use Rattle.basics.specs.Replies as replies
 use Rattle.basics.specs.Replies.{Reply, answered}
-use Rattle.text.specs.Lines.{staticKey, dynamicKey, ifKey, afterKey, defaultKey, inertialKey, causesKey, byKey, nonexecutableKey}
+use Rattle.text_forms.specs.Lines.{staticKey, dynamicKey, ifKey, afterKey, defaultKey, inertialKey, causesKey, byKey, nonexecutableKey}
 use Rattle.spelling.specs.Spelling.{falseBytes}
 use Rattle.description_lines.specs.LineSteps.{Due, Draft, Step, refused, next, finish, lineStep}
 use Rattle.description_lines.specs.Descriptions.{Taken, read, blank}

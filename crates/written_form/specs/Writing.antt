@@ -12,9 +12,9 @@ use Rattle.action_language.specs.declared.Kind.the-variants.{Static, Dynamic}
 use Rattle.action_language.specs.declared.Law.{Law}
 use Rattle.action_language.specs.Laws.{isStatic, ifList, afterList}
 use Rattle.spelling.specs.Letters.{same}
-use Rattle.text.specs.Bytes.{newline, comma, hyphen, equalsSign}
-use Rattle.text.specs.Lines.{keys, horizonKey, fluentKey, actionKey, staticKey, dynamicKey, ifKey, afterKey, endKey}
-use Rattle.text.specs.Lines.{defaultKey, inertialKey, causesKey, byKey, nonexecutableKey}
+use Rattle.text_forms.specs.Bytes.{newline, comma, hyphen, equalsSign}
+use Rattle.text_forms.specs.Lines.{keys, horizonKey, fluentKey, actionKey, staticKey, dynamicKey, ifKey, afterKey, endKey}
+use Rattle.text_forms.specs.Lines.{defaultKey, inertialKey, causesKey, byKey, nonexecutableKey}
 use Rattle.spelling.specs.Spelling.{falseBytes}
 
 abbrev pub lineText : ℕ → List ℕ → List ℕ

@@ -1,9 +1,9 @@
 -- `put_answer` meets its contract. Five lines, one behind the other.
 -- Assumes nothing.
 use native.Mathlib.Omega.{arith}
-use Rattle.output_lines.specs.Writing.{outputLine}
+use Rattle.printed_lines.specs.Writing.{outputLine}
 use Rattle.output_lines.specs.Internal.{wordAt, valueBytes, verdictBytes, causalBytes}
-use Rattle.output_lines.proofs.Stores.{both, three}
+use Rattle.printed_lines.proofs.Stores.{both, three}
 use borrow.Author.Needs.{needs}
 use Rattle.output_lines.proofs.put_answer.Statement.{statement}
 use Rattle.output_lines.proofs.put_answer.Tie as tie

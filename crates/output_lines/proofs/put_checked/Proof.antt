@@ -4,9 +4,9 @@ use native.Mathlib.Omega.{arith}
 use mathlib.Core.List.{_++_}
 use Rattle.history_check.specs.Checks as Checks
 use Rattle.causal_reading.specs.Readings.{replyOf}
-use Rattle.output_lines.specs.Printed.{countLines}
+use Rattle.printed_lines.specs.Printed.{countLines}
 use Rattle.output_lines.specs.Internal.{verdictBytes, causalBytes, verdictShown, causalShownAfter}
-use Rattle.output_lines.proofs.Stores.{both}
+use Rattle.printed_lines.proofs.Stores.{both}
 use Rattle.output_lines.proofs.Showing.{checked-shown}
 use borrow.Author.Needs.{needs}
 use Rattle.output_lines.proofs.put_checked.Statement.{statement}

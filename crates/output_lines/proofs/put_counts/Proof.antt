@@ -2,9 +2,9 @@
 -- Assumes nothing.
 use mathlib.Core.List.{_++_}
 use native.Mathlib.Omega.{arith}
-use Rattle.output_lines.specs.Writing.{outputLine, decimal, horizonWord, atomsWord, rulesWord, wordsWord}
+use Rattle.printed_lines.specs.Writing.{outputLine, decimal, horizonWord, atomsWord, rulesWord, wordsWord}
 use Rattle.output_lines.specs.Internal.{wordAt}
-use Rattle.output_lines.proofs.Stores.{both}
+use Rattle.printed_lines.proofs.Stores.{both}
 use borrow.Author.Needs.{needs}
 use Rattle.output_lines.proofs.put_counts.Statement.{statement}
 use Rattle.output_lines.proofs.put_counts.Tie as tie

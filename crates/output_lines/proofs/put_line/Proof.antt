@@ -3,7 +3,7 @@
 use mathlib.Core.List.{_++_}
 use native.Mathlib.Omega.{arith}
 use Rattle.output_lines.specs.Internal.{wordAt}
-use Rattle.output_lines.proofs.Stores.{both, line-stores}
+use Rattle.printed_lines.proofs.Stores.{both, line-stores}
 use borrow.Author.Needs.{needs}
 use Rattle.output_lines.proofs.put_line.Statement.{statement}
 use Rattle.output_lines.proofs.put_line.Tie as tie

@@ -1,9 +1,9 @@
 -- `put_refusal` meets its contract. Two lines, one behind the other.
 -- Assumes nothing.
 use native.Mathlib.Omega.{arith}
-use Rattle.output_lines.specs.Writing.{outputLine, decimal, refusedWord, placeWord}
+use Rattle.printed_lines.specs.Writing.{outputLine, decimal, refusedWord, placeWord}
 use Rattle.output_lines.specs.Internal.{wordAt}
-use Rattle.output_lines.proofs.Stores.{both}
+use Rattle.printed_lines.proofs.Stores.{both}
 use borrow.Author.Needs.{needs}
 use Rattle.output_lines.proofs.put_refusal.Statement.{statement}
 use Rattle.output_lines.proofs.put_refusal.Tie as tie

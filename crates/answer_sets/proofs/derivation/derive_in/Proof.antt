@@ -11,7 +11,8 @@ use Rattle.literal_sets.specs.Marks.{marked}
 use Rattle.rule_tables.proofs.Walking.{accepted-sound}
 use Rattle.answer_set_theory.proofs.Decoding.{accepted-below, codes-heads}
 use Rattle.answer_sets.proofs.Judging.{round-last, round-enough}
-use Rattle.answer_sets.proofs.Rounds.{Reached, reach-start, round-whole, reach-next, derived}
+use Rattle.answer_set_theory.proofs.Deriving.{derived}
+use Rattle.answer_sets.proofs.Rounds.{Reached, reach-start, round-whole, reach-next}
 use Rattle.answer_sets.proofs.derivation.derive_in.Statement.{statement}
 use Rattle.answer_sets.proofs.derivation.derive_in.Tie as tie
 

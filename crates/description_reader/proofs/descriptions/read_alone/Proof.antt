@@ -3,7 +3,7 @@
 use native.Mathlib.Omega.{arith}
 use mathlib.Core.Path.{refl, sym, ap, subst, _∙_}
 use Prim.Native.Nat.{ℕ}
-use Rattle.text.specs.declared.names.Names.{Names}
+use Rattle.text_forms.specs.declared.Names.{Names}
 use Rattle.description_reader.specs.declared.descriptions.Declarations.{Declarations}
 use Rattle.description_reader.specs.Declarations.{declarations}
 use Rattle.description_reader.specs.Internal.{Declares}

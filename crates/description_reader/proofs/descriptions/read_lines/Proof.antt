@@ -7,15 +7,15 @@ use mathlib.Core.List.{List, []}
 use Prim.Native.Nat.{ℕ, _+_, _-_, _≤_, _<_}
 use lib.ListN.{length, take, drop, length-take, length-drop}
 use Rattle.action_language.specs.Laws.{noLaw}
-use Rattle.text.specs.declared.lines.LineAt.{LineAt}
+use Rattle.text_forms.specs.declared.LineAt.{LineAt}
 use Rattle.description_reader.specs.declared.states.ReaderState.{ReaderState}
-use Rattle.text.specs.Lists as lists
-use Rattle.text.specs.Lists.{listFrom}
+use Rattle.text_forms.specs.Lists as lists
+use Rattle.text_forms.specs.Lists.{listFrom}
 use Rattle.description_lines.specs.Descriptions.{described}
 use Rattle.description_reader.specs.Internal.{dueAt, draftOf, Padded, Sound, Follows, stepOf, stepWith}
 use Rattle.text.specs.Internal.{spelled, itemsAt}
-use Rattle.text.specs.Lines.{noKey}
-use Rattle.text.specs.NamePlaces.{declaresName, joined}
+use Rattle.text_forms.specs.Lines.{noKey}
+use Rattle.text_forms.specs.NamePlaces.{declaresName, joined}
 use Rattle.text.proofs.Placing.{line-answers, line-fits}
 use Rattle.text.proofs.Spelling.{literal-small}
 use Rattle.text.proofs.Items.{next-later}

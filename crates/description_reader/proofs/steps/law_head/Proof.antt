@@ -8,7 +8,7 @@ use Prim.Native.Nat.{ℕ, min, _<_}
 use borrow.Author.Tests.{not-true, not-false}
 use lib.Dec.{ltb}
 use Rattle.basics.proofs.Loops.{at-place, no-place}
-use Rattle.text.specs.Names.{literal}
+use Rattle.text_forms.specs.Names.{literal}
 use Rattle.text.specs.Internal.{spelled}
 use Rattle.text.proofs.Spelling.{literal-small}
 use Rattle.description_lines.specs.LineSteps.{readHead}

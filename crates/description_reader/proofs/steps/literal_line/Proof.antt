@@ -6,7 +6,7 @@ use mathlib.Core.Bool.{true, cond}
 use mathlib.Core.Option.{Option}
 use Prim.Native.Nat.{ℕ}
 use Rattle.basics.proofs.Loops.{at-place, no-place}
-use Rattle.text.specs.Names.{literal}
+use Rattle.text_forms.specs.Names.{literal}
 use Rattle.text.specs.Internal.{spelled}
 use Rattle.text.proofs.Spelling.{literal-small}
 use Rattle.line_values.specs.ShortLaws.{defaultLaw, inertialLaw}

@@ -6,7 +6,7 @@ use mathlib.Core.Bool.{true}
 use Prim.Native.Nat.{ℕ}
 use borrow.Author.Tests.{not-true, not-false}
 use lib.ListN.{take}
-use Rattle.text.specs.Lists.{codes}
+use Rattle.text_forms.specs.Lists.{codes}
 use Rattle.action_language.specs.declared.Head.the-variants.{False}
 use Rattle.action_language.specs.declared.Kind.the-variants.{Dynamic}
 use Rattle.line_values.specs.Internal.{noPlaces, lawWith}

@@ -5,7 +5,7 @@ use mathlib.Core.Path.{sym, _∙_, ap}
 use Prim.Native.Nat.{_-_, _≤_, _<_}
 use native.Mathlib.Numerals.{add-one}
 use lib.ListN.{length, take, drop, length-take, length-drop}
-use Rattle.text.specs.Lines.{keyed}
+use Rattle.text_forms.specs.Lines.{keyed}
 use Rattle.history_reader.specs.Histories.{historyEnd}
 use Rattle.text.proofs.Placing.{keyIn, lineOf, line-answers, line-fits}
 use Rattle.history_reader.specs.Internal.{endingOf}

@@ -10,8 +10,8 @@ use Prim.Native.Nat.{ℕ, suc, _+_, _-_, _*_, _≤_}
 use native.Mathlib.Numerals.{add-one}
 use lib.ListN.{length, take, drop, replicate, length-take, length-drop}
 use Rattle.basics.proofs.Loops.{at-place, no-place}
-use Rattle.text.specs.Names.{literal}
-use Rattle.text.specs.declared.lines.LineAt.{LineAt}
+use Rattle.text_forms.specs.Names.{literal}
+use Rattle.text_forms.specs.declared.LineAt.{LineAt}
 use Rattle.history_reader.specs.declared.histories.Wanted.{Wanted}
 use Rattle.history_reader.specs.Histories.{statesFrom}
 use Rattle.text.specs.Internal.{spelled, itemAt}

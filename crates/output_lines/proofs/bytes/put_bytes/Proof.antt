@@ -6,7 +6,7 @@ use native.Mathlib.Nat.{add-zero}
 use native.Mathlib.Omega.{arith}
 use lib.ListN.{length-set, drop-of-length-le, length, drop}
 use lib.Seq.{sets}
-use Rattle.output_lines.proofs.Stores.{store-next}
+use Rattle.printed_lines.proofs.Stores.{store-next}
 use Rattle.output_lines.proofs.bytes.put_bytes.Statement.{statement}
 use Rattle.output_lines.proofs.bytes.put_bytes.Tie as tie
 

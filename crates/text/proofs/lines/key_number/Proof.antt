@@ -8,8 +8,8 @@ use lib.ListN.{drop}
 use Rattle.basics.specs.Search.{first}
 use Rattle.basics.proofs.Loops.{first-stop, first-go, first-done}
 use Rattle.spelling.specs.Letters.{same}
-use Rattle.text.specs.Lines.{keys, noKey, keyNumber}
-use Rattle.text.specs.Places.{numberOr}
+use Rattle.text_forms.specs.Lines.{keys, noKey, keyNumber}
+use Rattle.text_forms.specs.Places.{numberOr}
 use Rattle.text.proofs.lines.key_number.Statement.{statement}
 use Rattle.text.proofs.lines.key_number.Tie as tie
 

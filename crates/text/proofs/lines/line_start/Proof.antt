@@ -7,7 +7,7 @@ use mathlib.Core.List.{List}
 use Prim.Native.Nat.{ℕ, _+_, _-_, _≤_}
 use lib.ListN.{length, drop, length-drop}
 use Rattle.basics.proofs.Loops.{to-the-end}
-use Rattle.text.specs.Places.{lineSize, startOfLine}
+use Rattle.text_forms.specs.Places.{lineSize, startOfLine}
 use Rattle.text.proofs.lines.line_start.Statement.{statement}
 use Rattle.text.proofs.lines.line_start.Tie as tie
 

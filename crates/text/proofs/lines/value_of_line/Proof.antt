@@ -3,7 +3,7 @@
 use native.Mathlib.Omega.{arith}
 use mathlib.Core.Path.{_≡_, ap, _∙_}
 use Prim.Native.Nat.{ℕ, _+_}
-use Rattle.text.specs.Places.{lineAt, startOfLine, valueAt}
+use Rattle.text_forms.specs.Places.{lineAt, startOfLine, valueAt}
 use Rattle.text.proofs.Placing.{line-fits}
 use borrow.Author.Needs.{needs}
 use Rattle.text.proofs.lines.value_of_line.Statement.{statement}

@@ -7,7 +7,7 @@ use Prim.Native.Nat.{_≤_, _-_}
 use Rattle.basics.specs.Search.{first, range}
 use Rattle.basics.proofs.Loops.{range-stop, range-go, range-done}
 use Rattle.spelling.specs.Spelling.{sameName}
-use Rattle.text.specs.Names.{declaredAt}
+use Rattle.text_forms.specs.Names.{declaredAt}
 use Rattle.text.specs.Internal.{nameAt, spelled}
 use Rattle.text.proofs.Spelling.{search-starts, search-empty}
 use Rattle.text.proofs.names.find_name.Statement.{statement}

@@ -6,8 +6,8 @@ use mathlib.Core.Option.{Option, none, some}
 use Prim.Native.Nat.{ℕ, zero, suc}
 use lib.Dec.{ltb}
 use lib.ListN.{length}
-use Rattle.text.specs.Bytes.{comma, Cut, cut}
-use Rattle.text.specs.Names.{literal}
+use Rattle.text_forms.specs.Bytes.{comma, Cut, cut}
+use Rattle.text_forms.specs.Names.{literal}
 
 -- the items between commas; each takes a comma or the end, so one step more than there are bytes is enough
 abbrev pub itemsCut : List ℕ → Option Cut → (List ℕ → List (List ℕ)) → List (List ℕ)

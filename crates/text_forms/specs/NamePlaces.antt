@@ -5,10 +5,10 @@ use mathlib.Core.List.{List}
 use Prim.Native.Nat.{ℕ, zero, suc, _+_, _-_}
 use lib.Dec.{eqb}
 use lib.ListN.{set, replicate}
-use Rattle.text.specs.declared.names.Names.{Names}
-use Rattle.text.specs.declared.lines.LineAt.{LineAt}
-use Rattle.text.specs.Lines.{fluentKey, actionKey}
-use Rattle.text.specs.Places.{startOfLine, lineAt}
+use Rattle.text_forms.specs.declared.Names.{Names}
+use Rattle.text_forms.specs.declared.LineAt.{LineAt}
+use Rattle.text_forms.specs.Lines.{fluentKey, actionKey}
+use Rattle.text_forms.specs.Places.{startOfLine, lineAt}
 
 -- no names: all places are 0
 abbrev pub noNames : Names

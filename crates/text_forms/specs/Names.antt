@@ -7,7 +7,7 @@ use Prim.Native.Nat.{ℕ, _+_, _*_}
 use lib.Dec.{eqb, ltb, leb}
 use Rattle.basics.specs.Search.{first}
 use Rattle.spelling.specs.Spelling.{sameName, isName}
-use Rattle.text.specs.Bytes.{hyphen}
+use Rattle.text_forms.specs.Bytes.{hyphen}
 
 -- where a name was declared: fluents and actions have one list, fluents first, so that the place i stands for code 2i.
 -- No bytes are no name

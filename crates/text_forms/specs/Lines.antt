@@ -6,7 +6,7 @@ use Prim.Native.Nat.{ℕ}
 use Rattle.basics.specs.Search.{first}
 use Rattle.basics.specs.Quoted.{bytes}
 use Rattle.spelling.specs.Letters.{same}
-use Rattle.text.specs.Bytes.{newline, equalsSign, Cut, cut}
+use Rattle.text_forms.specs.Bytes.{newline, equalsSign, Cut, cut}
 
 -- the fifteen keys in their order; a key's number is its place in this list
 abbrev pub keys : List (List ℕ)

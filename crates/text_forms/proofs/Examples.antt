@@ -7,14 +7,14 @@ use mathlib.Core.Option.{Option, some}
 use Prim.Native.Nat.{ℕ}
 use lib.ListN.{replicate}
 use Rattle.basics.specs.Quoted.{bytes}
-use Rattle.text.specs.Bytes.{cut}
-use Rattle.text.specs.Lines.{keys, horizonKey, fluentKey, actionKey, staticKey, dynamicKey, ifKey, afterKey}
-use Rattle.text.specs.Lines.{stateKey, actKey, endKey, defaultKey, inertialKey, causesKey, byKey}
-use Rattle.text.specs.Lines.{nonexecutableKey, keyNumber, firstLine}
-use Rattle.text.specs.Places.{lineSize, startOfLine, lineAt, valueOfLine, startOfValue}
-use Rattle.text.specs.NamePlaces.{namesIn}
-use Rattle.text.specs.Names.{literal}
-use Rattle.text.specs.Lists.{refused, codes, items, listOf}
+use Rattle.text_forms.specs.Bytes.{cut}
+use Rattle.text_forms.specs.Lines.{keys, horizonKey, fluentKey, actionKey, staticKey, dynamicKey, ifKey, afterKey}
+use Rattle.text_forms.specs.Lines.{stateKey, actKey, endKey, defaultKey, inertialKey, causesKey, byKey}
+use Rattle.text_forms.specs.Lines.{nonexecutableKey, keyNumber, firstLine}
+use Rattle.text_forms.specs.Places.{lineSize, startOfLine, lineAt, valueOfLine, startOfValue}
+use Rattle.text_forms.specs.NamePlaces.{namesIn}
+use Rattle.text_forms.specs.Names.{literal}
+use Rattle.text_forms.specs.Lists.{refused, codes, items, listOf}
 
 -- horizon, fluent, action, static, dynamic, if, after, state, act, end, default, inertial, causes, by, nonexecutable
 pub keys-numbered : map keyNumber keys

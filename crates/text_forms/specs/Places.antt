@@ -8,9 +8,9 @@ use lib.Dec.{eqb}
 use lib.ListN.{length, take, drop}
 use denote.Ref.{RefT, ptr}
 use Rattle.basics.specs.Search.{first}
-use Rattle.text.specs.declared.lines.LineAt.{LineAt}
-use Rattle.text.specs.Bytes.{newline, equalsSign}
-use Rattle.text.specs.Lines.{noKey, keyNumber}
+use Rattle.text_forms.specs.declared.LineAt.{LineAt}
+use Rattle.text_forms.specs.Bytes.{newline, equalsSign}
+use Rattle.text_forms.specs.Lines.{noKey, keyNumber}
 
 -- how many bytes the first line takes, its ending byte among them; all where that is lacking
 abbrev pub sizeUpTo : ℕ → Option ℕ → ℕ

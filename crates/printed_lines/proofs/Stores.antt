@@ -8,7 +8,7 @@ use native.Mathlib.Omega.{arith}
 use native.Mathlib.Numerals.{add-one}
 use lib.ListN.{length, getD, set, drop, length-append}
 use lib.Seq.{sets, drop-cons}
-use Rattle.output_lines.specs.Writing.{outputLine}
+use Rattle.printed_lines.specs.Writing.{outputLine}
 
 -- a turn of the loop that stores each byte: one store, and the rest is left
 pub store-next : (l : List ℕ) (at i : ℕ) (xs : List ℕ) → i < length xs

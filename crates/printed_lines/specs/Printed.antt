@@ -7,10 +7,10 @@ use Rattle.answer_set_theory.specs.Verdicts.{Verdict, clash, broken, unfounded,
 use Rattle.history_check.specs.Checks.{Finding, missing, judged}
 use Rattle.causal_reading.specs.Verdicts.{Causal, contradicted, uncaused, path}
 use Rattle.shown_names.specs.Shown.{shownFluent}
-use Rattle.output_lines.specs.Writing.{outputLine, decimal, horizonWord, atomsWord, rulesWord, wordsWord}
-use Rattle.output_lines.specs.Writing.{answerWord, atWord, causalWord, timeWord, itemWord, refusedWord, placeWord}
-use Rattle.output_lines.specs.Writing.{passesWord, missingWord, clashWord, brokenWord, unfoundedWord, noneWord}
-use Rattle.output_lines.specs.Writing.{pathWord, contradictedWord, uncausedWord}
+use Rattle.printed_lines.specs.Writing.{outputLine, decimal, horizonWord, atomsWord, rulesWord, wordsWord}
+use Rattle.printed_lines.specs.Writing.{answerWord, atWord, causalWord, timeWord, itemWord, refusedWord, placeWord}
+use Rattle.printed_lines.specs.Writing.{passesWord, missingWord, clashWord, brokenWord, unfoundedWord, noneWord}
+use Rattle.printed_lines.specs.Writing.{pathWord, contradictedWord, uncausedWord}
 
 -- a refusal prints its number and place only
 abbrev pub refusalLines : ℕ → ℕ → List ℕ

@@ -1,0 +1,1 @@
+// What is printed for an answer: words, decimal numbers and lines: no function.

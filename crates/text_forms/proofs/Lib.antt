@@ -1,0 +1,2 @@
+-- Small worked examples.
+pub mod Examples
