@@ -9,6 +9,8 @@ unfolding badRecord badHorizon
 acceptance-examples = record {
   recipe-accepted = refl;
   five-lent = refl;
+  eight-actions = refl;
+  nine-actions = refl;
   action-in-an-if-list = refl;
   action-in-an-after-list = refl;
   head-past-the-fluents = refl;

@@ -10,11 +10,13 @@ use Rattle.action_language.specs.Atoms.{fluentAtom, actionAtom, atomCoun
 use Rattle.action_language.specs.Acceptance.{badRecord, badHorizon}
 use Rattle.action_language.specs.Examples.{recipe, recipeLaws, door}
 
--- which descriptions are refused: a law with an action in its if-list; one law lent too few; horizons. A description for another
--- horizon
+-- which descriptions are refused: one law lent too few; a ninth action; a law with an action in its if-list; horizons. A
+-- description for another horizon
 pub record AcceptanceExamples : Type 0 where
   pub recipe-accepted : badRecord recipe recipeLaws 6 ≡ none
   pub five-lent : badRecord recipe recipeLaws 5 ≡ some 64
+  pub eight-actions : badRecord (record { fluents = 2; actions = 8; laws = 0; horizon = 1 }) [] 0 ≡ none
+  pub nine-actions : badRecord (record { fluents = 2; actions = 9; laws = 0; horizon = 1 }) [] 0 ≡ some 64
   pub action-in-an-if-list : badRecord recipe (lawOf Static (Lit 3) (3 ∷ []) [] ∷ lawOf Dynamic False (4 ∷ []) [] ∷ []) 6 ≡ some 1
   pub action-in-an-after-list : badRecord recipe (lawOf Dynamic False [] (5 ∷ []) ∷ []) 6 ≡ none
   pub head-past-the-fluents : badRecord recipe (lawOf Static (Lit 4) [] [] ∷ []) 6 ≡ some 0

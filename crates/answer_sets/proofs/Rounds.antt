@@ -4,7 +4,7 @@ use mathlib.Core.Path.{_≡_, refl, sym, _∙_, fun-ext}
 use mathlib.Core.Bool.{Bool, true, false, _&&_, _||_, and-false, or-false}
 use mathlib.Core.List.{List, [], _∷_, _++_, append-nil}
 use mathlib.Core.Logic.{_⊎_, ⊎-elim, _≢_}
-use Prim.Native.Nat.{ℕ, _+_, _*_, _≤_, _<_}
+use Prim.Native.Nat.{ℕ, _+_, _≤_, _<_}
 use native.Mathlib.Numerals.{add-one}
 use native.Mathlib.Omega.{arith}
 use borrow.Author.Count.{below-more}
@@ -15,7 +15,6 @@ use lib.Seq.{drop-cons, getD-take, take-suc-set, take-set-lt, drop-set-lt, appen
 use Rattle.basics.specs.Search.{all}
 use Rattle.basics.proofs.Loops.{to-the-end}
 use Rattle.logic_programs.specs.Literals.{Lits}
-use Rattle.logic_programs.specs.Rules.{Rule}
 use Rattle.logic_programs.specs.AnswerSets.{Subset, Closed, reduct, literalHeaded}
 use Rattle.logic_programs.specs.Words.{rulesOf}
 use Rattle.literal_sets.specs.Marks.{marked}

@@ -107,15 +107,15 @@ fn verdict(d: Description, laws: [Law; 64], values: &[u8]) -> Reading
 pub fn causal_reading(d: Description, laws: [Law; 64], lent: usize, values: &[u8]) -> Reading
     ensures { λ r. ⌜ replyOf r ≡ reading d laws lent (now (values .entry)) ⌝ }
 {
-    let record_at = action_language::bad_record(d, laws, lent);
+    let record_at = record_acceptance::bad_record(d, laws, lent);
     if let Found::At(place) = record_at {
         return Reading::Refused(8, place);
     }
-    let horizon_at = action_language::bad_horizon(d.horizon);
+    let horizon_at = record_acceptance::bad_horizon(d.horizon);
     if let Found::At(place) = horizon_at {
         return Reading::Refused(3, place);
     }
-    let atoms = action_language::atom_count(d.fluents, d.actions, d.horizon);
+    let atoms = record_acceptance::atom_count(d.fluents, d.actions, d.horizon);
     if values.len() != atoms {
         return Reading::Refused(10, values.len());
     }

@@ -184,7 +184,7 @@ pub(crate) fn atom_count(draft: Declarations) -> usize
     ensures { λ r. ⌜ (r ≡ atomsOf draft) × (r ≤ 1024) ⌝ }
 {
     let names = draft.names;
-    action_language::atom_count(draft.fluents, names.count - draft.fluents, draft.horizon)
+    record_acceptance::atom_count(draft.fluents, names.count - draft.fluents, draft.horizon)
 }
 
 // Fills the buffer with the first values of a history that was read; after a refusal it stays as it was.

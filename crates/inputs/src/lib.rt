@@ -76,7 +76,7 @@ pub fn read_input(input: &[u8]) -> Input
             atoms: 0,
         },
         Answer::Read(bytes, lines) => {
-            let atoms = action_language::atom_count(
+            let atoms = record_acceptance::atom_count(
                 description.fluents,
                 description.actions,
                 description.horizon,

@@ -1,7 +1,7 @@
 -- No description is read with more laws than are lent, nor with more than 64: so the records read, stored back into the run, leave
 -- what the description reader promises.
 -- Assumes nothing.
-use mathlib.Core.Path.{_≡_, refl, sym, _∙_, ap}
+use mathlib.Core.Path.{_≡_, sym, _∙_, ap}
 use mathlib.Core.List.{List, _++_}
 use Prim.Native.Nat.{ℕ, min}
 use native.Mathlib.Omega.{arith}

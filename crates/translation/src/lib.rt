@@ -22,17 +22,17 @@ pub enum Translated {
 pub fn measure(d: Description, laws: [Law; 64], lent: usize, room: usize) -> Translated
     ensures { λ r. ⌜ outcomeOf r ≡ outcome d laws lent room ⌝ }
 {
-    if let Found::At(place) = action_language::bad_record(d, laws, lent) {
+    if let Found::At(place) = record_acceptance::bad_record(d, laws, lent) {
         return Translated::Refused(8, place);
     }
-    if let Found::At(place) = action_language::bad_horizon(d.horizon) {
+    if let Found::At(place) = record_acceptance::bad_horizon(d.horizon) {
         return Translated::Refused(3, place);
     }
     let needed = sizes::sizes_needed(d, laws);
     if room < needed.words {
         return Translated::Refused(9, needed.words);
     }
-    let atoms = action_language::atom_count(d.fluents, d.actions, d.horizon);
+    let atoms = record_acceptance::atom_count(d.fluents, d.actions, d.horizon);
     Translated::Written(atoms, needed.rules, needed.words)
 }
 

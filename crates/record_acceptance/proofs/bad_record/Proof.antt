@@ -4,11 +4,11 @@ use borrow.Author.Tests.{not-true, not-false}
 use mathlib.Core.Path.{_≡_, sym, _∙_, ap}
 use mathlib.Core.Bool.{true}
 use native.Mathlib.Omega.{arith}
 use Rattle.action_language.specs.Acceptance.{countsFit, badRecord}
 use Rattle.basics.specs.Replies.{refusal}
 use Rattle.action_language.proofs.Laws.{counts-limits, place-refusal}
-use Rattle.action_language.proofs.bad_record.Statement.{statement}
-use Rattle.action_language.proofs.bad_record.Tie as tie
+use Rattle.record_acceptance.proofs.bad_record.Statement.{statement}
+use Rattle.record_acceptance.proofs.bad_record.Tie as tie
 
 counts-fit-requires : tie.Need-counts-fit-requires
 counts-fit-requires c κs = tt

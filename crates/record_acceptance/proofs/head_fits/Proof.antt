@@ -1,8 +1,8 @@
 -- `head_fits` meets its contract: a literal's code is tested, and false always fits.
 -- Assumes nothing.
 use borrow.Author.Needs.{needs}
-use Rattle.action_language.proofs.head_fits.Statement.{statement}
-use Rattle.action_language.proofs.head_fits.Tie as tie
+use Rattle.record_acceptance.proofs.head_fits.Statement.{statement}
+use Rattle.record_acceptance.proofs.head_fits.Tie as tie
 
 enum-known-head : tie.Need-enum-known-head
 enum-known-head c = search needs

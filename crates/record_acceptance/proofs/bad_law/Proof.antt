@@ -5,10 +5,10 @@ use mathlib.Core.Bool.{not}
 use Prim.Native.Nat.{_-_, _≤_}
 use native.Mathlib.Omega.{arith}
 use lib.ListN.{length, take, drop}
 use Rattle.action_language.specs.Acceptance.{badLaw}
 use Rattle.basics.proofs.Loops.{prefix-stop, prefix-go, prefix-done}
-use Rattle.action_language.proofs.bad_law.Statement.{statement}
-use Rattle.action_language.proofs.bad_law.Tie as tie
+use Rattle.record_acceptance.proofs.bad_law.Statement.{statement}
+use Rattle.record_acceptance.proofs.bad_law.Tie as tie
 
 abbrev Inv-loop : tie.InvT-loop
 Inv-loop count n m laws i₀ i =

@@ -2,9 +2,9 @@
 -- Assumes nothing.
 use mathlib.Core.Path.{sym}
 use native.Mathlib.Omega.{arith}
 use Rattle.action_language.proofs.Laws.{counts-true, counts-false}
-use Rattle.action_language.proofs.counts_fit.Statement.{statement}
-use Rattle.action_language.proofs.counts_fit.Tie as tie
+use Rattle.record_acceptance.proofs.counts_fit.Statement.{statement}
+use Rattle.record_acceptance.proofs.counts_fit.Tie as tie
 
 returns : tie.Need-returns
 returns c = let a = c .before .before .args in sym (counts-false (a .d) (a .lent) (λ h. omega arith))

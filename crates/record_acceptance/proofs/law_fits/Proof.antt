@@ -6,11 +6,11 @@ use Prim.Native.Nat.{ℕ, _*_}
 use native.Mathlib.Omega.{arith}
 use lib.Dec.{leb}
 use borrow.Author.Tests.{not-true, not-false}
 use Rattle.action_language.specs.declared.Law.{Law}
 use Rattle.action_language.specs.Laws.{ifList}
 use Rattle.action_language.specs.Acceptance.{headFits, codesBelow, afterFits, lawFits}
-use Rattle.action_language.proofs.law_fits.Statement.{statement}
-use Rattle.action_language.proofs.law_fits.Tie as tie
+use Rattle.record_acceptance.proofs.law_fits.Statement.{statement}
+use Rattle.record_acceptance.proofs.law_fits.Tie as tie
 
 -- the three tests together
 tests : (n m : ℕ) (l : Law) {h i a : Bool} → h ≡ headFits n (l .head) → i ≡ (leb (l .«if_count») 6 && codesBelow (2 * n) (ifList l))

@@ -2,9 +2,9 @@
 -- Assumes nothing.
 use mathlib.Core.Path.{sym}
 use native.Mathlib.Omega.{arith}
 use Rattle.action_language.proofs.Atoms.{step-atoms, atoms-within, atoms-past}
-use Rattle.action_language.proofs.atom_count.Statement.{statement}
-use Rattle.action_language.proofs.atom_count.Tie as tie
+use Rattle.record_acceptance.proofs.atom_count.Statement.{statement}
+use Rattle.record_acceptance.proofs.atom_count.Tie as tie
 
 returns : tie.Need-returns
 returns c = let a = c .before .args in sym (atoms-past (a .fluents) (a .actions) (a .horizon) (λ h. omega arith))

@@ -7,10 +7,10 @@ use lib.Dec.{ltb}
 use native.Mathlib.Omega.{arith}
 use lib.ListN.{length, take, drop}
 use borrow.Author.Tests.{le-leb, lt-leb, lt-ltb, le-ltb}
 use Rattle.action_language.specs.Acceptance.{codesBelow}
 use Rattle.basics.proofs.Loops.{rest-cons, rest-done}
-use Rattle.action_language.proofs.list_fits.Statement.{statement}
-use Rattle.action_language.proofs.list_fits.Tie as tie
+use Rattle.record_acceptance.proofs.list_fits.Statement.{statement}
+use Rattle.record_acceptance.proofs.list_fits.Tie as tie
 
 abbrev Inv-loop : tie.InvT-loop
 Inv-loop count limit codes i₀ i =

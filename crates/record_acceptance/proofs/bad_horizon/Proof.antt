@@ -3,9 +3,9 @@
 use mathlib.Core.Path.{sym, ap}
 use native.Mathlib.Omega.{arith}
 use Rattle.basics.specs.Replies.{refusal}
 use Rattle.action_language.proofs.Laws.{horizon-taken, horizon-refused}
-use Rattle.action_language.proofs.bad_horizon.Statement.{statement}
-use Rattle.action_language.proofs.bad_horizon.Tie as tie
+use Rattle.record_acceptance.proofs.bad_horizon.Statement.{statement}
+use Rattle.record_acceptance.proofs.bad_horizon.Tie as tie
 
 returns : tie.Need-returns
 returns c = ap (refusal 3) (sym (horizon-refused (c .before .args .horizon) (λ h. omega arith)))

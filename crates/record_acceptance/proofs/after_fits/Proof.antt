@@ -1,8 +1,8 @@
 -- `after_fits` meets its contract: a static law's after-list is not read, a dynamic law's is tested.
 -- Assumes nothing.
 use borrow.Author.Needs.{needs}
-use Rattle.action_language.proofs.after_fits.Statement.{statement}
-use Rattle.action_language.proofs.after_fits.Tie as tie
+use Rattle.record_acceptance.proofs.after_fits.Statement.{statement}
+use Rattle.record_acceptance.proofs.after_fits.Tie as tie
 
 wide-requires : tie.Need-wide-requires
 wide-requires c κs = tt
