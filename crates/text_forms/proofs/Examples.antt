@@ -1,5 +1,5 @@
--- Small worked examples of the definitions that no function of this crate computes by itself: the keys by their names, a text of
--- two lines, and a list of the one name a.
+-- Small worked examples of the definitions: the keys by their names, a text of two lines, lines that are none, and a list of the one
+-- name a.
 -- Assumes nothing.
 use mathlib.Core.Path.{_≡_, refl}
 use mathlib.Core.List.{List, [], _∷_, map}
@@ -37,10 +37,11 @@ pub line-placed : (startOfLine 1 two-lines ≡ 7) × (startOfValue 0 two-lines �
 unfolding lineSize lineAt
 line-placed = (refl, refl, refl, refl)
 
--- a value whatever its key; nothing where the ending byte is lacking
+-- a value whatever its key; nothing, at the text's end, where the ending byte is lacking
 pub line-valued : (valueOfLine 0 (bytes "foo=bar\n") ≡ bytes "bar") × (valueOfLine 0 (bytes "if=a") ≡ [])
+    × (startOfValue 0 (bytes "if=a") ≡ 4)
 unfolding lineAt
-line-valued = (refl, refl)
+line-valued = (refl, refl, refl)
 
 -- three lines, of which two declare a name: a stands at byte 17, b at byte 26
 pub names-placed : namesIn 3 (bytes "horizon=1\nfluent=a\naction=b\n")
