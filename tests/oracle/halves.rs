@@ -1,8 +1,8 @@
 //! Cutting a recipe in two and joining two recipes (change request 6), in two ways that know nothing of each other: by the
 //! values of a history, and by the lines of a text.
 
-use super::model::Description;
-use super::names::lowered;
+use super::record::Description;
+use super::text::lowered;
 use super::MAX_HORIZON;
 
 /// A description and one value for each of its atoms.

@@ -1,8 +1,7 @@
 //! The description reader.
 
-use super::lines::{list, literal, Key, Line, Lines, Sort};
-use super::model::{Description, Head, Law};
-use super::names::{is_false, is_name};
+use super::record::{Description, Head, Law};
+use super::text::{is_false, is_name, list, literal, Key, Line, Lines, Sort};
 use super::{Refusal, MAX_ACTIONS, MAX_FLUENTS, MAX_HORIZON, MAX_LAWS, MAX_LIST, MAX_TEXT};
 
 /// How far the reader is: each part of a description closes the ones before it.

@@ -1,7 +1,6 @@
 //! The translation of a description into ground rules.
 
-use super::model::{Description, Head, Law};
-use super::record::accept;
+use super::record::{accept, Description, Head, Law};
 use super::{Refusal, FALSE_HEAD};
 
 /// A table of rules as 16-bit words, and how many rules it holds.

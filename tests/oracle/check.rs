@@ -1,9 +1,8 @@
 //! The history check: translation, then the lowest bad atom, then the engine on the translation.
 
 use super::engine::{check_set, values_known, Verdict};
-use super::faults::first_fault;
 use super::history::values_fit;
-use super::model::Description;
+use super::record::Description;
 use super::translation::{translate, Table};
 use super::Refusal;
 
@@ -19,4 +18,31 @@ pub fn check_history(description: &Description, values: &[u8], room: usize) -> R
         None => check_set(values, &table.words)?,
     };
     Ok((verdict, table))
+}
+
+/// Which fault is said, and at which atom.
+#[derive(Clone, Copy, Debug, PartialEq, Eq)]
+pub enum Fault {
+    /// The atom has value 0.
+    Missing(usize),
+    /// The atom has value 3.
+    Clash(usize),
+}
+
+impl From<Fault> for Verdict {
+    fn from(fault: Fault) -> Self {
+        match fault {
+            Fault::Missing(atom) => Verdict::Missing(atom),
+            Fault::Clash(atom) => Verdict::Clash(atom),
+        }
+    }
+}
+
+/// The lowest atom that has either fault decides, and its value says which one it is.
+pub fn first_fault(values: &[u8]) -> Option<Fault> {
+    values.iter().enumerate().find_map(|(atom, value)| match value {
+        0 => Some(Fault::Missing(atom)),
+        3 => Some(Fault::Clash(atom)),
+        _ => None,
+    })
 }

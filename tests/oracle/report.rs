@@ -5,7 +5,7 @@ use super::check::check_history;
 use super::description::read_description;
 use super::engine::Verdict;
 use super::history::read_lines;
-use super::model::Description;
+use super::record::Description;
 use super::translation::Table;
 use super::{Refusal, MAX_LAWS};
 
@@ -18,16 +18,9 @@ pub struct Input {
 /// Reads a description and the history behind it. Lines count over the whole input, so a history's refusal is moved up
 /// by the description's lines; a place that is no line stays as it is.
 pub fn read_input(input: &[u8]) -> Result<Input, Refusal> {
-    with_history(read_description(input, MAX_LAWS)?, input, read_lines)
-}
-
-/// The same, where the description at the input's start is read already, and the reader of a history's text is given.
-pub fn with_history(
-    description: Description,
-    input: &[u8],
-    read: impl Fn(&Description, &[u8]) -> Result<Vec<u8>, Refusal>,
-) -> Result<Input, Refusal> {
-    let values = read(&description, &input[description.length..]).map_err(|refusal| match refusal.number {
+    let description = read_description(input, MAX_LAWS)?;
+    let behind = &input[description.length..];
+    let values = read_lines(&description, behind).map_err(|refusal| match refusal.number {
         1 => refusal,
         _ => Refusal::new(refusal.number, refusal.place + description.lines),
     })?;
@@ -36,33 +29,15 @@ pub fn with_history(
 
 /// The printed output, byte by byte.
 pub fn output(input: &[u8]) -> Vec<u8> {
-    printed(read_input(input))
-}
-
-/// What is printed for an input that is read already, or refused.
-pub fn printed(read: Result<Input, Refusal>) -> Vec<u8> {
-    printed_by(read, |description, values| {
-        check_history(description, values, usize::MAX)
-    })
-}
-
-/// The same where the history check is given, so that one with a slip can be tried.
-pub fn printed_by(
-    read: Result<Input, Refusal>,
-    check: impl Fn(&Description, &[u8]) -> Result<(Verdict, Table), Refusal>,
-) -> Vec<u8> {
-    match read.and_then(|input| answers(input, check)) {
+    match read_input(input).and_then(answers) {
         Ok(lines) => lines,
         Err(refusal) => format!("refused={}\nplace={}\n", refusal.number, refusal.place).into_bytes(),
     }
 }
 
-fn answers(
-    input: Input,
-    check: impl Fn(&Description, &[u8]) -> Result<(Verdict, Table), Refusal>,
-) -> Result<Vec<u8>, Refusal> {
+fn answers(input: Input) -> Result<Vec<u8>, Refusal> {
     let Input { description, values } = input;
-    let (verdict, table) = check(&description, &values)?;
+    let (verdict, table) = check_history(&description, &values, usize::MAX)?;
     let causal = match verdict {
         Verdict::Missing(_) | Verdict::Clash(_) => None,
         _ => Some(causal_reading(&description, &values)?),

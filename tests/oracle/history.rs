@@ -1,8 +1,8 @@
 //! The history reader.
 
 use super::description::read_description;
-use super::lines::{list, Key, Line, Lines, Sort};
-use super::model::Description;
+use super::record::Description;
+use super::text::{list, Key, Line, Lines, Sort};
 use super::{Refusal, MAX_ATOMS, MAX_LAWS, MAX_TEXT};
 
 /// Reads a history into one value an atom, for a caller who lends the description's text again and a buffer of

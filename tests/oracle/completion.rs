@@ -4,8 +4,8 @@
 //! by false may hold. Whether that says the same as the engine depends on the rules: it does where they have levels,
 //! and so a caller may lend them.
 
+use super::check::{first_fault, Fault};
 use super::engine::{accept, Rule};
-use super::faults::first_fault;
 use super::{Refusal, FALSE_HEAD};
 
 /// What the formulas say of a set.
@@ -18,6 +18,15 @@ pub enum Completion {
     Missing(usize),
     /// An atom with both values; every lower one has just one.
     Clash(usize),
+}
+
+impl From<Fault> for Completion {
+    fn from(fault: Fault) -> Self {
+        match fault {
+            Fault::Missing(atom) => Completion::Missing(atom),
+            Fault::Clash(atom) => Completion::Clash(atom),
+        }
+    }
 }
 
 /// The call without levels: conditions 10, 11 and 12, as the engine's, come first.

@@ -1,10 +1,15 @@
-//! The one number in which the library gives an answer.
+//! The functions of the C header over slices, with the one number in which each gives its answer. A slice that may be written
+//! to is left as the caller is to find it.
 
-use crate::reading::causal::Causal;
-use crate::reading::completion::Completion;
-use crate::reading::engine::Verdict;
-use crate::reading::faults::Fault;
-use crate::reading::Refusal;
+use super::causal::{causal_reading as read_causes, Causal};
+use super::check::check_history as check_values;
+use super::completion::{check_by_levels as judge_by_levels, check_completion as judge, Completion};
+use super::description::read_description;
+use super::engine::{check_set as check_table, Verdict};
+use super::history::read_history as read_values;
+use super::report::{output, read_input};
+use super::translation::translate as translated;
+use super::{Refusal, MAX_LAWS};
 
 /// Codes up to this one are refusals by that number; every other answer has a code above it.
 pub const LAST_REFUSAL: u8 = 63;
@@ -79,13 +84,6 @@ impl From<Verdict> for Answer {
     }
 }
 
-/// A bad atom has one code, whether the history check says it or the completion formulas do.
-impl From<Fault> for Answer {
-    fn from(fault: Fault) -> Self {
-        Answer::from(Verdict::from(fault))
-    }
-}
-
 impl From<Completion> for Answer {
     fn from(completion: Completion) -> Self {
         match completion {
@@ -107,7 +105,7 @@ impl From<Causal> for Answer {
     }
 }
 
-/// What a code means, for the printed tally.
+/// What a code means, in a word.
 pub fn meaning(code: u8) -> &'static str {
     match code {
         1..=LAST_REFUSAL => "refused",
@@ -125,4 +123,57 @@ pub fn meaning(code: u8) -> &'static str {
         READ => "read",
         _ => "unknown",
     }
+}
+
+/// One number for an answer or a refusal.
+fn settled(answer: Result<Answer, Refusal>) -> u64 {
+    answer.unwrap_or_else(Answer::from).number()
+}
+
+/// What the program `check` prints, as far as there is room; the answer is the length of the whole.
+pub fn report(input: &[u8], out: &mut [u8]) -> u64 {
+    let printed = output(input);
+    let common = printed.len().min(out.len());
+    out[..common].copy_from_slice(&printed[..common]);
+    printed.len() as u64
+}
+
+pub fn check_set(values: &[u8], table: &[u16]) -> u64 {
+    settled(check_table(values, table).map(Answer::from))
+}
+
+pub fn check_completion(values: &[u8], table: &[u16]) -> u64 {
+    settled(judge(values, table).map(Answer::from))
+}
+
+pub fn check_by_levels(values: &[u8], table: &[u16], levels: &[u16]) -> u64 {
+    settled(judge_by_levels(values, table, levels).map(Answer::from))
+}
+
+pub fn translate(text: &[u8], table: &mut [u16]) -> u64 {
+    settled(read_description(text, MAX_LAWS).and_then(|description| {
+        let made = translated(&description, table.len())?;
+        table[..made.words.len()].copy_from_slice(&made.words);
+        Ok(Answer::written(description.atoms(), made.rules, made.words.len()))
+    }))
+}
+
+pub fn read_history(description: &[u8], history: &[u8], values: &mut [u8]) -> u64 {
+    settled(read_values(description, history, values.len()).map(|read| {
+        values.copy_from_slice(&read);
+        Answer::new(READ, 0)
+    }))
+}
+
+pub fn check_history(text: &[u8], values: &[u8], table: &mut [u16]) -> u64 {
+    settled(read_description(text, MAX_LAWS).and_then(|description| {
+        let (verdict, made) = check_values(&description, values, table.len())?;
+        table[..made.words.len()].copy_from_slice(&made.words);
+        Ok(Answer::from(verdict))
+    }))
+}
+
+pub fn causal_reading(input: &[u8]) -> u64 {
+    let read = read_input(input);
+    settled(read.and_then(|input| Ok(Answer::from(read_causes(&input.description, &input.values)?))))
 }

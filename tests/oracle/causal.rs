@@ -1,8 +1,7 @@
 //! The causal reading: is each step of a history explained by the laws?
 
 use super::history::values_fit;
-use super::model::{Description, Head, Law};
-use super::record::accept;
+use super::record::{accept, Description, Head, Law};
 use super::Refusal;
 
 /// What the causal reading says.
@@ -64,15 +63,6 @@ pub fn causal_reading(description: &Description, values: &[u8]) -> Result<Causal
         return Err(Refusal::new(11, index));
     }
     Ok(read_causes(description, values))
-}
-
-/// The numbers of the laws that apply in the step that ends at `time`, which is above 0. The values are one for each atom.
-pub fn applying(description: &Description, values: &[u8], time: usize) -> Vec<usize> {
-    let history = History { description, values };
-    let laws = description.laws.iter().enumerate();
-    laws.filter(|(_, law)| history.applies(law, time))
-        .map(|(number, _)| number)
-        .collect()
 }
 
 fn read_causes(description: &Description, values: &[u8]) -> Causal {

@@ -1,9 +1,19 @@
 //! A small generator of random numbers (splitmix64), so that a printed seed makes a run again.
 
+/// What the state grows by.
+const STEP: u64 = 0x9e37_79b9_7f4a_7c15;
+
 /// The generator's state.
 #[derive(Clone, Debug)]
 pub struct Random {
     state: u64,
+}
+
+/// Bits that depend on every bit of a word.
+fn mixed(mut word: u64) -> u64 {
+    word = (word ^ (word >> 30)).wrapping_mul(0xbf58_476d_1ce4_e5b9);
+    word = (word ^ (word >> 27)).wrapping_mul(0x94d0_49bb_1331_11eb);
+    word ^ (word >> 31)
 }
 
 impl Random {
@@ -11,13 +21,17 @@ impl Random {
         Random { state: seed }
     }
 
+    /// The generator of one case, by the run's seed and the case's number alone. Each is mixed before the other is added, so
+    /// that no seed draws the cases of another under other numbers.
+    pub fn of_case(seed: u64, number: u64) -> Self {
+        let run = mixed(seed.wrapping_add(STEP));
+        Random::new(mixed(run.wrapping_add(mixed(number.wrapping_add(STEP)))))
+    }
+
     /// The next 64 random bits.
     pub fn bits(&mut self) -> u64 {
-        self.state = self.state.wrapping_add(0x9e37_79b9_7f4a_7c15);
-        let mut word = self.state;
-        word = (word ^ (word >> 30)).wrapping_mul(0xbf58_476d_1ce4_e5b9);
-        word = (word ^ (word >> 27)).wrapping_mul(0x94d0_49bb_1331_11eb);
-        word ^ (word >> 31)
+        self.state = self.state.wrapping_add(STEP);
+        mixed(self.state)
     }
 
     /// A number below the given one, which is not 0. The slight unevenness of the remainder does no harm here.

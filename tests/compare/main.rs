@@ -1,0 +1,2 @@
+mod library;
+fn main() { let _ = library::Library { exact: false }; }

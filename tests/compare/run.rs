@@ -1,0 +1,118 @@
+//! The one comparison: a list of calls answered by both sides. A difference is shown with the smallest input found that has it.
+
+use crate::call::{Call, Part, Said};
+use crate::claims;
+use crate::draw::{list, List};
+use crate::kinds::Tally;
+use crate::random::Random;
+use crate::sides::{answers, Oracle, Side};
+
+/// How often a smaller input is tried for a difference, at most.
+const TRIES: usize = 4_000;
+
+/// Compares so many lists drawn from a seed. The error tells the first difference.
+pub fn compare(library: &mut dyn Side, seed: u64, lists: u64, tally: &mut Tally) -> Result<(), String> {
+    for number in 0..lists {
+        let drawn = list(&mut Random::of_case(seed, number));
+        let found = compare_list(library, &drawn, tally);
+        found.map_err(|found| format!("seed {seed}, list {number}, {}\n{found}", drawn.kind))?;
+    }
+    Ok(())
+}
+
+/// Compares one list: both sides must say the same, and what they say must be as the contract claims.
+pub fn compare_list(library: &mut dyn Side, drawn: &List, tally: &mut Tally) -> Result<(), String> {
+    let wanted = answers(&mut Oracle, &drawn.calls);
+    let given = answers(library, &drawn.calls);
+    if let Some(place) = differs(&wanted, &given) {
+        return Err(shown(library, &drawn.calls[..=place]));
+    }
+    tally.count(drawn, &wanted);
+    match claims::broken(drawn, &wanted) {
+        Some(claim) => Err(format!("both sides break a claim: {claim}\n{}", lines(&drawn.calls))),
+        None => Ok(()),
+    }
+}
+
+/// The first call that is answered otherwise.
+pub fn differs(wanted: &[Said], given: &[Said]) -> Option<usize> {
+    wanted.iter().zip(given).position(|(wanted, given)| wanted != given)
+}
+
+/// A difference in the last of some calls, made as small as can be found.
+fn shown(library: &mut dyn Side, calls: &[Call]) -> String {
+    let mut has_difference = |calls: &[Call]| {
+        let (wanted, given) = (answers(&mut Oracle, calls), answers(library, calls));
+        differs(&wanted, &given) == Some(calls.len() - 1)
+    };
+    let small = shrunk(calls, &mut has_difference);
+    let (wanted, given) = (answers(&mut Oracle, &small), answers(library, &small));
+    let last = small.len() - 1;
+    format!("{}oracle  {}\nlibrary {}", lines(&small), said(&wanted[last]), said(&given[last]))
+}
+
+fn lines(calls: &[Call]) -> String {
+    let line = |(number, call): (usize, &Call)| format!("call {number}: {} of {:?}\n", call.function.name(), call.parts);
+    calls.iter().enumerate().map(line).collect()
+}
+
+fn said(said: &Said) -> String {
+    format!("{:?} (number {}), parts left: {:?}", said.answer(), said.number, said.parts)
+}
+
+/// Smaller calls that still have what is looked for: first without earlier calls, then with shorter parts, in ever smaller
+/// pieces, as long as that gets on.
+pub fn shrunk(calls: &[Call], has_it: &mut dyn FnMut(&[Call]) -> bool) -> Vec<Call> {
+    let mut small = calls.to_vec();
+    let mut tries = TRIES;
+    let alone = [small[small.len() - 1].clone()];
+    if refers_to_nothing(&alone[0]) && has_it(&alone) {
+        small = alone.to_vec();
+    }
+    loop {
+        let before = small.clone();
+        for call in 0..small.len() {
+            for part in 0..small[call].parts.len() {
+                shorten(&mut small, (call, part), &mut tries, has_it);
+            }
+        }
+        if small == before || tries == 0 {
+            return small;
+        }
+    }
+}
+
+fn refers_to_nothing(call: &Call) -> bool {
+    !call.parts.iter().any(|part| matches!(part, Part::Left(..)))
+}
+
+/// Takes pieces out of a part: halves, quarters and so on down to single elements.
+fn shorten(calls: &mut [Call], at: (usize, usize), tries: &mut usize, has_it: &mut dyn FnMut(&[Call]) -> bool) {
+    let length = |part: &Part| part.as_bytes().len() + part.as_words().len();
+    let mut size = length(&calls[at.0].parts[at.1]).div_ceil(2);
+    while size > 0 {
+        let mut start = 0;
+        while start < length(&calls[at.0].parts[at.1]) && *tries > 0 {
+            *tries -= 1;
+            let whole = calls[at.0].parts[at.1].clone();
+            calls[at.0].parts[at.1] = without(&whole, start, size);
+            if !has_it(calls) {
+                calls[at.0].parts[at.1] = whole;
+                start += size;
+            }
+        }
+        size = if size == 1 { 0 } else { size.div_ceil(2) };
+    }
+}
+
+/// A part without some of its elements.
+fn without(part: &Part, start: usize, size: usize) -> Part {
+    fn cut<T: Clone>(whole: &[T], start: usize, size: usize) -> Vec<T> {
+        [&whole[..start], &whole[whole.len().min(start + size)..]].concat()
+    }
+    match part {
+        Part::Bytes(bytes) => Part::Bytes(cut(bytes, start, size)),
+        Part::Words(words) => Part::Words(cut(words, start, size)),
+        left => left.clone(),
+    }
+}
