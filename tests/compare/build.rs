@@ -1,7 +1,7 @@
 //! Tells the linker where the static libraries lie.
 //!
-//! The libraries themselves are named in `src/lent.rs` and `src/bin/causal_benchmark.rs`, which only the linking programs
-//! include; a search path that does not exist does no harm to the others.
+//! The libraries themselves are named in `compare/library.rs` and `timing/causal.rs`, which only the linking programs include; a
+//! search path that does not exist does no harm to the others.
 
 use std::env;
 use std::path::Path;

@@ -42,7 +42,7 @@ pub struct Library {
 
 /// A part in memory that is watched. An empty part is lent with a null pointer, for the header allows any pointer with a length
 /// of 0, and this is the one most likely to do harm.
-struct Watched<T> {
+pub struct Watched<T> {
     memory: Box<[T]>,
     guard: usize,
     mark: T,
@@ -79,21 +79,28 @@ impl<T: Copy + PartialEq> Watched<T> {
     }
 }
 
-/// A part of either sort, watched.
-enum Place {
+/// A part of either sort in memory that is watched.
+pub enum Place {
     OfBytes(Watched<u8>),
     OfWords(Watched<u16>),
 }
 
 use Place::{OfBytes, OfWords};
 
-impl Side for Library {
-    fn say(&mut self, function: Function, parts: &mut [Part]) -> u64 {
+impl Library {
+    /// Memory for the parts of a call, with what they hold in it.
+    pub fn places(&self, parts: &[Part]) -> Vec<Place> {
         let watched = |part: &Part| match part {
             Words(words) => OfWords(Watched::new(words, WORD, self.exact)),
             part => OfBytes(Watched::new(part.as_bytes(), BYTE, self.exact)),
         };
-        let mut places: Vec<Place> = parts.iter().map(watched).collect();
+        parts.iter().map(watched).collect()
+    }
+}
+
+impl Side for Library {
+    fn say(&mut self, function: Function, parts: &mut [Part]) -> u64 {
+        let mut places = self.places(parts);
         let number = called(function, &mut places);
         for (part, place) in parts.iter_mut().zip(&places) {
             *part = match place {
@@ -107,7 +114,7 @@ impl Side for Library {
 
 /// Makes the call. Each place is memory of its own that lives as long as the call, so that none overlaps another, and lengths
 /// are those of the places.
-fn called(function: Function, places: &mut [Place]) -> u64 {
+pub fn called(function: Function, places: &mut [Place]) -> u64 {
     use Function as F;
     // SAFETY: as said above; the functions keep nothing and write within the lengths they are given.
     unsafe {

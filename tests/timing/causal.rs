@@ -1,16 +1,16 @@
-//! Times the proved causal reading by itself against the independent one, on the same inputs in one run.
+//! Times the proved causal reading by itself against the oracle's, on the same inputs in one run.
 //!
 //! The C library reads a text at each call. So the crate `bench_causal_reading` is linked here, which reads a text once and its
 //! history causally so many times more: that leaves the time of one reading, on values and laws that are there
 //! already. The figures hold for the machine and the day they are taken on; nothing depends on them.
 
-use readings::answer::{Answer, PATH};
-use readings::measure::{by_turns, print_pair, timed};
-use readings::reading::causal::causal_reading;
-use readings::reading::report::{read_input, Input};
-use readings::reading::MAX_HORIZON;
-use readings::recipes::{belt_recipe, full_recipe, inertia_recipe, largest_recipe};
+use compare::draw::known::{belt_recipe, full_recipe, inertia_recipe, largest_recipe};
+use oracle::causal::causal_reading;
+use oracle::header::{Answer, PATH};
+use oracle::report::{read_input, Input};
+use oracle::MAX_HORIZON;
 use std::hint::black_box;
+use timing::measure::{by_turns, print_pair, timed};
 
 #[link(name = "bench_causal_reading", kind = "static")]
 extern "C" {
@@ -36,7 +36,7 @@ fn readings_time(text: &[u8], times: u32) -> impl FnMut() -> f64 + '_ {
     move || with() - without()
 }
 
-/// The independent reading of an input that has been read.
+/// The oracle's reading of an input that has been read.
 fn reading(input: &Input) -> Answer {
     causal_reading(&input.description, &input.values).map_or_else(Answer::from, Answer::from)
 }
@@ -81,7 +81,7 @@ fn time_sample(label: &str, text: &[u8]) {
 }
 
 fn main() {
-    println!("Times of one causal reading by itself; ratio is library by reading. The sides run by turns.");
+    println!("Times of one causal reading by itself; ratio is library by oracle. The sides run by turns.");
     time_sample("full recipe", &full_recipe());
     time_sample("largest table", &largest_recipe());
     time_sample("inertia", &inertia_recipe());

@@ -1,7 +1,7 @@
 //! Prints the largest recipe, or with an argument T the belt of horizon T: description and passing history.
 
-use readings::reading::MAX_HORIZON;
-use readings::recipes::{belt_recipe, largest_recipe};
+use compare::draw::known::{belt_recipe, largest_recipe};
+use oracle::MAX_HORIZON;
 use std::env;
 use std::io::{self, Write};
 use std::process::ExitCode;

@@ -84,10 +84,10 @@ pub fn pair(first: impl FnMut(), second: impl FnMut()) -> Pair {
     by_turns(first, timed(second))
 }
 
-/// Prints a library's time beside the reading's.
+/// Prints a library's time beside the oracle's.
 pub fn print_pair(what: &str, times: &Pair) {
     println!(
-        "  {what}: library {}, reading {}, ratio {:.2} (median of {} runs a side)",
+        "  {what}: library {}, oracle {}, ratio {:.2} (median of {} runs a side)",
         readable(times.first),
         readable(times.second),
         times.ratio(),

@@ -1,31 +1,29 @@
-//! Times the linked library against the independent reading, on the same inputs in one run.
+//! Times the linked library against the oracle, on the same inputs in one run.
 //!
 //! `benchmark [CHECK [PROGRAM=RECIPE ...]]`. CHECK is the program check; the others are programs for clingo, each with
 //! the recipe it was made from: where clingo is installed, they are solved and timed as well. The figures hold for the
-//! machine and the day they are taken on; nothing depends on them. The reading looks through all rules for each
+//! machine and the day they are taken on; nothing depends on them. The oracle looks through all rules for each
 //! completion formula, so there the ratio says little; how the library's time grows says more, and how it stands to the
 //! engine's.
 
-#[path = "../lent.rs"]
-mod lent;
+#[path = "../compare/library.rs"]
+mod library;
 
-use lent::Lent;
-use readings::answer::{Answer, HOLDS, PASSES};
-use readings::calls::{Calls, Reading};
-use readings::clingo;
-use readings::measure::{pair, print_pair, readable, Pair};
-use readings::reading::report::read_input;
-use readings::reading::translation::all_rules;
-use readings::reading::MAX_HORIZON;
-use readings::recipes::{belt_recipe, full_recipe, inertia_recipe, largest_recipe};
+use compare::call::{Function, Part};
+use compare::draw::known::{belt_recipe, full_recipe, inertia_recipe, largest_recipe};
+use compare::sides::{Oracle, Side};
+use library::{called, Library};
+use oracle::header::{Answer, HOLDS, PASSES};
+use oracle::report::read_input;
+use oracle::translation::all_rules;
+use oracle::MAX_HORIZON;
 use std::env;
 use std::fs;
 use std::hint::black_box;
 use std::io;
 use std::path::Path;
-
-/// The library as its callers have it: nothing is copied or looked at besides.
-const LIBRARY: Lent = Lent { watched: false };
+use timing::clingo;
+use timing::measure::{pair, print_pair, readable, Pair};
 
 const HORIZONS: [usize; 8] = [1, 2, 5, 10, 15, 20, 25, 30];
 
@@ -41,74 +39,57 @@ struct Sample {
 fn sample(label: &str, text: Vec<u8>) -> Sample {
     let read = read_input(&text).expect("samples are good texts");
     let table = all_rules(&read.description);
-    let values = read.values;
-    let sample = Sample {
+    Sample {
         label: label.to_string(),
         text,
-        values,
+        values: read.values,
         table: table.words,
         rules: table.rules,
-    };
-    agree(&sample);
-    sample
-}
-
-/// Both sides must say that the set passes and that the completion formulas hold; anything else is no measure of the
-/// same work.
-fn agree_on_table(label: &str, values: &[u8], table: &[u16]) {
-    let sides: [&dyn Calls; 2] = [&LIBRARY, &Reading];
-    for side in sides {
-        assert_eq!(side.check_set(values, table), Answer::new(PASSES, 0), "{label}");
-        assert_eq!(side.check_completion(values, table), Answer::new(HOLDS, 0), "{label}");
     }
 }
 
-/// Both sides must say the same of a recipe's history too.
-fn agree(sample: &Sample) {
-    agree_on_table(&sample.label, &sample.values, &sample.table);
-    let passes = Answer::new(PASSES, 0);
-    let mut table = vec![0; sample.table.len()];
-    assert_eq!(
-        LIBRARY.check_history(&sample.text, &sample.values, &mut table),
-        passes,
-        "{}",
-        sample.label
-    );
-    assert_eq!(table, sample.table, "{}", sample.label);
-    assert_eq!(
-        Reading.check_history(&sample.text, &sample.values, &mut table),
-        passes,
-        "{}",
-        sample.label
-    );
+/// A call by the library, on memory that is there already: nothing is copied or looked at besides.
+fn by_library(function: Function, parts: &[Part]) -> impl FnMut() -> u64 {
+    let mut places = Library { exact: true }.places(parts);
+    move || black_box(called(function, black_box(&mut places)))
+}
+
+/// The same call by the oracle.
+fn by_oracle(function: Function, parts: &[Part]) -> impl FnMut() -> u64 {
+    let mut parts = parts.to_vec();
+    move || black_box(Oracle.say(function, black_box(&mut parts)))
+}
+
+/// Times a call by both sides, which must both say that the recipe passes or that the formulas hold; anything else is no measure
+/// of the same work.
+fn time_call(label: &str, function: Function, parts: &[Part]) -> Pair {
+    let (mut library, mut own) = (by_library(function, parts), by_oracle(function, parts));
+    let wanted = match function {
+        Function::CheckCompletion => HOLDS,
+        _ => PASSES,
+    };
+    for said in [library(), own()] {
+        assert_eq!(Answer::from_number(said), Answer::new(wanted, 0), "{label}");
+    }
+    pair(|| drop(library()), || drop(own()))
 }
 
 /// The engine alone, on a table that is there already.
-fn time_engine(values: &[u8], table: &[u16]) -> Pair {
-    let call = |side: &dyn Calls| {
-        black_box(side.check_set(black_box(values), black_box(table)));
-    };
-    pair(|| call(&LIBRARY), || call(&Reading))
+fn time_engine(label: &str, values: &[u8], table: &[u16]) -> Pair {
+    time_call(label, Function::CheckSet, &[Part::bytes(values), Part::words(table)])
 }
 
 /// The completion formulas on the same table, without levels.
-fn time_completion(values: &[u8], table: &[u16]) -> Pair {
-    let call = |side: &dyn Calls| {
-        black_box(side.check_completion(black_box(values), black_box(table)));
-    };
-    pair(|| call(&LIBRARY), || call(&Reading))
+fn time_completion(label: &str, values: &[u8], table: &[u16]) -> Pair {
+    time_call(label, Function::CheckCompletion, &[Part::bytes(values), Part::words(table)])
 }
 
 /// The library's completion formulas against its engine, on the same table by turns.
 fn print_beside_engine(values: &[u8], table: &[u16]) {
-    let times = pair(
-        || {
-            black_box(LIBRARY.check_completion(black_box(values), black_box(table)));
-        },
-        || {
-            black_box(LIBRARY.check_set(black_box(values), black_box(table)));
-        },
-    );
+    let parts = [Part::bytes(values), Part::words(table)];
+    let mut completion = by_library(Function::CheckCompletion, &parts);
+    let mut engine = by_library(Function::CheckSet, &parts);
+    let times = pair(|| drop(completion()), || drop(engine()));
     println!(
         "    library alone: completion {} by engine {}: ratio {:.2}",
         readable(times.first),
@@ -119,16 +100,12 @@ fn print_beside_engine(values: &[u8], table: &[u16]) {
 
 /// The history check from the description's text on: reading, translation and engine.
 fn time_history_check(sample: &Sample) -> Pair {
-    let mut lent = vec![0; sample.table.len()];
-    let mut own = vec![0; sample.table.len()];
-    pair(
-        || {
-            black_box(LIBRARY.check_history(black_box(&sample.text), black_box(&sample.values), &mut lent));
-        },
-        || {
-            black_box(Reading.check_history(black_box(&sample.text), black_box(&sample.values), &mut own));
-        },
-    )
+    let parts = [
+        Part::bytes(&sample.text),
+        Part::bytes(&sample.values),
+        Part::words(vec![0; sample.table.len()]),
+    ];
+    time_call(&sample.label, Function::CheckHistory, &parts)
 }
 
 fn time_sample(sample: &Sample) {
@@ -140,8 +117,8 @@ fn time_sample(sample: &Sample) {
         sample.table.len(),
         sample.text.len()
     );
-    print_pair("engine", &time_engine(&sample.values, &sample.table));
-    print_pair("completion", &time_completion(&sample.values, &sample.table));
+    print_pair("engine", &time_engine(&sample.label, &sample.values, &sample.table));
+    print_pair("completion", &time_completion(&sample.label, &sample.values, &sample.table));
     print_beside_engine(&sample.values, &sample.table);
     print_pair("history check", &time_history_check(sample));
 }
@@ -152,8 +129,8 @@ fn time_growth() {
     let mut first: Option<[Pair; 3]> = None;
     for horizon in HORIZONS {
         let sample = sample(&format!("belt, horizon {horizon}"), belt_recipe(horizon));
-        let engine = time_engine(&sample.values, &sample.table);
-        let completion = time_completion(&sample.values, &sample.table);
+        let engine = time_engine(&sample.label, &sample.values, &sample.table);
+        let completion = time_completion(&sample.label, &sample.values, &sample.table);
         let check = time_history_check(&sample);
         let [first_engine, first_completion, first_check] = *first.get_or_insert([engine, completion, check]);
         println!(
@@ -200,10 +177,9 @@ fn time_grown() {
         for size in sizes {
             let (atoms, rules, _) = size;
             let (values, table) = (vec![1; atoms], grown(size));
-            agree_on_table(what, &values, &table);
             println!("  {atoms} atoms, {} rules, {} words", atoms * rules, table.len());
-            let engine = time_engine(&values, &table);
-            let completion = time_completion(&values, &table);
+            let engine = time_engine(what, &values, &table);
+            let completion = time_completion(what, &values, &table);
             let [first_engine, first_completion] = *first.get_or_insert([engine, completion]);
             print_growth("engine", &engine, &first_engine);
             print_growth("completion", &completion, &first_completion);
@@ -214,7 +190,7 @@ fn time_grown() {
 
 fn print_growth(what: &str, times: &Pair, first: &Pair) {
     println!(
-        "    {what}: library {} ({:.1} times the first), reading {} ({:.1} times the first), ratio {:.2}",
+        "    {what}: library {} ({:.1} times the first), oracle {} ({:.1} times the first), ratio {:.2}",
         readable(times.first),
         times.first / first.first,
         readable(times.second),
@@ -273,7 +249,7 @@ fn print_against(taken: &clingo::Taken, recipe: &str, check: &str) -> Result<(),
 }
 
 fn main() -> Result<(), String> {
-    println!("Times of one call; ratio is library by reading. Each side is warmed up, then both run by turns.");
+    println!("Times of one call; ratio is library by oracle. Each side is warmed up, then both run by turns.");
     println!("Table buffers are lent to every call as the call before left them; they are not cleared in between.");
     time_sample(&sample("full recipe", full_recipe()));
     time_sample(&sample("largest table", largest_recipe()));
