@@ -4,33 +4,45 @@ use crate::call::{Call, Part, Said};
 use crate::claims;
 use crate::draw::{list, List};
 use crate::kinds::Tally;
+use crate::program::Program;
 use crate::random::Random;
 use crate::sides::{answers, Oracle, Side};
 
 /// How often a smaller input is tried for a difference, at most.
 const TRIES: usize = 4_000;
 
-/// Compares so many lists drawn from a seed. The error tells the first difference.
-pub fn compare(library: &mut dyn Side, seed: u64, lists: u64, tally: &mut Tally) -> Result<(), String> {
+/// Compares so many lists drawn from a seed, some of them beside the program too. The error tells the first difference.
+pub fn compare(
+    library: &mut dyn Side,
+    mut program: Option<&mut Program>,
+    seed: u64,
+    lists: u64,
+    tally: &mut Tally,
+) -> Result<(), String> {
     for number in 0..lists {
         let drawn = list(&mut Random::of_case(seed, number));
-        let found = compare_list(library, &drawn, tally);
+        let found = compare_list(library, &drawn).and_then(|said| {
+            tally.count(&drawn, &said);
+            match &mut program {
+                Some(program) => program.compare(drawn.kind, &drawn.calls, &said),
+                None => Ok(()),
+            }
+        });
         found.map_err(|found| format!("seed {seed}, list {number}, {}\n{found}", drawn.kind))?;
     }
     Ok(())
 }
 
-/// Compares one list: both sides must say the same, and what they say must be as the contract claims.
-pub fn compare_list(library: &mut dyn Side, drawn: &List, tally: &mut Tally) -> Result<(), String> {
+/// Compares one list: both sides must say the same, and what they say must be as the contract claims. It is handed on.
+pub fn compare_list(library: &mut dyn Side, drawn: &List) -> Result<Vec<Said>, String> {
     let wanted = answers(&mut Oracle, &drawn.calls);
     let given = answers(library, &drawn.calls);
     if let Some(place) = differs(&wanted, &given) {
         return Err(shown(library, &drawn.calls[..=place]));
     }
-    tally.count(drawn, &wanted);
     match claims::broken(drawn, &wanted) {
         Some(claim) => Err(format!("both sides break a claim: {claim}\n{}", lines(&drawn.calls))),
-        None => Ok(()),
+        None => Ok(wanted),
     }
 }
 
