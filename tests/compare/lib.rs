@@ -10,6 +10,7 @@ pub mod cases;
 pub mod claims;
 pub mod draw;
 pub mod kinds;
+pub mod memory;
 pub mod program;
 pub mod random;
 pub mod run;

@@ -128,3 +128,75 @@ fn without(part: &Part, start: usize, size: usize) -> Part {
         left => left.clone(),
     }
 }
+
+#[cfg(test)]
+mod tests {
+    use super::*;
+    use crate::call::Function;
+    use oracle::header::{Answer, PASSES, UNFOUNDED};
+    use std::collections::BTreeSet;
+
+    /// A library that makes no derivation.
+    struct NoDerivation;
+
+    impl Side for NoDerivation {
+        fn say(&mut self, function: Function, parts: &mut [Part]) -> u64 {
+            let said = Oracle.say(function, parts);
+            match (function, Answer::from_number(said).code) {
+                (Function::CheckSet, UNFOUNDED) => u64::from(PASSES),
+                _ => said,
+            }
+        }
+    }
+
+    /// A library that leaves a byte behind which it should not.
+    struct OneByteMore;
+
+    impl Side for OneByteMore {
+        fn say(&mut self, function: Function, parts: &mut [Part]) -> u64 {
+            let said = Oracle.say(function, parts);
+            if let (Function::Report, Part::Bytes(out)) = (function, &mut parts[parts.len() - 1]) {
+                out.iter_mut().skip(said as usize).take(1).for_each(|byte| *byte ^= 1);
+            }
+            said
+        }
+    }
+
+    fn found(library: &mut dyn Side) -> Result<(), String> {
+        compare(library, None, 7, 3_000, &mut Tally::default())
+    }
+
+    #[test]
+    fn the_oracle_agrees_with_itself() {
+        assert_eq!(found(&mut Oracle), Ok(()));
+    }
+
+    /// The smallest program with an unfounded set has one atom, which has a value, and no rule at all.
+    #[test]
+    fn a_difference_is_shown_by_the_smallest_input_found() {
+        let told = found(&mut NoDerivation).unwrap_err();
+        assert!(told.starts_with("seed 7, list "), "{told}");
+        let smallest = [1, 2].map(|value| format!("call 0: check_set of [bytes [{value}], words []]\n"));
+        assert!(smallest.iter().any(|call| told.contains(call)), "{told}");
+    }
+
+    #[test]
+    fn a_byte_left_otherwise_is_a_difference() {
+        assert!(found(&mut OneByteMore).unwrap_err().contains("report of"));
+    }
+
+    /// Seeds that differ in a bit, or by one, draw no list of each other; small ones may come up twice by chance.
+    #[test]
+    fn near_seeds_draw_other_lists() {
+        let shown = |seed: u64, number: u64| lines(&list(&mut Random::of_case(seed, number)).calls);
+        let large = |seed: u64| -> BTreeSet<String> {
+            let all = (0..300).map(|number| shown(seed, number));
+            all.filter(|calls| calls.len() > 1_000).collect()
+        };
+        let first = large(0);
+        assert!(first.len() > 100, "{}", first.len());
+        for seed in 1..32 {
+            assert!(first.is_disjoint(&large(seed)), "{seed}");
+        }
+    }
+}
