@@ -13,16 +13,31 @@ extern "C" {
     fn huntyghai_check_completion(values: *const u8, atoms: usize, table: *const u16, words: usize) -> u64;
     #[rustfmt::skip]
     fn huntyghai_check_by_levels(
-        values: *const u8, atoms: usize, table: *const u16, words: usize, levels: *const u16, codes: usize,
+        values: *const u8,
+        atoms: usize,
+        table: *const u16,
+        words: usize,
+        levels: *const u16,
+        codes: usize,
     ) -> u64;
     fn huntyghai_translate(text: *const u8, length: usize, table: *mut u16, room: usize) -> u64;
     #[rustfmt::skip]
     fn huntyghai_read_history(
-        text: *const u8, length: usize, history: *const u8, history_length: usize, values: *mut u8, atoms: usize,
+        text: *const u8,
+        length: usize,
+        history: *const u8,
+        history_length: usize,
+        values: *mut u8,
+        atoms: usize,
     ) -> u64;
     #[rustfmt::skip]
     fn huntyghai_check_history(
-        text: *const u8, length: usize, values: *const u8, atoms: usize, table: *mut u16, room: usize,
+        text: *const u8,
+        length: usize,
+        values: *const u8,
+        atoms: usize,
+        table: *mut u16,
+        room: usize,
     ) -> u64;
     fn huntyghai_causal_reading(input: *const u8, length: usize) -> u64;
 }
@@ -64,15 +79,21 @@ pub fn called(function: Function, places: &mut [Place]) -> u64 {
     // SAFETY: as said above; the functions keep nothing and write within the lengths they are given.
     unsafe {
         match (function, places) {
-            (F::Report, [OfBytes(a), OfBytes(b)]) => huntyghai_report(a.place(), a.length(), b.place(), b.length()) as u64,
-            (F::CheckSet, [OfBytes(a), OfWords(b)]) => huntyghai_check_set(a.place(), a.length(), b.place(), b.length()),
+            (F::Report, [OfBytes(a), OfBytes(b)]) => {
+                huntyghai_report(a.place(), a.length(), b.place(), b.length()) as u64
+            }
+            (F::CheckSet, [OfBytes(a), OfWords(b)]) => {
+                huntyghai_check_set(a.place(), a.length(), b.place(), b.length())
+            }
             (F::CheckCompletion, [OfBytes(a), OfWords(b)]) => {
                 huntyghai_check_completion(a.place(), a.length(), b.place(), b.length())
             }
             (F::CheckByLevels, [OfBytes(a), OfWords(b), OfWords(c)]) => {
                 huntyghai_check_by_levels(a.place(), a.length(), b.place(), b.length(), c.place(), c.length())
             }
-            (F::Translate, [OfBytes(a), OfWords(b)]) => huntyghai_translate(a.place(), a.length(), b.place(), b.length()),
+            (F::Translate, [OfBytes(a), OfWords(b)]) => {
+                huntyghai_translate(a.place(), a.length(), b.place(), b.length())
+            }
             (F::ReadHistory, [OfBytes(a), OfBytes(b), OfBytes(c)]) => {
                 huntyghai_read_history(a.place(), a.length(), b.place(), b.length(), c.place(), c.length())
             }

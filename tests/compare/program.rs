@@ -42,7 +42,9 @@ impl Program {
             if printed != said.printed() {
                 let (wanted, printed) = (said.printed().escape_ascii(), printed.escape_ascii());
                 let input = input.escape_ascii();
-                return Err(format!("oracle  {wanted}\nprogram {printed}\ninput, with escapes:\n{input}"));
+                return Err(format!(
+                    "oracle  {wanted}\nprogram {printed}\ninput, with escapes:\n{input}"
+                ));
             }
         }
         Ok(())

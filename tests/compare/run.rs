@@ -60,16 +60,27 @@ fn shown(library: &mut dyn Side, calls: &[Call]) -> String {
     let small = shrunk(calls, &mut has_difference);
     let (wanted, given) = (answers(&mut Oracle, &small), answers(library, &small));
     let last = small.len() - 1;
-    format!("{}oracle  {}\nlibrary {}", lines(&small), said(&wanted[last]), said(&given[last]))
+    format!(
+        "{}oracle  {}\nlibrary {}",
+        lines(&small),
+        said(&wanted[last]),
+        said(&given[last])
+    )
 }
 
 fn lines(calls: &[Call]) -> String {
-    let line = |(number, call): (usize, &Call)| format!("call {number}: {} of {:?}\n", call.function.name(), call.parts);
+    let line =
+        |(number, call): (usize, &Call)| format!("call {number}: {} of {:?}\n", call.function.name(), call.parts);
     calls.iter().enumerate().map(line).collect()
 }
 
 fn said(said: &Said) -> String {
-    format!("{:?} (number {}), parts left: {:?}", said.answer(), said.number, said.parts)
+    format!(
+        "{:?} (number {}), parts left: {:?}",
+        said.answer(),
+        said.number,
+        said.parts
+    )
 }
 
 /// Smaller calls that still have what is looked for: first without earlier calls, then with shorter parts, in ever smaller

@@ -81,7 +81,11 @@ fn time_engine(label: &str, values: &[u8], table: &[u16]) -> Pair {
 
 /// The completion formulas on the same table, without levels.
 fn time_completion(label: &str, values: &[u8], table: &[u16]) -> Pair {
-    time_call(label, Function::CheckCompletion, &[Part::bytes(values), Part::words(table)])
+    time_call(
+        label,
+        Function::CheckCompletion,
+        &[Part::bytes(values), Part::words(table)],
+    )
 }
 
 /// The library's completion formulas against its engine, on the same table by turns.
@@ -118,7 +122,10 @@ fn time_sample(sample: &Sample) {
         sample.text.len()
     );
     print_pair("engine", &time_engine(&sample.label, &sample.values, &sample.table));
-    print_pair("completion", &time_completion(&sample.label, &sample.values, &sample.table));
+    print_pair(
+        "completion",
+        &time_completion(&sample.label, &sample.values, &sample.table),
+    );
     print_beside_engine(&sample.values, &sample.table);
     print_pair("history check", &time_history_check(sample));
 }

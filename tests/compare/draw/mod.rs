@@ -1,5 +1,14 @@
 //! Lists of calls, drawn at random.
 
+pub mod damage;
+pub mod descriptions;
+pub mod histories;
+pub mod known;
+pub mod letters;
+pub mod limits;
+pub mod render;
+pub mod texts;
+
 use crate::call::Call;
 use crate::claims::Claim;
 use crate::random::Random;
@@ -14,7 +23,11 @@ pub struct List {
     pub claim: Claim,
 }
 
+/// What draws lists, and how often each is asked.
+const DRAWN: [(fn(&mut Random) -> List, usize); 2] = [(texts::list, 100), (texts::respelled_list, 50)];
+
 /// One list of any kind.
-pub fn list(_random: &mut Random) -> List {
-    List { kind: "none", calls: vec![], claim: Claim::Nothing }
+pub fn list(random: &mut Random) -> List {
+    let (drawn, _) = DRAWN[random.weighted(&DRAWN.map(|(_, weight)| weight))];
+    drawn(random)
 }
