@@ -21,11 +21,11 @@ impl Random {
         Random { state: seed }
     }
 
-    /// The generator of one case, by the run's seed and the case's number alone. Each is mixed before the other is added, so
-    /// that no seed draws the cases of another under other numbers.
+    /// The generator of one case, by the run's seed and the case's number alone. Each is mixed before the other is added, the
+    /// seed twice, so that no seed draws the cases of another under other numbers, nor a number those of a seed.
     pub fn of_case(seed: u64, number: u64) -> Self {
-        let run = mixed(seed.wrapping_add(STEP));
-        Random::new(mixed(run.wrapping_add(mixed(number.wrapping_add(STEP)))))
+        let run = mixed(mixed(seed.wrapping_add(STEP)));
+        Random::new(mixed(run.wrapping_add(mixed(number))))
     }
 
     /// The next 64 random bits.
