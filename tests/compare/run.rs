@@ -121,10 +121,10 @@ fn without_call(calls: &[Call], gone: usize) -> Option<Vec<Call>> {
     Some(fewer)
 }
 
-/// Takes pieces out of a part: halves, quarters and so on down to single elements.
+/// Takes pieces out of a part: the whole, halves, quarters and so on down to single elements.
 fn shorten(calls: &mut [Call], at: (usize, usize), tries: &mut usize, has_it: &mut dyn FnMut(&[Call]) -> bool) {
     let length = |part: &Part| part.as_bytes().len() + part.as_words().len();
-    let mut size = length(&calls[at.0].parts[at.1]).div_ceil(2);
+    let mut size = length(&calls[at.0].parts[at.1]);
     while size > 0 {
         let mut start = 0;
         while start < length(&calls[at.0].parts[at.1]) && *tries > 0 {
