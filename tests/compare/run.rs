@@ -206,7 +206,7 @@ mod tests {
     fn a_difference_is_shown_by_the_smallest_input_found() {
         let report = Call::new(Function::Report, [Part::bytes("horizon=1\n"), Part::bytes([0; 9])]);
         let table = Part::words([0, 0, 1, 2, 2, 0, 1, 0, 5, 0, 0]);
-        let calls = [report, Call::new(Function::CheckSet, [Part::bytes([1, 1, 2]), table])];
+        let calls = [report, Call::new(Function::CheckSet, [Part::bytes([1, 1, 1]), table])];
         let told = shown(&mut NoDerivation, &calls);
         assert!(
             told.starts_with("call 0: check_set of [bytes [1], words []]\n"),
