@@ -205,7 +205,7 @@ mod tests {
     #[test]
     fn a_difference_is_shown_by_the_smallest_input_found() {
         let report = Call::new(Function::Report, [Part::bytes("horizon=1\n"), Part::bytes([0; 9])]);
-        let table = Part::words([0, 0, 1, 2, 2, 0, 1, 0, 5, 0, 0]);
+        let table = Part::words([0, 0, 1, 2, 2, 0, 1, 0, 4, 0, 0]);
         let calls = [report, Call::new(Function::CheckSet, [Part::bytes([1, 1, 1]), table])];
         let told = shown(&mut NoDerivation, &calls);
         assert!(
