@@ -89,17 +89,3 @@ fn verdict(printed: &str) -> String {
     let line = printed.lines().find(|line| known.contains(line));
     line.unwrap_or("no verdict").to_string()
 }
-
-#[cfg(test)]
-mod tests {
-    use super::*;
-
-    #[test]
-    fn times_are_read_from_the_statistics() {
-        let printed = "Answer: 1\na\nSATISFIABLE\n\nModels       : 1+\nCalls        : 1\n\
-                       Time         : 0.004s (Solving: 0.01s 1st Model: 0.00s Unsat: 0.00s)\nCPU Time     : 0.003s\n";
-        assert_eq!(times(printed), Some((0.004, 0.01)));
-        assert_eq!(verdict(printed), "SATISFIABLE");
-        assert_eq!(times("nothing"), None);
-    }
-}

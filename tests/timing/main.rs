@@ -17,137 +17,108 @@ use oracle::header::{Answer, HOLDS, PASSES};
 use oracle::report::read_input;
 use oracle::translation::all_rules;
 use oracle::MAX_HORIZON;
-use std::env;
-use std::fs;
 use std::hint::black_box;
-use std::io;
-use std::path::Path;
+use std::{env, fs, io};
 use timing::clingo;
 use timing::measure::{pair, print_pair, readable, Pair};
 
 const HORIZONS: [usize; 8] = [1, 2, 5, 10, 15, 20, 25, 30];
 
-/// One input: a description's text, a history's values, and the table both sides check.
-struct Sample {
-    label: String,
-    text: Vec<u8>,
-    values: Vec<u8>,
-    table: Vec<u16>,
-    rules: usize,
+/// A call to be timed.
+struct Timed {
+    what: &'static str,
+    function: Function,
+    parts: Vec<Part>,
 }
 
-fn sample(label: &str, text: Vec<u8>) -> Sample {
-    let read = read_input(&text).expect("samples are good texts");
-    let table = all_rules(&read.description);
-    Sample {
-        label: label.to_string(),
-        text,
-        values: read.values,
-        table: table.words,
-        rules: table.rules,
+impl Timed {
+    /// The call by the library, on memory that is there already: nothing is copied or looked at besides.
+    fn by_library(&self) -> impl FnMut() -> u64 {
+        let mut places = Library { exact: true }.places(&self.parts);
+        let function = self.function;
+        move || called(function, black_box(&mut places))
+    }
+
+    /// The same call by the oracle.
+    fn by_oracle(&self) -> impl FnMut() -> u64 {
+        let (function, mut parts) = (self.function, self.parts.clone());
+        move || Oracle.say(function, black_box(&mut parts))
+    }
+
+    /// Times the call by both sides, which must both say that the recipe passes or that the formulas hold; anything else is no
+    /// measure of the same work.
+    fn time(&self) -> Pair {
+        let (mut library, mut own) = (self.by_library(), self.by_oracle());
+        let wanted = match self.function {
+            Function::CheckCompletion => HOLDS,
+            _ => PASSES,
+        };
+        for said in [library(), own()] {
+            assert_eq!(Answer::from_number(said), Answer::new(wanted, 0), "{}", self.what);
+        }
+        pair(library, own)
     }
 }
 
-/// A call by the library, on memory that is there already: nothing is copied or looked at besides.
-fn by_library(function: Function, parts: &[Part]) -> impl FnMut() -> u64 {
-    let mut places = Library { exact: true }.places(parts);
-    move || black_box(called(function, black_box(&mut places)))
-}
-
-/// The same call by the oracle.
-fn by_oracle(function: Function, parts: &[Part]) -> impl FnMut() -> u64 {
-    let mut parts = parts.to_vec();
-    move || black_box(Oracle.say(function, black_box(&mut parts)))
-}
-
-/// Times a call by both sides, which must both say that the recipe passes or that the formulas hold; anything else is no measure
-/// of the same work.
-fn time_call(label: &str, function: Function, parts: &[Part]) -> Pair {
-    let (mut library, mut own) = (by_library(function, parts), by_oracle(function, parts));
-    let wanted = match function {
-        Function::CheckCompletion => HOLDS,
-        _ => PASSES,
-    };
-    for said in [library(), own()] {
-        assert_eq!(Answer::from_number(said), Answer::new(wanted, 0), "{label}");
-    }
-    pair(|| drop(library()), || drop(own()))
-}
-
-/// The engine alone, on a table that is there already.
-fn time_engine(label: &str, values: &[u8], table: &[u16]) -> Pair {
-    time_call(label, Function::CheckSet, &[Part::bytes(values), Part::words(table)])
-}
-
-/// The completion formulas on the same table, without levels.
-fn time_completion(label: &str, values: &[u8], table: &[u16]) -> Pair {
-    time_call(
-        label,
-        Function::CheckCompletion,
-        &[Part::bytes(values), Part::words(table)],
-    )
-}
-
-/// The library's completion formulas against its engine, on the same table by turns.
-fn print_beside_engine(values: &[u8], table: &[u16]) {
-    let parts = [Part::bytes(values), Part::words(table)];
-    let mut completion = by_library(Function::CheckCompletion, &parts);
-    let mut engine = by_library(Function::CheckSet, &parts);
-    let times = pair(|| drop(completion()), || drop(engine()));
-    println!(
-        "    library alone: completion {} by engine {}: ratio {:.2}",
-        readable(times.first),
-        readable(times.second),
-        times.ratio()
-    );
-}
-
-/// The history check from the description's text on: reading, translation and engine.
-fn time_history_check(sample: &Sample) -> Pair {
-    let parts = [
-        Part::bytes(&sample.text),
-        Part::bytes(&sample.values),
-        Part::words(vec![0; sample.table.len()]),
+/// The engine and the completion formulas on a table that is there already.
+fn on_table(values: &[u8], table: &[u16]) -> Vec<Timed> {
+    let calls = [
+        ("engine", Function::CheckSet),
+        ("completion", Function::CheckCompletion),
     ];
-    time_call(&sample.label, Function::CheckHistory, &parts)
+    let timed = |(what, function)| Timed {
+        what,
+        function,
+        parts: vec![Part::bytes(values), Part::words(table)],
+    };
+    calls.map(timed).into()
 }
 
-fn time_sample(sample: &Sample) {
+/// The same for a recipe's text, and the history check from the text on: reading, translation and engine.
+fn on_text(label: &str, text: &[u8]) -> Vec<Timed> {
+    let read = read_input(text).expect("samples are good texts");
+    let table = all_rules(&read.description);
+    let (atoms, rules, words) = (read.values.len(), table.rules, table.words.len());
     println!(
-        "{}: {} atoms, {} rules, {} words, {} bytes of text",
-        sample.label,
-        sample.values.len(),
-        sample.rules,
-        sample.table.len(),
-        sample.text.len()
+        "{label}: {atoms} atoms, {rules} rules, {words} words, {} bytes of text",
+        text.len()
     );
-    print_pair("engine", &time_engine(&sample.label, &sample.values, &sample.table));
-    print_pair(
-        "completion",
-        &time_completion(&sample.label, &sample.values, &sample.table),
-    );
-    print_beside_engine(&sample.values, &sample.table);
-    print_pair("history check", &time_history_check(sample));
+    let mut calls = on_table(&read.values, &table.words);
+    calls.push(Timed {
+        what: "history check",
+        function: Function::CheckHistory,
+        parts: vec![
+            Part::bytes(text),
+            Part::bytes(&read.values),
+            Part::words(vec![0; words]),
+        ],
+    });
+    calls
 }
 
-/// The same description with growing horizons; the growth is that against the first horizon.
+/// Times some calls, and the library's completion formulas against its engine; how they grew, where others came first.
+fn time_all(calls: &[Timed], first: Option<&Vec<Pair>>) -> Vec<Pair> {
+    let times: Vec<Pair> = calls.iter().map(Timed::time).collect();
+    for (place, (call, times)) in calls.iter().zip(&times).enumerate() {
+        print_pair(call.what, times);
+        if let Some(first) = first.map(|first| &first[place]) {
+            let (library, oracle) = (times.first / first.first, times.second / first.second);
+            println!("    grown: library {library:.1} times the first, oracle {oracle:.1} times");
+        }
+    }
+    let beside = pair(calls[1].by_library(), calls[0].by_library());
+    println!("    library alone: completion by engine: ratio {:.2}", beside.ratio());
+    times
+}
+
+/// The same description with growing horizons.
 fn time_growth() {
     println!("growth with the horizon (belt of 24 places, 1 action, 48 laws):");
-    let mut first: Option<[Pair; 3]> = None;
+    let mut first = None;
     for horizon in HORIZONS {
-        let sample = sample(&format!("belt, horizon {horizon}"), belt_recipe(horizon));
-        let engine = time_engine(&sample.label, &sample.values, &sample.table);
-        let completion = time_completion(&sample.label, &sample.values, &sample.table);
-        let check = time_history_check(&sample);
-        let [first_engine, first_completion, first_check] = *first.get_or_insert([engine, completion, check]);
-        println!(
-            "  horizon {horizon}: {} rules, {} words",
-            sample.rules,
-            sample.table.len()
-        );
-        print_growth("engine", &engine, &first_engine);
-        print_growth("completion", &completion, &first_completion);
-        print_growth("history check", &check, &first_check);
+        let calls = on_text(&format!("horizon {horizon}"), &belt_recipe(horizon));
+        let times = time_all(&calls, first.as_ref());
+        first.get_or_insert(times);
     }
 }
 
@@ -156,13 +127,11 @@ type Size = (usize, usize, usize);
 
 /// Hand-made tables: words doubled with the same atoms and rules, atoms doubled with the same words, and both doubled.
 /// Work that grows with words times literals shows in the last two.
+#[rustfmt::skip]
 const GROWING: [(&str, [Size; 4]); 3] = [
     ("words", [(256, 1, 1), (256, 1, 5), (256, 1, 13), (256, 1, 29)]),
     ("atoms", [(128, 32, 1), (256, 16, 1), (512, 8, 1), (1_024, 4, 1)]),
-    (
-        "words and atoms",
-        [(128, 4, 1), (256, 4, 1), (512, 4, 1), (1_024, 4, 1)],
-    ),
+    ("words and atoms", [(128, 4, 1), (256, 4, 1), (512, 4, 1), (1_024, 4, 1)]),
 ];
 
 /// Rules for the positive literal of each atom, whose negated parts are negative literals of the atoms behind it.
@@ -180,30 +149,14 @@ fn grown((atoms, rules, parts): Size) -> Vec<u16> {
 fn time_grown() {
     for (what, sizes) in GROWING {
         println!("growth with doubled {what} (hand-made tables):");
-        let mut first: Option<[Pair; 2]> = None;
+        let mut first = None;
         for size in sizes {
-            let (atoms, rules, _) = size;
-            let (values, table) = (vec![1; atoms], grown(size));
-            println!("  {atoms} atoms, {} rules, {} words", atoms * rules, table.len());
-            let engine = time_engine(what, &values, &table);
-            let completion = time_completion(what, &values, &table);
-            let [first_engine, first_completion] = *first.get_or_insert([engine, completion]);
-            print_growth("engine", &engine, &first_engine);
-            print_growth("completion", &completion, &first_completion);
-            print_beside_engine(&values, &table);
+            let table = grown(size);
+            println!("{} atoms, {} rules, {} words", size.0, size.0 * size.1, table.len());
+            let times = time_all(&on_table(&vec![1; size.0], &table), first.as_ref());
+            first.get_or_insert(times);
         }
     }
-}
-
-fn print_growth(what: &str, times: &Pair, first: &Pair) {
-    println!(
-        "    {what}: library {} ({:.1} times the first), oracle {} ({:.1} times the first), ratio {:.2}",
-        readable(times.first),
-        times.first / first.first,
-        readable(times.second),
-        times.second / first.second,
-        times.ratio()
-    );
 }
 
 /// The programs given as arguments, each with the recipe it was made from.
@@ -216,7 +169,7 @@ fn time_clingo() -> Result<(), String> {
             .split_once('=')
             .ok_or(format!("`{pair}` is not of the form PROGRAM=RECIPE"))?;
         match clingo::solve(program) {
-            Ok(taken) => print_against(&taken, recipe, &check)?,
+            Ok(taken) => print_against(&taken, recipe, &check).map_err(|reason| reason.to_string())?,
             Err(reason) if reason.kind() == io::ErrorKind::NotFound => {
                 println!("clingo is not installed; its files are left out");
                 return Ok(());
@@ -228,29 +181,27 @@ fn time_clingo() -> Result<(), String> {
 }
 
 /// One recipe: clingo's times beside the history check's and beside those of the program check, as whole processes.
-fn print_against(taken: &clingo::Taken, recipe: &str, check: &str) -> Result<(), String> {
-    let text = fs::read(recipe).map_err(|reason| reason.to_string())?;
-    let label = Path::new(recipe)
-        .file_stem()
-        .map_or(recipe.into(), |stem| stem.to_string_lossy());
-    let library = time_history_check(&sample(&label, text)).first / 1e9;
-    let process = clingo::whole_process(check, recipe).map_err(|reason| reason.to_string())?;
+fn print_against(taken: &clingo::Taken, recipe: &str, check: &str) -> io::Result<()> {
+    let calls = on_text(recipe, &fs::read(recipe)?);
+    let library = calls[2].time().first / 1e9;
+    let process = clingo::whole_process(check, recipe)?;
+    let clingo::Taken { own, solving, .. } = taken;
     println!(
-        "  {label}: clingo says {}, solving {:.4} s, own time {:.4} s, whole process {:.4} s",
-        taken.said, taken.solving, taken.own, taken.process
+        "  clingo says {}, solving {solving:.4} s, own time {own:.4} s",
+        taken.said
     );
-    if taken.solving > 0.0 {
-        println!("    history check by solving: ratio {:.4}", library / taken.solving);
+    if *solving > 0.0 {
+        println!("    history check by solving: ratio {:.4}", library / solving);
     }
+    let ratio = library / own;
     println!(
-        "    history check {} by clingo's own time: ratio {:.4}",
-        readable(library * 1e9),
-        library / taken.own
+        "    history check {} by clingo's own time: ratio {ratio:.4}",
+        readable(library * 1e9)
     );
+    let ratio = process / taken.process;
     println!(
-        "    whole process {:.4} s by clingo's: ratio {:.3}",
-        process,
-        process / taken.process
+        "    whole process {process:.4} s by clingo's {:.4} s: ratio {ratio:.3}",
+        taken.process
     );
     Ok(())
 }
@@ -258,10 +209,15 @@ fn print_against(taken: &clingo::Taken, recipe: &str, check: &str) -> Result<(),
 fn main() -> Result<(), String> {
     println!("Times of one call; ratio is library by oracle. Each side is warmed up, then both run by turns.");
     println!("Table buffers are lent to every call as the call before left them; they are not cleared in between.");
-    time_sample(&sample("full recipe", full_recipe()));
-    time_sample(&sample("largest table", largest_recipe()));
-    time_sample(&sample("inertia", inertia_recipe()));
-    time_sample(&sample("belt", belt_recipe(MAX_HORIZON)));
+    let samples = [
+        ("full recipe", full_recipe()),
+        ("largest table", largest_recipe()),
+        ("inertia", inertia_recipe()),
+        ("belt", belt_recipe(MAX_HORIZON)),
+    ];
+    for (label, text) in samples {
+        time_all(&on_text(label, &text), None);
+    }
     time_growth();
     time_grown();
     time_clingo()

@@ -1,5 +1,6 @@
 //! Two ways of doing the same work, timed in turn.
 
+use std::hint::black_box;
 use std::time::{Duration, Instant};
 
 /// How long each side runs before anything is measured.
@@ -79,18 +80,16 @@ pub fn by_turns(mut first: impl FnMut() -> f64, mut second: impl FnMut() -> f64)
 }
 
 /// Times two calls by turns.
-pub fn pair(first: impl FnMut(), second: impl FnMut()) -> Pair {
-    let first = timed(first);
-    by_turns(first, timed(second))
+pub fn pair<T>(mut first: impl FnMut() -> T, mut second: impl FnMut() -> T) -> Pair {
+    let first = timed(move || drop(black_box(first())));
+    by_turns(first, timed(move || drop(black_box(second()))))
 }
 
 /// Prints a library's time beside the oracle's.
 pub fn print_pair(what: &str, times: &Pair) {
+    let (library, oracle, ratio) = (readable(times.first), readable(times.second), times.ratio());
     println!(
-        "  {what}: library {}, oracle {}, ratio {:.2} (median of {} runs a side)",
-        readable(times.first),
-        readable(times.second),
-        times.ratio(),
+        "  {what}: library {library}, oracle {oracle}, ratio {ratio:.2} ({} runs a side)",
         times.runs
     );
 }
@@ -101,23 +100,5 @@ pub fn readable(nanoseconds: f64) -> String {
         small if small < 1e4 => format!("{small:.0} ns"),
         middle if middle < 1e7 => format!("{:.1} us", middle / 1e3),
         large => format!("{:.1} ms", large / 1e6),
-    }
-}
-
-#[cfg(test)]
-mod tests {
-    use super::*;
-
-    #[test]
-    fn the_median_is_the_middle_one() {
-        assert_eq!(median(&mut [3.0, 1.0, 2.0]), 2.0);
-        assert_eq!(median(&mut [5.0]), 5.0);
-    }
-
-    #[test]
-    fn times_are_readable() {
-        assert_eq!(readable(950.4), "950 ns");
-        assert_eq!(readable(12_340.0), "12.3 us");
-        assert_eq!(readable(12_340_000.0), "12.3 ms");
     }
 }
