@@ -2,7 +2,7 @@
 
 use crate::random::Random;
 use oracle::record::{Description, Head, Law};
-use oracle::{MAX_ACTIONS, MAX_FLUENTS, MAX_HORIZON, MAX_LAWS, MAX_LIST};
+use oracle::{MAX_ACTIONS, MAX_FLUENTS, MAX_HORIZON, MAX_LAWS, MAX_LIST, MAX_NAME};
 
 /// The most steps, fluents, actions and laws that a description may get.
 pub type Size = [usize; 4];
@@ -19,29 +19,31 @@ const SIZES: [(Size, usize); 4] = [
 /// How often a name is drawn before one is made up by counting.
 const TRIES: usize = 50;
 
+/// Names that are easy to mix up with keys, with the word false, or with one another.
+const ODD_NAMES: &str = "false_|fals|falsee|end|state|if|horizon|default|inertial|causes|by|nonexecutable|\
+                         a|aa|a_|a0|aaaaaaaaaaaaaaaa";
+
 /// A size for one description.
 pub fn size(random: &mut Random) -> Size {
     SIZES[random.weighted(&SIZES.map(|(_, weight)| weight))].0
 }
 
 /// A random description within a size.
-pub fn description(random: &mut Random, size: Size) -> Description {
-    let [horizon, fluents, actions, laws_limit] = size;
+pub fn description(random: &mut Random, [horizon, fluents, actions, laws]: Size) -> Description {
     let fluents = random.between(1, fluents);
     let actions = random.between(0, actions);
     let names = names(random, fluents + actions);
     let mut made = without_laws(random.between(1, horizon), names, fluents);
-    made.laws = laws(random, &made, laws_limit);
+    made.laws = random_laws(random, &made, laws);
     made
 }
 
 /// A description without laws, of which the first so many names are fluents and the others actions.
 pub fn without_laws(horizon: usize, mut names: Vec<Vec<u8>>, fluents: usize) -> Description {
-    let actions = names.split_off(fluents);
     Description {
         horizon,
+        actions: names.split_off(fluents),
         fluents: names,
-        actions,
         laws: vec![],
         length: 0,
         lines: 0,
@@ -51,10 +53,6 @@ pub fn without_laws(horizon: usize, mut names: Vec<Vec<u8>>, fluents: usize) -> 
 pub fn law(head: Head, ifs: Vec<u16>, after: Option<Vec<u16>>) -> Law {
     Law { head, ifs, after }
 }
-
-/// Names that are easy to mix up with keys, with the word false, or with one another.
-const ODD_NAMES: &str = "false_|fals|falsee|end|state|if|horizon|default|inertial|causes|by|nonexecutable|\
-                         a|aa|a_|a0|aaaaaaaaaaaaaaaa";
 
 /// One of the words that stand between bars.
 pub fn pick_word<'a>(random: &mut Random, words: &'a str) -> &'a [u8] {
@@ -77,7 +75,7 @@ fn name(random: &mut Random) -> Vec<u8> {
     if random.chance(1, 8) {
         return pick_word(random, ODD_NAMES).to_vec();
     }
-    let longest = if random.chance(1, 10) { 16 } else { 4 };
+    let longest = if random.chance(1, 10) { MAX_NAME } else { 4 };
     let length = random.between(1, longest);
     spelled(random, length)
 }
@@ -85,26 +83,24 @@ fn name(random: &mut Random) -> Vec<u8> {
 /// A random word of a given length that is spelled as a name.
 pub fn spelled(random: &mut Random, length: usize) -> Vec<u8> {
     let bytes = b"abcdefghijklmnopqrstuvwxyz0123456789_";
-    let byte = |place| *random.pick(if place == 0 { &bytes[..26] } else { bytes });
+    let byte = |place| bytes[random.below(if place == 0 { 26 } else { bytes.len() })];
     (0..length).map(byte).collect()
 }
 
-/// The laws of a description whose names are settled, in random order.
-fn laws(random: &mut Random, names: &Description, limit: usize) -> Vec<Law> {
+/// The laws of a description whose names are settled, mostly in random order.
+fn random_laws(random: &mut Random, names: &Description, limit: usize) -> Vec<Law> {
     let mut laws = Vec::new();
     if random.chance(1, 12) {
         return laws;
     }
     if random.chance(9, 10) {
-        explaining_laws(random, names, limit, &mut laws);
+        laws = explaining_laws(random, names, limit);
     }
     let more = random.below(limit - laws.len() + 1);
     let more = if random.chance(1, 2) { more.min(3) } else { more };
     for _ in 0..more {
-        laws.push(match random.chance(3, 5) {
-            true => effect(random, names),
-            false => any_law(random, names),
-        });
+        let draw = if random.chance(3, 5) { effect } else { any_law };
+        laws.push(draw(random, names));
     }
     if random.chance(3, 4) {
         random.shuffle(&mut laws);
@@ -113,7 +109,8 @@ fn laws(random: &mut Random, names: &Description, limit: usize) -> Vec<Law> {
 }
 
 /// Laws that let a fluent keep its value, or take any value, so that many steps have explained successors.
-fn explaining_laws(random: &mut Random, names: &Description, limit: usize, laws: &mut Vec<Law>) {
+fn explaining_laws(random: &mut Random, names: &Description, limit: usize) -> Vec<Law> {
+    let mut laws = Vec::new();
     for fluent in 0..names.fluents.len().min(limit / 2) {
         let way = random.below(60);
         for code in [2 * fluent as u16, 2 * fluent as u16 + 1] {
@@ -126,6 +123,7 @@ fn explaining_laws(random: &mut Random, names: &Description, limit: usize, laws:
             laws.push(law(Head::Literal(code), vec![code], after));
         }
     }
+    laws
 }
 
 /// False in so many of 40 cases, or a fluent literal.
@@ -138,36 +136,30 @@ fn head(random: &mut Random, names: &Description, false_of_forty: usize) -> Head
 
 /// An effect of an action, or of the state before; or a constraint now and then.
 pub fn effect(random: &mut Random, names: &Description) -> Law {
-    let fluents = 2 * names.fluents.len();
-    let all = 2 * names.stride();
+    let (fluents, all) = (2 * names.fluents.len(), 2 * names.stride());
     let head = head(random, names, 5);
-    let first = if all > fluents {
-        random.between(fluents, all - 1)
-    } else {
-        random.below(all)
-    };
+    let first = if all > fluents { fluents } else { 0 };
+    let mut after = vec![random.between(first, all - 1) as u16];
     let more = random.below(if head == Head::False { 5 } else { 3 });
-    let mut after = vec![first as u16];
-    after.extend((0..more).map(|_| random.below(all) as u16));
-    let ifs = if random.chance(1, 4) {
-        vec![random.below(fluents) as u16]
-    } else {
-        vec![]
-    };
-    law(head, ifs, Some(after))
+    after.extend(codes(random, more, all));
+    let has_if = random.chance(1, 4);
+    law(head, codes(random, usize::from(has_if), fluents), Some(after))
 }
 
 /// A law of any form the contract allows, repeated and contradictory literals included.
 pub fn any_law(random: &mut Random, names: &Description) -> Law {
     let head = head(random, names, 8);
-    let ifs = codes(random, 2 * names.fluents.len());
-    let after = random.chance(1, 2).then(|| codes(random, 2 * names.stride()));
-    law(head, ifs, after)
+    let mut list = |symbols: usize| {
+        let longest = if random.chance(1, 6) { MAX_LIST } else { 3 };
+        let length = random.between(0, longest);
+        (random.chance(1, 2), codes(random, length, 2 * symbols))
+    };
+    let (_, ifs) = list(names.fluents.len());
+    let (is_dynamic, after) = list(names.stride());
+    law(head, ifs, is_dynamic.then_some(after))
 }
 
-/// A list of literals whose codes lie below a limit, mostly a short one.
-fn codes(random: &mut Random, limit: usize) -> Vec<u16> {
-    let longest = if random.chance(1, 6) { MAX_LIST } else { 3 };
-    let length = random.between(0, longest);
+/// So many literals whose codes lie below a limit.
+pub fn codes(random: &mut Random, length: usize, limit: usize) -> Vec<u16> {
     (0..length).map(|_| random.below(limit) as u16).collect()
 }

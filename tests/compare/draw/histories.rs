@@ -8,26 +8,33 @@ const TRIES: usize = 6;
 /// How often a guess at a state is mended.
 const MENDS: usize = 8;
 
-fn holds(code: u16, truths: &[bool]) -> bool {
-    truths[usize::from(code / 2)] == code.is_multiple_of(2)
+fn all_hold(codes: &[u16], truths: &[bool]) -> bool {
+    let holds = |code: &u16| truths[usize::from(code / 2)] == code.is_multiple_of(2);
+    codes.iter().all(holds)
 }
 
-fn all_hold(codes: &[u16], truths: &[bool]) -> bool {
-    codes.iter().all(|code| holds(*code, truths))
+fn truths(random: &mut Random, count: usize) -> Vec<bool> {
+    (0..count).map(|_| random.chance(1, 2)).collect()
 }
 
 /// One value an atom: a history that the laws explain, where such a one is found.
 pub fn explained_values(random: &mut Random, description: &Description) -> Vec<u8> {
     let mut state = first_state(random, description);
-    let mut values = Vec::with_capacity(description.atoms());
-    let value = |truth: &bool| if *truth { 1 } else { 2 };
+    let mut history = Vec::with_capacity(description.atoms());
     for _ in 0..description.horizon {
-        let (before, next) = step(random, description, &state);
-        values.extend(before.iter().map(value));
+        let (mut before, mut next) = (vec![], vec![]);
+        for _ in 0..TRIES {
+            before = [state.clone(), truths(random, description.actions.len())].concat();
+            next = state.clone();
+            if mend(random, description, &before, &mut next) {
+                break;
+            }
+        }
+        history.extend(before);
         state = next;
     }
-    values.extend(state.iter().map(value));
-    values
+    let all = history.iter().chain(&state);
+    all.map(|truth| if *truth { 1 } else { 2 }).collect()
 }
 
 /// A random state, mended until it satisfies the static laws or no try is left.
@@ -35,7 +42,7 @@ pub fn first_state(random: &mut Random, description: &Description) -> Vec<bool> 
     let mut state = truths(random, description.fluents.len());
     for _ in 0..TRIES * MENDS {
         let broken = |law: &&Law| {
-            let head = matches!(law.head, Head::Literal(code) if holds(code, &state));
+            let head = matches!(law.head, Head::Literal(code) if all_hold(&[code], &state));
             law.after.is_none() && all_hold(&law.ifs, &state) && !head
         };
         match description.laws.iter().find(broken).map(|law| law.head) {
@@ -45,26 +52,6 @@ pub fn first_state(random: &mut Random, description: &Description) -> Vec<bool> 
         }
     }
     state
-}
-
-fn truths(random: &mut Random, count: usize) -> Vec<bool> {
-    (0..count).map(|_| random.chance(1, 2)).collect()
-}
-
-/// Draws actions and looks for a state they lead to. Answers with the old state and the actions in one, and the new
-/// state.
-fn step(random: &mut Random, description: &Description, state: &[bool]) -> (Vec<bool>, Vec<bool>) {
-    let mut before = state.to_vec();
-    let mut next = state.to_vec();
-    for _ in 0..TRIES {
-        before.truncate(state.len());
-        before.extend(truths(random, description.actions.len()));
-        next = state.to_vec();
-        if mend(random, description, &before, &mut next) {
-            break;
-        }
-    }
-    (before, next)
 }
 
 /// Changes a guess at the next state towards what the laws cause. True if the guess ends up explained.
@@ -110,11 +97,8 @@ pub fn spoil(random: &mut Random, description: &Description, values: &mut [u8]) 
     let times = if random.chance(3, 4) { 1 } else { random.between(2, 4) };
     for _ in 0..times {
         let index = random.below(values.len());
-        values[index] = match random.below(8) {
-            0 => 0,
-            1 => 3,
-            _ => 3 - values[index].min(3),
-        };
+        let other = 3 - values[index];
+        values[index] = *random.pick(&[0, 3, other, other, other, other, other, other]);
     }
     let actions: Vec<usize> = (0..values.len()).filter(|atom| description.is_action(*atom)).collect();
     if !actions.is_empty() && random.chance(1, 12) {
@@ -122,8 +106,7 @@ pub fn spoil(random: &mut Random, description: &Description, values: &mut [u8]) 
     }
 }
 
-/// Spoils a history by several bad atoms: fluents without a value, and fluents or actions with both. A text has no way to
-/// leave an action without a value.
+/// Spoils a history by several bad atoms. A text has no way to leave an action without a value.
 pub fn spoil_badly(random: &mut Random, description: &Description, values: &mut [u8]) {
     put_faults(random, values, |atom| !description.is_action(atom));
 }
@@ -138,14 +121,9 @@ pub fn put_faults(random: &mut Random, values: &mut [u8], may_lack: impl Fn(usiz
         1 => lacking[lacking.len() - 1],
         _ => *random.pick(&lacking),
     };
-    let both = match random.below(8) {
-        0 | 1 => none.saturating_sub(1),
-        2 | 3 => (none + 1).min(last),
-        4 => 0,
-        5 => last,
-        _ => random.below(values.len()),
-    };
-    // More of either kind, anywhere.
+    let anywhere = random.below(values.len());
+    let (below, above) = (none.saturating_sub(1), last.min(none + 1));
+    let both = *random.pick(&[below, below, above, above, 0, last, anywhere, anywhere]);
     for _ in 0..random.weighted(&[4, 2, 1, 1]) {
         let atom = random.below(values.len());
         values[atom] = if may_lack(atom) { *random.pick(&[0, 3]) } else { 3 };

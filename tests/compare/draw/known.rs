@@ -1,5 +1,4 @@
-//! Recipes that do not change: the contract's full recipe, the largest one, one of any horizon, and one in which nothing
-//! happens. All of them pass.
+//! Recipes that pass and do not change: the contract's full recipe, the largest one, one of any horizon, and inertia alone.
 
 use super::descriptions::{law, without_laws};
 use super::render::{description_text, history_text};
@@ -16,10 +15,21 @@ pub fn full_recipe() -> Vec<u8> {
     lines.replace(' ', "\n").into_bytes()
 }
 
-/// The names f00, f01 and so on of all fluents, and so many actions' names.
-fn names(actions: usize) -> Vec<Vec<u8>> {
-    let numbered = |letter, count| (0..count).map(move |index| format!("{letter}{index:02}").into_bytes());
-    numbered('f', MAX_FLUENTS).chain(numbered('a', actions)).collect()
+/// A description of all fluents, some actions and so many laws, each given by its number.
+fn described(horizon: usize, actions: &[&str], laws: usize, law: impl Fn(usize) -> Law) -> Description {
+    let fluents = (0..MAX_FLUENTS).map(|number| format!("f{number:02}"));
+    let names = fluents.chain(actions.iter().map(|name| name.to_string()));
+    let mut made = without_laws(horizon, names.map(String::into_bytes).collect(), MAX_FLUENTS);
+    made.laws = (0..laws).map(law).collect();
+    made
+}
+
+/// The text of a description with a history in which some atoms are true and the others false.
+fn written(description: &Description, is_true: impl Fn(usize) -> bool) -> Vec<u8> {
+    let values: Vec<u8> = (0..description.atoms())
+        .map(|atom| if is_true(atom) { 1 } else { 2 })
+        .collect();
+    [description_text(description), history_text(description, &values)].concat()
 }
 
 /// The largest description: most fluents, actions, laws and steps, and every list full.
@@ -29,7 +39,8 @@ fn names(actions: usize) -> Vec<Vec<u8>> {
 /// Law j makes fluent j true after the five fluents behind it and an action, so a derivation reaches a time only when
 /// the whole time before it is derived.
 pub fn largest_description() -> Description {
-    let full_law = |number: usize| {
+    let actions = ["a00", "a01", "a02", "a03", "a04", "a05", "a06", "a07"];
+    described(MAX_HORIZON, &actions, MAX_LAWS, |number| {
         let fluent = |step: usize| 2 * ((number + step) % MAX_FLUENTS) as u16;
         let action = 2 * (MAX_FLUENTS + number % MAX_ACTIONS) as u16;
         let after = (1..MAX_LIST).map(fluent).chain([action]).collect();
@@ -38,50 +49,32 @@ pub fn largest_description() -> Description {
             (0..MAX_LIST).map(fluent).collect(),
             Some(after),
         )
-    };
-    let mut made = without_laws(MAX_HORIZON, names(MAX_ACTIONS), MAX_FLUENTS);
-    made.laws = (0..MAX_LAWS).map(full_law).collect();
-    made
+    })
 }
 
 /// The largest description, with everything true and all actions at each step.
 pub fn largest_recipe() -> Vec<u8> {
-    let description = largest_description();
-    let values = vec![1; description.atoms()];
-    whole_text(&description, &values)
+    written(&largest_description(), |_| true)
 }
 
 /// A belt of 24 places, each of which takes over at every step what lay on the next one; what is put on the last
 /// place is the action's choice. 48 dynamic laws, for any horizon.
 pub fn belt_recipe(horizon: usize) -> Vec<u8> {
-    // Behind the last fluent comes the action, whose code is the next one.
-    let moving = |code: u16| law(Head::Literal(code), vec![], Some(vec![code + 2]));
-    let mut description = without_laws(horizon, names(0), MAX_FLUENTS);
-    description.actions.push(b"load".to_vec());
-    description.laws = two_a_fluent(moving);
+    let made = described(horizon, &["load"], 2 * MAX_FLUENTS, |number| {
+        let code = number as u16;
+        // Behind the last fluent comes the action, whose code is the next one.
+        law(Head::Literal(code), vec![], Some(vec![code + 2]))
+    });
     // What lies on a place at a time was loaded so many steps ago; the pattern goes on before the first step.
     let loaded = |moment: usize| moment.is_multiple_of(3) || moment % 7 == 2;
-    let stride = description.stride();
-    let value = |atom: usize| if loaded(atom / stride + atom % stride) { 1 } else { 2 };
-    let values: Vec<u8> = (0..description.atoms()).map(value).collect();
-    whole_text(&description, &values)
+    written(&made, |atom| loaded(atom / made.stride() + atom % made.stride()))
 }
 
 /// Inertia alone: 24 fluents that stay as they are, every third of them true, over the most steps. There are no actions.
 pub fn inertia_recipe() -> Vec<u8> {
-    let keeping = |code: u16| law(Head::Literal(code), vec![code], Some(vec![code]));
-    let mut description = without_laws(MAX_HORIZON, names(0), MAX_FLUENTS);
-    description.laws = two_a_fluent(keeping);
-    let value = |atom: usize| if (atom % MAX_FLUENTS).is_multiple_of(3) { 1 } else { 2 };
-    let values: Vec<u8> = (0..description.atoms()).map(value).collect();
-    whole_text(&description, &values)
-}
-
-/// A law for each literal of each fluent.
-fn two_a_fluent(law: impl Fn(u16) -> Law) -> Vec<Law> {
-    (0..2 * MAX_FLUENTS as u16).map(law).collect()
-}
-
-fn whole_text(description: &Description, values: &[u8]) -> Vec<u8> {
-    [description_text(description), history_text(description, values)].concat()
+    let made = described(MAX_HORIZON, &[], 2 * MAX_FLUENTS, |number| {
+        let code = number as u16;
+        law(Head::Literal(code), vec![code], Some(vec![code]))
+    });
+    written(&made, |atom| (atom % MAX_FLUENTS).is_multiple_of(3))
 }

@@ -1,7 +1,8 @@
 //! Capitals brought into a text: names declared in some mix of capitals and spelled anew use by use, and the damage that
 //! goes with them.
 
-use super::damage::{edit_lines, keys_from, parts, pick_line, places, split, KEYS};
+use super::damage::{edit_lines, keys_from, near_key, parts, pick_line, places, split, KEYS};
+use super::descriptions::pick_word;
 use super::render::line;
 use crate::random::Random;
 
@@ -16,7 +17,7 @@ pub enum Lines {
 }
 
 impl Lines {
-    pub fn keys(self) -> &'static [&'static [u8]] {
+    fn keys(self) -> &'static [&'static [u8]] {
         match self {
             Lines::Declaring => &keys_from(b"fluent")[..2],
             Lines::Using => keys_from(b"state"),
@@ -24,23 +25,18 @@ impl Lines {
     }
 }
 
-/// A text with capitals, or now and then as it is; in some texts they bring a fault.
-pub fn with_capitals(random: &mut Random, text: Vec<u8>) -> Vec<u8> {
+/// Brings capitals into most texts; in some they bring a fault.
+pub fn put_capitals(random: &mut Random, text: &mut Vec<u8>) {
     if random.chance(3, 10) {
-        return text;
+        return;
     }
     let declared = if random.chance(3, 4) { 4 } else { 0 };
     let used = *random.pick(&[0, 1, 3, 4, 4]);
-    let text = respelled(random, &text, Lines::Declaring, declared);
-    let mut text = respelled(random, &text, Lines::Using, used);
-    match random.below(25) {
-        0 => edit_lines(&mut text, |lines| declare_again(random, lines)),
-        1 => edit_lines(&mut text, |lines| raise_key(random, lines)),
-        2 => edit_lines(&mut text, |lines| change_byte(random, lines)),
-        3 => edit_lines(&mut text, |lines| put_false(random, lines)),
-        _ => (),
+    *text = respelled(random, text, Lines::Declaring, declared);
+    *text = respelled(random, text, Lines::Using, used);
+    if random.chance(4, 25) {
+        edit_lines(text, |lines| put_fault(random, lines));
     }
-    text
 }
 
 /// The text with names spelled anew in lines of one sort, each name in so many of four cases.
@@ -49,10 +45,10 @@ pub fn respelled(random: &mut Random, text: &[u8], lines: Lines, of_four: usize)
     for line in &mut changed {
         let (key, value) = parts(line);
         if lines.keys().contains(&key) && !value.is_empty() {
-            let start = key.len() + 1;
-            for item in line[start..].split_mut(|byte| *byte == b',') {
+            let start = line.len() - value.len();
+            for name in line[start..].split_mut(|byte| *byte == b',') {
                 if random.chance(of_four, 4) {
-                    spell(random, item);
+                    spell(random, name);
                 }
             }
         }
@@ -60,14 +56,9 @@ pub fn respelled(random: &mut Random, text: &[u8], lines: Lines, of_four: usize)
     changed.join(&b'\n')
 }
 
-/// The places of a word's letters.
-fn letters(word: &[u8]) -> Vec<usize> {
-    (0..word.len()).filter(|at| word[*at].is_ascii_alphabetic()).collect()
-}
-
 /// Gives the letters of a word capitals in some way: none, the first, all, one other than before, or any.
 fn spell(random: &mut Random, word: &mut [u8]) {
-    let letters = letters(word);
+    let letters: Vec<usize> = (0..word.len()).filter(|at| word[*at].is_ascii_alphabetic()).collect();
     let Some(first) = letters.first() else { return };
     match random.below(6) {
         0 => word.make_ascii_lowercase(),
@@ -81,9 +72,30 @@ fn spell(random: &mut Random, word: &mut [u8]) {
     }
 }
 
-/// A name is declared again, as a fluent or an action, with the case of some letter turned round.
-fn declare_again(random: &mut Random, lines: &mut Vec<Vec<u8>>) {
-    let first = pick_line(random, lines, Lines::Declaring.keys());
+/// A name is declared again, a key gets capitals, a byte of a name gives way to one near it, or the word false, in capitals
+/// and with a hyphen now and then, stands for a name or a literal.
+fn put_fault(random: &mut Random, lines: &mut Vec<Vec<u8>>) {
+    let sort = *random.pick(&[Lines::Declaring, Lines::Using]);
+    let fault = random.below(4);
+    let keys = [Lines::Declaring.keys(), KEYS, sort.keys(), keys_from(b"fluent")][fault];
+    let at = pick_line(random, lines, keys);
+    let (key, value) = parts(&lines[at]);
+    let mut items = split(value, b',');
+    let place = random.below(items.len());
+    match fault {
+        0 => return declare_again(random, lines, at),
+        1 => return lines[at] = line(near_key(random, key), value),
+        2 => change_byte(random, &mut items[place]),
+        _ => {
+            items[place] = pick_word(random, "false|false|false|-false").to_vec();
+            spell(random, &mut items[place]);
+        }
+    }
+    lines[at] = line(key, &items.join(&b','));
+}
+
+/// A name is declared again, as a fluent or an action, with the case of some letters turned round.
+fn declare_again(random: &mut Random, lines: &mut Vec<Vec<u8>>, first: usize) {
     let mut later = places(lines, Lines::Declaring.keys());
     later.retain(|at| *at >= first);
     let Some(&last) = later.last() else { return };
@@ -93,63 +105,27 @@ fn declare_again(random: &mut Random, lines: &mut Vec<Vec<u8>>) {
         *random.pick(&later)
     };
     let mut name = parts(&lines[first]).1.to_vec();
-    let letters = letters(&name);
-    if !letters.is_empty() {
-        name[*random.pick(&letters)] ^= 32;
-    }
+    spell(random, &mut name);
     // An action may follow a fluent, but not the other way round.
-    let is_action = random.chance(1, 3) && at == last;
+    let is_action = at == last && random.chance(1, 3);
     let key = if is_action { b"action" } else { parts(&lines[at]).0 };
     lines.insert(at + 1, line(key, &name));
 }
 
-/// A key gets a capital: its first letter, its last one, any, or all of them.
-fn raise_key(random: &mut Random, lines: &mut [Vec<u8>]) {
-    let at = pick_line(random, lines, KEYS);
-    let length = parts(&lines[at]).0.len();
-    if length == 0 {
-        return;
-    }
-    let key = &mut lines[at][..length];
-    match random.below(4) {
-        0 => key[0].make_ascii_uppercase(),
-        1 => key[length - 1].make_ascii_uppercase(),
-        2 => key[random.below(length)].make_ascii_uppercase(),
-        _ => key.make_ascii_uppercase(),
-    }
-}
-
 /// A byte of a name is changed by 32, often one that is no letter, or gives way to one that looks like a letter to a
 /// careless reader.
-fn change_byte(random: &mut Random, lines: &mut [Vec<u8>]) {
-    let sort = *random.pick(&[Lines::Declaring, Lines::Using]);
-    let at = pick_line(random, lines, sort.keys());
-    let (key, value) = parts(&lines[at]);
-    let mut value = value.to_vec();
-    if value.is_empty() {
-        return;
+fn change_byte(random: &mut Random, name: &mut [u8]) {
+    let is_other = |at: &usize| name[*at].is_ascii_digit() || name[*at] == b'_';
+    let mut places: Vec<usize> = (0..name.len()).filter(is_other).collect();
+    if places.is_empty() || random.chance(1, 4) {
+        places = (0..name.len()).collect();
     }
-    let is_other = |at: &usize| value[*at].is_ascii_digit() || value[*at] == b'_';
-    let others: Vec<usize> = (0..value.len()).filter(is_other).collect();
-    let place = match others.is_empty() || random.chance(1, 4) {
-        true => random.below(value.len()),
-        false => *random.pick(&others),
-    };
-    match random.chance(2, 3) {
-        true => value[place] ^= 32,
-        false => value[place] = *random.pick(NEAR_BYTES),
+    if !places.is_empty() {
+        let byte = &mut name[*random.pick(&places)];
+        *byte = if random.chance(2, 3) {
+            *byte ^ 32
+        } else {
+            *random.pick(NEAR_BYTES)
+        };
     }
-    lines[at] = line(key, &value);
-}
-
-/// The word false in some capitals, with a hyphen now and then, stands for a name or a literal.
-fn put_false(random: &mut Random, lines: &mut [Vec<u8>]) {
-    let at = pick_line(random, lines, keys_from(b"fluent"));
-    let (key, value) = parts(&lines[at]);
-    let mut word = random.pick(&["false", "false", "false", "-false"]).as_bytes().to_vec();
-    spell(random, &mut word);
-    let mut items = split(value, b',');
-    let place = random.below(items.len());
-    items[place] = word;
-    lines[at] = line(key, &items.join(&b','));
 }

@@ -1,12 +1,10 @@
 //! Texts at the contract's limits and one past them.
 
-use super::damage::{keys_from, parts, split};
-use super::descriptions::{any_law, description, effect, law, names, pick_word, spelled, Size};
+use super::damage::{keys_from, law_value, parts, split};
+use super::descriptions::{any_law, codes, description, effect, law, names, pick_word, spelled, without_laws, Size};
 use super::histories::{explained_values, repeat_literals};
 use super::known::largest_description;
-use super::render::{
-    description_lines, history_lines, join, line, list_line, log_lines, log_lists, mixed_law, mixed_lines,
-};
+use super::render::{description_lines, history_lines, join, line, log_lines, log_lists, mixed_law, mixed_lines};
 use crate::random::Random;
 use oracle::record::{Description, Head, Law};
 use oracle::{MAX_ACTIONS, MAX_FLUENTS, MAX_HORIZON, MAX_LAWS, MAX_LIST, MAX_NAME, MAX_TEXT};
@@ -18,83 +16,57 @@ const CHEAP: Size = [2, 3, 2, 4];
 pub const HORIZONS: &str = "|0|00|01|030|1|2|9|10|29|30|31|32|40|99|100|257|65537|4294967297|18446744073709551617|\
                             +1|-1| 1|1 |1a|a|:|1/";
 
-/// One text at a limit.
+/// One text at a limit, with a history that fits if the description is taken.
 pub fn text(random: &mut Random) -> Vec<u8> {
-    let made = description(random, CHEAP);
-    match random.below(10) {
-        0 => many_fluents(random, made),
-        1 => many_actions(random, made),
-        2 | 3 => many_laws(random, made),
-        4..=6 => long_list(random, made),
-        7 => long_name(random, made),
-        8 => any_horizon(random, made),
-        _ => long_history_lists(random, &made),
+    let mut made = description(random, CHEAP);
+    let limit = random.below(10);
+    let mut lines = match limit {
+        0 | 1 => many_names(random, &mut made, limit == 0),
+        2 | 3 => many_laws(random, &mut made),
+        4..=6 => long_list(random, &mut made),
+        7 => long_name(random, &mut made),
+        8 => any_horizon(random, &mut made),
+        _ => mixed_lines(random, &made),
+    };
+    let values = explained_values(random, &made);
+    let mut lists = log_lists(random, &made, &values);
+    if limit == 9 {
+        // More literals than any law's list may hold.
+        for list in &mut lists {
+            let more = random.below(20);
+            repeat_literals(random, list, more);
+        }
     }
-}
-
-/// A description's lines with some history behind it, which fits if the description is taken. The laws followed by the
-/// history are those of the description given here, which may be fewer than the lines hold.
-fn with_history(random: &mut Random, description: &Description, mut lines: Vec<Vec<u8>>) -> Vec<u8> {
-    let values = explained_values(random, description);
-    lines.extend(log_lines(random, description, &values));
+    lines.extend(history_lines(&made, &lists));
     join(&lines)
 }
 
-/// A description with its lines, written in any way, and some history.
-fn written(random: &mut Random, description: &Description) -> Vec<u8> {
-    let lines = mixed_lines(random, description);
-    with_history(random, description, lines)
-}
-
-/// A name declared in a place where its count may be too high: good, taken, or no name at all.
-fn last_name(random: &mut Random, known: &[Vec<u8>]) -> Vec<u8> {
-    match random.below(4) {
-        0 => random.pick(known).clone(),
-        1 => b"false".to_vec(),
-        2 => b"-x".to_vec(),
-        _ => {
-            let mut others = names(random, 64).into_iter();
-            let fresh = others.find(|name| !known.contains(name));
-            fresh.expect("64 names are more than are known")
-        }
+/// One name too few, as many as may be, or one too many; that one may be good, taken, or no name at all.
+fn many_names(random: &mut Random, made: &mut Description, of_fluents: bool) -> Vec<Vec<u8>> {
+    let (before, most) = if of_fluents { (0, MAX_FLUENTS) } else { (2, MAX_ACTIONS) };
+    let count = before + random.between(most - 1, most + 1);
+    let mut all = names(random, count);
+    if count > before + most {
+        let taken = random.pick(&all[..count - 1]).clone();
+        let last = [all[count - 1].clone(), taken, b"false".to_vec(), b"-x".to_vec()];
+        all[count - 1] = random.pick(&last).clone();
     }
-}
-
-fn many_fluents(random: &mut Random, mut made: Description) -> Vec<u8> {
-    let count = random.between(MAX_FLUENTS - 1, MAX_FLUENTS + 1);
-    made.actions.clear();
-    made.fluents = names(random, count.min(MAX_FLUENTS));
-    made.laws = (0..2).map(|_| any_law(random, &made)).collect();
-    if count > MAX_FLUENTS {
-        let last = last_name(random, &made.fluents);
-        made.fluents.push(last);
-    }
-    written(random, &made)
-}
-
-fn many_actions(random: &mut Random, mut made: Description) -> Vec<u8> {
-    let count = random.between(MAX_ACTIONS - 1, MAX_ACTIONS + 1);
-    let mut all = names(random, 2 + count.min(MAX_ACTIONS));
-    if count > MAX_ACTIONS {
-        all.push(last_name(random, &all));
-    }
-    made.actions = all.split_off(2);
-    made.fluents = all;
-    made.laws = (0..2).map(|_| any_law(random, &made)).collect();
-    written(random, &made)
+    *made = without_laws(made.horizon, all, if of_fluents { count } else { before });
+    made.laws = (0..2).map(|_| any_law(random, made)).collect();
+    mixed_lines(random, made)
 }
 
 /// 63 to 65 laws, written short or long; the last one may be none.
-fn many_laws(random: &mut Random, mut made: Description) -> Vec<u8> {
+fn many_laws(random: &mut Random, made: &mut Description) -> Vec<Vec<u8>> {
     let count = random.between(MAX_LAWS - 1, MAX_LAWS + 1);
     for _ in made.laws.len()..count - 1 {
-        let law = filling_law(random, &made);
+        let law = filling_law(random, made);
         made.laws.push(law);
     }
-    let mut lines = mixed_lines(random, &made);
-    let behind = lines.len() - 1;
-    lines.splice(behind..behind, last_law(random, &made));
-    with_history(random, &made, lines)
+    let mut lines = mixed_lines(random, made);
+    let end = lines.pop();
+    let last = last_law(random, made, &lines);
+    lines.into_iter().chain(last).chain(end).collect()
 }
 
 /// A law that always holds, an effect, or any law.
@@ -107,64 +79,50 @@ fn filling_law(random: &mut Random, made: &Description) -> Law {
 }
 
 /// The lines of a law that may be one too many: a good law, or a first line that another refusal may be for.
-fn last_law(random: &mut Random, made: &Description) -> Vec<Vec<u8>> {
+fn last_law(random: &mut Random, made: &Description, lines: &[Vec<u8>]) -> Vec<Vec<u8>> {
     if random.chance(1, 4) {
         let law = filling_law(random, made);
         return mixed_law(random, made, &law, 3);
     }
     let key = *random.pick(keys_from(b"static"));
-    let length = random.between(1, MAX_LIST + 2);
-    let first = match random.below(9) {
-        0 => line(key, b""),
-        1 => line(key, b"false"),
-        2 => line(key, b"--"),
-        3 => list_line(made, key, &[2 * made.fluents.len() as u16]),
-        4 => list_line(made, key, &vec![1; length]),
-        5 => list_line(made, key, &[99]),
-        _ => list_line(made, key, &[1]),
-    };
+    let first = line(key, &law_value(random, lines));
     match key {
         b"causes" => vec![first, line("by", b"")],
         _ => vec![first],
     }
 }
 
-/// A law's list of five to seven items, where some item may be no literal, or of the wrong sort.
-fn long_list(random: &mut Random, mut made: Description) -> Vec<u8> {
+/// A law's list of five to seven items, where some item may be no literal, or of the wrong sort. An after-list often stands
+/// alone, as in short laws. The history follows the other laws only.
+fn long_list(random: &mut Random, made: &mut Description) -> Vec<Vec<u8>> {
+    let (fluents, all) = (2 * made.fluents.len(), 2 * made.stride());
     let length = random.between(MAX_LIST - 1, MAX_LIST + 1);
     let is_after = random.chance(3, 5);
-    let symbols = if is_after { made.stride() } else { made.fluents.len() };
-    let mut codes: Vec<u16> = (0..length).map(|_| random.below(2 * symbols) as u16).collect();
+    let mut list = codes(random, length, if is_after { all } else { fluents });
     if random.chance(1, 3) {
-        let index = random.below(length);
-        codes[index] = random.between(2 * made.fluents.len(), 2 * made.stride() + 1) as u16;
-    }
-    let law = long_list_law(random, codes, is_after);
-    made.laws.truncate(2);
-    made.laws.push(law);
-    let mut lines = mixed_lines(random, &made);
-    if random.chance(1, 4) {
-        // An empty item behind a last comma.
-        let index = lines.len() - 2;
-        lines[index].push(b',');
-    }
-    made.laws.pop();
-    with_history(random, &made, lines)
-}
-
-/// A law with the given codes as its after-list or its if-list. An after-list often stands alone, as in short laws.
-fn long_list_law(random: &mut Random, codes: Vec<u16>, is_after: bool) -> Law {
-    if !is_after {
-        return law(Head::False, codes, random.chance(1, 2).then(Vec::new));
+        list[random.below(length)] = random.between(fluents, all + 1) as u16;
     }
     let head = *random.pick(&[Head::Literal(0), Head::False]);
-    let ifs = if random.chance(2, 3) { vec![] } else { vec![0] };
-    law(head, ifs, Some(codes))
+    let other = if random.chance(2, 3) { vec![] } else { vec![0] };
+    let is_static = random.chance(1, 2);
+    made.laws.truncate(2);
+    made.laws.push(match is_after {
+        true => law(head, other, Some(list)),
+        false => law(Head::False, list, (!is_static).then(Vec::new)),
+    });
+    let mut lines = mixed_lines(random, made);
+    made.laws.pop();
+    if random.chance(1, 4) {
+        // An empty item behind a last comma.
+        let last = lines.len() - 2;
+        lines[last].push(b',');
+    }
+    lines
 }
 
-fn long_name(random: &mut Random, mut made: Description) -> Vec<u8> {
+fn long_name(random: &mut Random, made: &mut Description) -> Vec<Vec<u8>> {
     let length = random.between(MAX_NAME - 1, MAX_NAME + 2);
-    let is_fluent = random.chance(1, 2) || made.actions.is_empty();
+    let is_fluent = made.actions.is_empty() || random.chance(1, 2);
     let names = if is_fluent {
         &mut made.fluents
     } else {
@@ -172,33 +130,20 @@ fn long_name(random: &mut Random, mut made: Description) -> Vec<u8> {
     };
     let index = random.below(names.len());
     names[index] = spelled(random, length);
-    written(random, &made)
+    mixed_lines(random, made)
 }
 
-fn any_horizon(random: &mut Random, mut made: Description) -> Vec<u8> {
+fn any_horizon(random: &mut Random, made: &mut Description) -> Vec<Vec<u8>> {
     let spelled = pick_word(random, HORIZONS);
-    let number: Option<usize> = std::str::from_utf8(spelled).ok().and_then(|digits| digits.parse().ok());
+    let number = String::from_utf8_lossy(spelled).parse().ok();
     made.horizon = number.filter(|horizon| *horizon <= MAX_HORIZON + 1).unwrap_or(1);
-    let mut lines = mixed_lines(random, &made);
-    lines[0] = line("horizon", spelled);
-    with_history(random, &made, lines)
-}
-
-/// A history whose lists hold more literals than any law's list may.
-fn long_history_lists(random: &mut Random, made: &Description) -> Vec<u8> {
-    let values = explained_values(random, made);
-    let mut lists = log_lists(random, made, &values);
-    for list in &mut lists {
-        let more = random.below(20);
-        repeat_literals(random, list, more);
-    }
     let mut lines = mixed_lines(random, made);
-    lines.extend(history_lines(made, &lists));
-    join(&lines)
+    lines[0] = line("horizon", spelled);
+    lines
 }
 
-/// A text of 65,534 to 65,537 bytes, or far more; or one whose history alone, or whose description with bytes behind the
-/// history that nothing should look at, is as long.
+/// A text of 65,534 to 65,537 bytes, or far more; or one whose history alone is as long; or one that is as long by bytes
+/// behind the history, which nothing should look at.
 pub fn long_text(random: &mut Random) -> Vec<u8> {
     let made = description(random, CHEAP);
     let mut text = join(&mixed_lines(random, &made));
@@ -207,15 +152,14 @@ pub fn long_text(random: &mut Random) -> Vec<u8> {
         0 | 1 => text.extend(history_of(random, &made, wanted - text.len())),
         2 => text.extend(history_of(random, &made, wanted)),
         _ => {
-            let values = explained_values(random, &made);
-            text.extend(join(&log_lines(random, &made, &values)));
+            text.extend(history_of(random, &made, 0));
             text.resize(wanted, b'x');
         }
     }
     text
 }
 
-/// A history of so many bytes: the first literal of its first state is repeated; what is too short for one more
+/// A history of so many bytes at least: the first literal of its first state is repeated; what is too short for one more
 /// literal stands behind the end line.
 fn history_of(random: &mut Random, description: &Description, wanted: usize) -> Vec<u8> {
     let values = explained_values(random, description);
@@ -223,9 +167,7 @@ fn history_of(random: &mut Random, description: &Description, wanted: usize) -> 
     let again = [b",", &split(parts(&lines[0]).1, b',')[0][..]].concat();
     let missing = wanted.saturating_sub(join(&lines).len());
     lines[0].extend(again.repeat(missing / again.len()));
-    let mut text = join(&lines);
-    text.resize(text.len() + missing % again.len(), b'\n');
-    text
+    [join(&lines), vec![b'\n'; missing % again.len()]].concat()
 }
 
 /// The largest description, or one law short of it, with a history in which everything is done and that passes, or in
@@ -233,15 +175,12 @@ fn history_of(random: &mut Random, description: &Description, wanted: usize) -> 
 pub fn largest_text(random: &mut Random) -> Vec<u8> {
     let mut made = largest_description();
     made.horizon = random.between(MAX_HORIZON - 2, MAX_HORIZON);
-    if random.chance(1, 2) {
-        made.laws.pop();
-    }
+    made.laws.truncate(MAX_LAWS - random.below(2));
     let of_actions = *random.pick(&[1, 1, 2]);
     let value = |atom: usize| if made.is_action(atom) { of_actions } else { 1 };
     let mut values: Vec<u8> = (0..made.atoms()).map(value).collect();
     if random.chance(1, 2) {
-        let index = random.below(values.len());
-        values[index] = random.below(4) as u8;
+        values[random.below(made.atoms())] = random.below(4) as u8;
     }
     let mut lines = description_lines(&made);
     lines.extend(log_lines(random, &made, &values));

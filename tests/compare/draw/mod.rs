@@ -1,11 +1,13 @@
 //! Lists of calls, drawn at random.
 
+pub mod causes;
 pub mod damage;
 pub mod descriptions;
 pub mod histories;
 pub mod known;
 pub mod letters;
 pub mod limits;
+pub mod recipes;
 pub mod render;
 pub mod texts;
 
@@ -24,7 +26,8 @@ pub struct List {
 }
 
 /// What draws lists, and how often each is asked.
-const DRAWN: [(fn(&mut Random) -> List, usize); 2] = [(texts::list, 100), (texts::respelled_list, 50)];
+const DRAWN: [(fn(&mut Random) -> List, usize); 3] =
+    [(texts::list, 100), (texts::respelled_list, 50), (recipes::list, 5)];
 
 /// One list of any kind.
 pub fn list(random: &mut Random) -> List {

@@ -11,11 +11,9 @@ pub fn line(key: impl AsRef<[u8]>, value: &[u8]) -> Vec<u8> {
 /// A literal of a fluent or an action. A code past all names shows a name nothing declares.
 fn literal_text(description: &Description, code: u16) -> Vec<u8> {
     let mut names = description.fluents.iter().chain(&description.actions);
-    let name = names
-        .nth(usize::from(code / 2))
-        .map_or(&b"undeclared"[..], Vec::as_slice);
+    let name = names.nth(usize::from(code / 2));
     let sign: &[u8] = if code % 2 == 1 { b"-" } else { b"" };
-    [sign, name].concat()
+    [sign, name.map_or(b"undeclared", Vec::as_slice)].concat()
 }
 
 /// A line with a list.
@@ -26,7 +24,7 @@ pub fn list_line(description: &Description, key: impl AsRef<[u8]>, codes: &[u16]
 
 /// The lines of a description, without their ending bytes. Every law is written out in full.
 pub fn description_lines(description: &Description) -> Vec<Vec<u8>> {
-    lines_with(description, |law| long_law(description, law))
+    lines_with(description, |law| forms(description, law).swap_remove(0))
 }
 
 /// The same lines, but laws that have a short form may be written so: none of them, all, or law by law at random.
@@ -37,12 +35,9 @@ pub fn mixed_lines(random: &mut Random, description: &Description) -> Vec<Vec<u8
 
 /// The lines of a law that is written short, if it can be, in so many of four cases.
 pub fn mixed_law(random: &mut Random, description: &Description, law: &Law, short_of_four: usize) -> Vec<Vec<u8>> {
-    let forms = short_laws(description, law);
-    if forms.is_empty() || !random.chance(short_of_four, 4) {
-        long_law(description, law)
-    } else {
-        random.pick(&forms).clone()
-    }
+    let forms = forms(description, law);
+    let is_short = forms.len() > 1 && random.chance(short_of_four, 4);
+    random.pick(if is_short { &forms[1..] } else { &forms[..1] }).clone()
 }
 
 /// The lines of a description whose laws are written by the given function.
@@ -55,85 +50,53 @@ fn lines_with(description: &Description, law_lines: impl FnMut(&Law) -> Vec<Vec<
     lines
 }
 
-/// A head: a literal, or the word false.
-fn head_text(description: &Description, head: Head) -> Vec<u8> {
-    match head {
-        Head::Literal(code) => literal_text(description, code),
-        Head::False => b"false".to_vec(),
-    }
-}
-
-/// A law written out: the lines static, if, or the lines dynamic, if, after.
-fn long_law(description: &Description, law: &Law) -> Vec<Vec<u8>> {
-    let key = if law.after.is_some() { "dynamic" } else { "static" };
-    let mut lines = vec![line(key, &head_text(description, law.head))];
-    lines.push(list_line(description, "if", &law.ifs));
-    lines.extend(law.after.iter().map(|after| list_line(description, "after", after)));
-    lines
-}
-
-/// Every short form that a law has.
-fn short_laws(description: &Description, law: &Law) -> Vec<Vec<Vec<u8>>> {
-    let head = head_text(description, law.head);
-    let mut forms = Vec::new();
-    if let Head::Literal(code) = law.head {
-        if law.ifs == [code] && law.after.is_none() {
-            forms.push(vec![line("default", &head)]);
-        }
-        if law.ifs == [code] && law.after.as_deref() == Some(&[code]) {
-            forms.push(vec![line("inertial", &head)]);
-        }
-    }
-    if let (true, Some(after)) = (law.ifs.is_empty(), &law.after) {
-        forms.push(vec![line("causes", &head), list_line(description, "by", after)]);
-        if law.head == Head::False {
-            forms.push(vec![list_line(description, "nonexecutable", after)]);
-        }
-    }
-    forms
+/// The forms of a law, each as its lines: the one written out in full, and behind it every short one that it has.
+fn forms(description: &Description, law: &Law) -> Vec<Vec<Vec<u8>>> {
+    let (head, own) = match law.head {
+        Head::Literal(code) => (literal_text(description, code), Some(vec![code])),
+        Head::False => (b"false".to_vec(), None),
+    };
+    let ifs = list_line(description, "if", &law.ifs);
+    let after = |key| list_line(description, key, law.after.as_deref().unwrap_or(&[]));
+    let is_static = law.after.is_none();
+    let is_own = own.as_ref() == Some(&law.ifs);
+    let is_bare = law.ifs.is_empty() && !is_static;
+    let forms = [
+        (is_static, vec![line("static", &head), ifs.clone()]),
+        (!is_static, vec![line("dynamic", &head), ifs, after("after")]),
+        (is_own && is_static, vec![line("default", &head)]),
+        (is_own && law.after == own, vec![line("inertial", &head)]),
+        (is_bare, vec![line("causes", &head), after("by")]),
+        (is_bare && own.is_none(), vec![after("nonexecutable")]),
+    ];
+    let forms = forms.into_iter().filter(|(is_one, _)| *is_one);
+    forms.map(|(_, lines)| lines).collect()
 }
 
 /// The lists of a history, state and act in turn, as literal codes in the order of the atoms: all that the values hold.
 pub fn history_lists(description: &Description, values: &[u8]) -> Vec<Vec<u16>> {
-    let fluents = description.fluents.len();
-    let mut lists = Vec::new();
-    for moment in values.chunks(description.stride()) {
-        let (state, act) = moment.split_at(fluents);
-        lists.push(codes_of(state, 0));
-        lists.push(codes_of(act, fluents));
+    let stride = description.stride();
+    let mut lists = vec![Vec::new(); 2 * description.horizon + 1];
+    for (atom, value) in values.iter().enumerate() {
+        let list = &mut lists[2 * (atom / stride) + usize::from(description.is_action(atom))];
+        let code = 2 * (atom % stride) as u16;
+        list.extend([code].iter().filter(|_| value & 1 != 0));
+        list.extend([code + 1].iter().filter(|_| value & 2 != 0));
     }
-    // There is no act list at the last time.
-    lists.truncate(2 * description.horizon + 1);
     lists
-}
-
-/// The literals that some values hold; the first value is that of the given fluent or action.
-fn codes_of(values: &[u8], first: usize) -> Vec<u16> {
-    let literals = values.iter().zip(first as u16..).flat_map(|(value, symbol)| {
-        let of_sign = |sign: u16| (value & 1 << sign != 0).then_some(2 * symbol + sign);
-        [of_sign(0), of_sign(1)]
-    });
-    literals.flatten().collect()
 }
 
 /// The lists of a history of which an act line may leave out what was not done: nothing of it, all in some lines, some in
 /// any line, or all. A reader takes them for the same values.
 pub fn log_lists(random: &mut Random, description: &Description, values: &[u8]) -> Vec<Vec<u16>> {
-    let way = random.below(4);
+    let (lines_of_two, literals_of_two) = *random.pick(&[(0, 2), (1, 2), (2, 1), (2, 2)]);
     let mut lists = history_lists(description, values);
     for act in lists.iter_mut().skip(1).step_by(2) {
-        let whole = act.clone();
-        let in_this_line = random.chance(1, 2);
-        act.retain(|code| {
-            let undone = code % 2 == 1 && !whole.contains(&(code - 1));
-            let left_out = match way {
-                0 => false,
-                1 => in_this_line,
-                2 => random.chance(1, 2),
-                _ => true,
-            };
-            !(undone && left_out)
-        });
+        if random.chance(lines_of_two, 2) {
+            let whole = act.clone();
+            let undone = |code: u16| code % 2 == 1 && !whole.contains(&(code - 1));
+            act.retain(|code| !(undone(*code) && random.chance(literals_of_two, 2)));
+        }
     }
     lists
 }
@@ -178,13 +141,13 @@ mod tests {
     use oracle::history::read_lines;
     use oracle::{Refusal, MAX_LAWS};
 
-    /// Tries something on so many random descriptions.
-    fn on_descriptions(seed: u64, mut try_one: impl FnMut(&mut Random, Description)) {
+    /// Tries something on random descriptions.
+    fn on_descriptions(seed: u64, mut test: impl FnMut(&mut Random, Description)) {
         let mut random = Random::new(seed);
         for _ in 0..2_000 {
             let size = size(&mut random);
             let made = description(&mut random, size);
-            try_one(&mut random, made);
+            test(&mut random, made);
         }
     }
 
@@ -206,10 +169,11 @@ mod tests {
     fn what_is_listed_or_left_out_is_read_back() {
         on_descriptions(8, |random, made| {
             let values: Vec<u8> = (0..made.atoms()).map(|_| random.below(4) as u8).collect();
-            let mut wanted = values.clone();
-            for atom in (0..made.atoms()).filter(|atom| made.is_action(*atom)) {
-                wanted[atom] = [2, 1, 2, 3][usize::from(values[atom])];
-            }
+            let absent_is_false = |atom: usize| match values[atom] {
+                0 if made.is_action(atom) => 2,
+                value => value,
+            };
+            let wanted: Vec<u8> = (0..made.atoms()).map(absent_is_false).collect();
             let log = join(&log_lines(random, &made, &values));
             for text in [log, history_text(&made, &values)] {
                 assert_eq!(read_lines(&made, &text), Ok(wanted.clone()));
@@ -221,15 +185,13 @@ mod tests {
     fn a_shorter_run_is_refused_where_the_next_law_starts() {
         on_descriptions(6, |random, made| {
             let lines = mixed_lines(random, &made);
-            let starts_law = |line: &[u8]| keys_from(b"static").contains(&parts(line).0) && parts(line).0 != b"by";
-            let starts: Vec<usize> = (1..=lines.len()).filter(|at| starts_law(&lines[at - 1])).collect();
-            assert_eq!(starts.len(), made.laws.len());
+            let starts_law = |key: &[u8]| keys_from(b"static").contains(&key) && key != b"by";
+            let starts = (1..=lines.len()).filter(|at| starts_law(parts(&lines[at - 1]).0));
             let run = random.below(made.laws.len() + 1);
+            let refusals: Vec<Refusal> = starts.map(|place| Refusal::new(5, place)).collect();
+            assert_eq!(refusals.len(), made.laws.len());
             let read = read_description(&join(&lines), run);
-            match starts.get(run) {
-                Some(place) => assert_eq!(read, Err(Refusal::new(5, *place))),
-                None => assert!(read.is_ok()),
-            }
+            assert_eq!(read.err().as_ref(), refusals.get(run));
         });
     }
 }

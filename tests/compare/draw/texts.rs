@@ -1,11 +1,11 @@
 //! Texts of all kinds, drawn in proportion, and the calls that take a text.
 
 use super::damage::damage;
-use super::descriptions::{description, size, SMALL};
+use super::descriptions::{description, size, Size, SMALL};
 use super::histories::{explained_values, put_faults, reorder, spoil, spoil_badly};
-use super::letters::{respelled, with_capitals, Lines};
+use super::letters::{put_capitals, respelled, Lines};
 use super::limits;
-use super::render::{history_lines, join, log_lines, log_lists, mixed_lines};
+use super::render::{history_lines, join, log_lists, mixed_lines};
 use super::List;
 use crate::call::{Call, Function, Part};
 use crate::claims::Claim;
@@ -21,9 +21,11 @@ use oracle::{MAX_ATOMS, MAX_LAWS, MAX_TEXT};
 type Kind = (&'static str, usize, fn(&mut Random) -> Vec<u8>);
 
 const KINDS: [Kind; 7] = [
-    ("text sound", 3_800, |random| whole(random, |_, _, _| ())),
-    ("text with a spoilt history", 1_700, |random| whole(random, spoil)),
-    ("text with several bad atoms", 900, |random| whole(random, spoil_badly)),
+    ("text sound", 3_800, |random| whole(random, size, |_, _, _| ())),
+    ("text with a spoilt history", 1_700, |random| whole(random, size, spoil)),
+    ("text with several bad atoms", 900, |random| {
+        whole(random, size, spoil_badly)
+    }),
     ("text at a limit", 1_200, limits::text),
     ("damaged text", 3_250, damaged),
     ("long text", 80, limits::long_text),
@@ -37,13 +39,18 @@ const ROOM: usize = 2_000;
 
 /// One text, with capitals or without, and the name of its kind.
 pub fn text(random: &mut Random) -> (&'static str, Vec<u8>) {
-    let (kind, _, drawn) = KINDS[random.weighted(&KINDS.map(|(_, weight, _)| weight))];
-    let text = drawn(random);
-    (kind, with_capitals(random, text))
+    let (kind, _, draw) = KINDS[random.weighted(&KINDS.map(|(_, weight, _)| weight))];
+    let mut text = draw(random);
+    put_capitals(random, &mut text);
+    (kind, text)
 }
 
 /// A good description with a history, which may be spoilt in a few values.
-fn whole(random: &mut Random, spoil: impl Fn(&mut Random, &Description, &mut [u8])) -> Vec<u8> {
+fn whole(
+    random: &mut Random,
+    size: impl Fn(&mut Random) -> Size,
+    spoil: impl Fn(&mut Random, &Description, &mut [u8]),
+) -> Vec<u8> {
     let size = size(random);
     let made = description(random, size);
     let mut values = explained_values(random, &made);
@@ -57,14 +64,9 @@ fn whole(random: &mut Random, spoil: impl Fn(&mut Random, &Description, &mut [u8
 
 /// A small text, good or at a limit, and then damaged.
 fn damaged(random: &mut Random) -> Vec<u8> {
-    let mut text = if random.chance(1, 8) {
-        limits::text(random)
-    } else {
-        let made = description(random, SMALL);
-        let values = explained_values(random, &made);
-        let mut lines = mixed_lines(random, &made);
-        lines.extend(log_lines(random, &made, &values));
-        join(&lines)
+    let mut text = match random.chance(1, 8) {
+        true => limits::text(random),
+        false => whole(random, |_| SMALL, |_, _, _| ()),
     };
     damage(random, &mut text);
     text
@@ -73,29 +75,20 @@ fn damaged(random: &mut Random) -> Vec<u8> {
 /// One text and all calls that take a text; on some texts also those that take the table that an earlier call wrote.
 pub fn list(random: &mut Random) -> List {
     let (kind, text) = text(random);
-    let known = known(&text);
-    let mut case = Case {
-        random,
-        text: &text,
-        known: known.as_ref(),
-        calls: Vec::new(),
-    };
-    case.report();
-    case.translate();
-    case.read_history();
-    case.check_history();
-    case.call(Function::CausalReading, [Part::bytes(&text)]);
-    case.completion();
-    case.bad_atoms();
-    List {
-        kind,
-        calls: case.calls,
-        claim: Claim::Nothing,
+    let known = Known::new(random, &text);
+    let mut calls = known.text_calls(random);
+    if known.is_taken() && known.values.iter().all(|value| matches!(value, 1 | 2)) && random.chance(1, 3) {
+        known.add_complete(random, &mut calls);
     }
+    if known.is_taken() && random.chance(1, 6) {
+        known.add_bad_atoms(random, &mut calls);
+    }
+    let claim = Claim::Nothing;
+    List { kind, calls, claim }
 }
 
 /// Three texts, each put through report, causal_reading and translate: one as drawn, one with its used names spelled anew, and
-/// one with its declared names spelled anew. Buffers are lent with the same content, so that they can be held against each other.
+/// one with its declared names spelled anew. Each is lent buffers of the same content, so that these can be compared.
 pub fn respelled_list(random: &mut Random) -> List {
     let (_, text) = text(random);
     let uses = respelled(random, &text, Lines::Using, 4);
@@ -115,7 +108,7 @@ pub fn respelled_list(random: &mut Random) -> List {
     }
 }
 
-/// A buffer of so many bytes to be written to. What it holds beforehand looks random, and each byte differs from the next.
+/// A buffer of so many bytes to be written to; what it holds beforehand looks random.
 pub fn any_bytes(random: &mut Random, count: usize) -> Part {
     let next = |byte: &u8| Some(byte.wrapping_mul(5).wrapping_add(77));
     Part::Bytes(std::iter::successors(Some(random.byte()), next).take(count).collect())
@@ -127,199 +120,159 @@ pub fn any_words(random: &mut Random, count: usize) -> Part {
     Part::Words(std::iter::successors(Some(random.word()), next).take(count).collect())
 }
 
-/// What the oracle knows of a text, to choose buffers that mean something for it.
-struct Known {
-    description: Description,
+/// A text and what the oracle knows of it, to lend what means something for it. Where no description can be read, it is
+/// some text of five atoms.
+struct Known<'a> {
+    text: &'a [u8],
+    /// The description, and the history or any other part of the text.
+    description: &'a [u8],
+    history: &'a [u8],
     /// Words of the translation.
     need: usize,
-    /// What the history's lines list, and its values, if it can be read.
-    history: Option<(Vec<u8>, Vec<u8>)>,
+    /// The time of each literal, by which the rules of a translation can be levelled; none if the description is refused.
+    times: Vec<u16>,
+    /// What the history's lines list, and its values; true for all atoms where it cannot be read.
+    listed: Vec<u8>,
+    values: Vec<u8>,
 }
 
-impl Known {
-    /// The description's part of its text.
-    fn text(&self, text: &[u8]) -> Part {
-        Part::bytes(&text[..self.description.length])
+impl<'a> Known<'a> {
+    /// A text over 65,535 bytes may still begin with a description of fewer.
+    fn new(random: &mut Random, text: &'a [u8]) -> Self {
+        let mut known = Known {
+            text,
+            description: text,
+            history: &text[random.below(text.len() + 1)..],
+            need: random.between(1, 200),
+            times: vec![],
+            listed: vec![1; 5],
+            values: vec![1; 5],
+        };
+        if let Ok(read) = read_description(&text[..text.len().min(MAX_TEXT)], MAX_LAWS) {
+            (known.description, known.history) = text.split_at(read.length);
+            known.need = all_rules(&read).words.len();
+            known.times = (0..2 * read.atoms())
+                .map(|code| (code / 2 / read.stride()) as u16)
+                .collect();
+            known.listed = listed_values(&read, known.history).unwrap_or(vec![1; read.atoms()]);
+            known.values = filled(&read, &known.listed);
+        }
+        known
     }
 
-    /// The time of each literal, by which the rules of a translation can be levelled.
-    fn times(&self) -> Part {
-        let time = |code| (code / 2 / self.description.stride()) as u16;
-        Part::Words((0..2 * self.description.atoms()).map(time).collect())
-    }
-}
-
-/// A text over 65,535 bytes may still begin with a description of fewer.
-fn known(text: &[u8]) -> Option<Known> {
-    let description = read_description(&text[..text.len().min(MAX_TEXT)], MAX_LAWS).ok()?;
-    let need = all_rules(&description).words.len();
-    let listed = listed_values(&description, &text[description.length..]).ok();
-    let history = listed.map(|listed| (listed.clone(), filled(&description, &listed)));
-    Some(Known {
-        description,
-        need,
-        history,
-    })
-}
-
-/// A text and the calls made on it so far.
-struct Case<'a> {
-    random: &'a mut Random,
-    text: &'a [u8],
-    known: Option<&'a Known>,
-    calls: Vec<Call>,
-}
-
-impl<'a> Case<'a> {
-    /// Adds a call, and gives its number.
-    fn call(&mut self, function: Function, parts: impl Into<Vec<Part>>) -> usize {
-        self.calls.push(Call::new(function, parts));
-        self.calls.len() - 1
+    fn is_taken(&self) -> bool {
+        !self.times.is_empty()
     }
 
-    /// The printed output, into one buffer longer than it and one shorter.
-    fn report(&mut self) {
+    /// The calls that take a text; the report goes into a buffer longer than what is printed, and into a shorter one.
+    fn text_calls(&self, random: &mut Random) -> Vec<Call> {
         let printed = output(self.text).len();
-        let longer = printed + self.random.below(20);
-        let shorter = self.random.below(printed + 1);
-        for room in [longer, shorter] {
-            let out = any_bytes(self.random, room);
-            self.call(Function::Report, [Part::bytes(self.text), out]);
-        }
+        let longer = printed + random.below(20);
+        let shorter = random.below(printed + 1);
+        let length = self.length(random);
+        let text = Part::bytes(self.text);
+        let history = Part::bytes(self.history);
+        vec![
+            Call::new(Function::Report, [text.clone(), any_bytes(random, longer)]),
+            Call::new(Function::Report, [text.clone(), any_bytes(random, shorter)]),
+            Call::new(Function::Translate, [self.front(random), self.table(random)]),
+            Call::new(
+                Function::ReadHistory,
+                [self.front(random), history, any_bytes(random, length)],
+            ),
+            Call::new(
+                Function::CheckHistory,
+                [self.front(random), self.some_values(random), self.table(random)],
+            ),
+            Call::new(Function::CausalReading, [text]),
+        ]
     }
 
-    fn translate(&mut self) {
-        let parts = [self.front(), self.table()];
-        self.call(Function::Translate, parts);
+    /// For one value an atom: the table that the translation writes is judged by the engine and by the completion formulas,
+    /// with times as levels too, and the history check judges the values.
+    fn add_complete(&self, random: &mut Random, calls: &mut Vec<Call>) {
+        let [description, values] = [Part::bytes(self.description), Part::bytes(&self.values)];
+        let table = Part::Left(calls.len(), 1);
+        calls.extend([
+            Call::new(Function::Translate, [description.clone(), any_words(random, self.need)]),
+            Call::new(Function::CheckSet, [values.clone(), table.clone()]),
+            Call::new(Function::CheckCompletion, [values.clone(), table.clone()]),
+            Call::new(
+                Function::CheckByLevels,
+                [values.clone(), table, Part::words(&self.times)],
+            ),
+            Call::new(
+                Function::CheckHistory,
+                [description, values, any_words(random, self.need)],
+            ),
+        ]);
     }
 
-    fn read_history(&mut self) {
-        let (description, history) = self.halves();
-        let length = self.values_length();
-        let values = any_bytes(self.random, length);
-        let parts = [Part::bytes(description), Part::bytes(history), values];
-        self.call(Function::ReadHistory, parts);
+    /// Values with bad atoms of any sort: the table that the history check leaves is judged by the completion formulas.
+    fn add_bad_atoms(&self, random: &mut Random, calls: &mut Vec<Call>) {
+        let mut values = self.values.clone();
+        put_faults(random, &mut values, |_| true);
+        let [description, values] = [Part::bytes(self.description), Part::Bytes(values)];
+        let table = Part::Left(calls.len(), 2);
+        calls.extend([
+            Call::new(
+                Function::CheckHistory,
+                [description, values.clone(), any_words(random, self.need)],
+            ),
+            Call::new(Function::CheckCompletion, [values.clone(), table.clone()]),
+            Call::new(Function::CheckByLevels, [values, table, Part::words(&self.times)]),
+        ]);
     }
 
-    fn check_history(&mut self) {
-        let parts = [self.front(), Part::Bytes(self.values()), self.table()];
-        self.call(Function::CheckHistory, parts);
+    /// The description with the history behind it, or alone.
+    fn front(&self, random: &mut Random) -> Part {
+        Part::bytes(random.pick(&[self.description, self.text]))
     }
 
-    /// A history with one value an atom: the table that the translation writes is judged by the engine and by the
-    /// completion formulas, and the history check judges the values too. One text in three will do.
-    fn completion(&mut self) {
-        let Some((known, (_, values))) = self.known.and_then(|known| Some((known, known.history.as_ref()?))) else {
-            return;
+    /// A buffer for a table: as long as needed, one word short, longer, or of any length.
+    fn table(&self, random: &mut Random) -> Part {
+        let room = match random.below(8) {
+            0..=3 => self.need,
+            4 => self.need - 1,
+            5 | 6 => self.need + random.between(1, 40),
+            _ => random.below(self.need + 1),
         };
-        if !values.iter().all(|value| matches!(value, 1 | 2)) || !self.random.chance(1, 3) {
-            return;
-        }
-        let [text, values] = [known.text(self.text), Part::bytes(values)];
-        let table = any_words(self.random, known.need);
-        let table = Part::Left(self.call(Function::Translate, [text.clone(), table]), 1);
-        self.call(Function::CheckSet, [values.clone(), table.clone()]);
-        self.formulas(known, &values, table);
-        let table = any_words(self.random, known.need);
-        self.call(Function::CheckHistory, [text, values, table]);
-    }
-
-    /// Values with bad atoms of any sort: the history check's own table is judged by the completion formulas. One text in
-    /// six will do.
-    fn bad_atoms(&mut self) {
-        let Some(known) = self.known.filter(|_| self.random.chance(1, 6)) else {
-            return;
-        };
-        let mut values = match &known.history {
-            Some((_, values)) => values.clone(),
-            None => vec![1; known.description.atoms()],
-        };
-        put_faults(self.random, &mut values, |_| true);
-        let values = Part::Bytes(values);
-        let parts = [
-            known.text(self.text),
-            values.clone(),
-            any_words(self.random, known.need),
-        ];
-        let table = Part::Left(self.call(Function::CheckHistory, parts), 2);
-        self.formulas(known, &values, table);
-    }
-
-    /// A table judged by the completion formulas, without levels and with times as levels.
-    fn formulas(&mut self, known: &Known, values: &Part, table: Part) {
-        self.call(Function::CheckCompletion, [values.clone(), table.clone()]);
-        self.call(Function::CheckByLevels, [values.clone(), table, known.times()]);
-    }
-
-    /// A buffer for a table: as needed, one word short, longer, or of any length.
-    fn table(&mut self) -> Part {
-        let room = match self.known.map(|known| (known.need, self.random.below(8))) {
-            None => self.random.below(200),
-            Some((need, 0..=3)) => need,
-            Some((need, 4)) => need - 1,
-            Some((need, 5 | 6)) => need + self.random.between(1, 40),
-            Some((need, _)) => self.random.below(need + 1),
-        };
-        any_words(self.random, room)
+        any_words(random, room)
     }
 
     /// How many values are lent: mostly as many as there are atoms.
-    fn values_length(&mut self) -> usize {
-        let atoms = self.known.map_or(5, |known| known.description.atoms());
-        match self.random.below(16) {
-            0 => atoms - 1,
-            1 => atoms + 1,
-            2 => *self.random.pick(&[0, MAX_ATOMS, MAX_ATOMS + 1, 2_000, 70_000]),
-            _ => atoms,
+    fn length(&self, random: &mut Random) -> usize {
+        match random.below(16) {
+            0 => self.values.len() - 1,
+            1 => self.values.len() + 1,
+            2 => *random.pick(&[0, MAX_ATOMS, MAX_ATOMS + 1, 2_000, 70_000]),
+            _ => self.values.len(),
         }
     }
 
-    /// Values for the history check: the history's own, only what it lists, or some, and often spoilt in one place or by
-    /// several bad atoms.
-    fn values(&mut self) -> Vec<u8> {
-        let length = self.values_length();
-        let mut values = match self.known.and_then(|known| known.history.as_ref()) {
-            Some((listed, _)) if self.random.chance(1, 6) => listed.clone(),
-            Some((_, values)) => values.clone(),
-            None => vec![1; length],
+    /// Values for the history check: the history's own or only what it lists, and often spoilt in one place or by several
+    /// bad atoms.
+    fn some_values(&self, random: &mut Random) -> Part {
+        let length = self.length(random);
+        let own = if random.chance(1, 6) {
+            &self.listed
+        } else {
+            &self.values
         };
+        let mut values = own.clone();
         values.resize(length, 2);
-        if values.is_empty() {
-            return values;
-        }
-        let index = self.random.below(length);
-        match self.random.below(12) {
+        let index = random.below(length.max(1));
+        match random.below(12) {
+            _ if length == 0 => (),
             0 => values[index] = 0,
             1 => values[index] = 3,
             2 => values[index] = 4,
-            3 => values[index] = self.random.byte(),
+            3 => values[index] = random.byte(),
             4 => values[index] = 3 - values[index].min(3),
-            5 | 6 => put_faults(self.random, &mut values, |_| true),
+            5 | 6 => put_faults(random, &mut values, |_| true),
             _ => (),
         }
-        values
-    }
-
-    /// The description with the history behind it, or alone; and where it cannot be read, the whole text.
-    fn front(&mut self) -> Part {
-        match self.known {
-            Some(known) if self.random.chance(1, 2) => known.text(self.text),
-            _ => Part::bytes(self.text),
-        }
-    }
-
-    /// The description's text and the history's. More may stand behind the description's end line. Where there is no
-    /// description, any part of the text serves as a history.
-    fn halves(&mut self) -> (&'a [u8], &'a [u8]) {
-        let text = self.text;
-        match self.known {
-            Some(known) => {
-                let (description, history) = text.split_at(known.description.length);
-                let lent = if self.random.chance(1, 3) { text } else { description };
-                (lent, history)
-            }
-            None => (text, &text[self.random.below(text.len() + 1)..]),
-        }
+        Part::Bytes(values)
     }
 }
 
@@ -327,21 +280,16 @@ impl<'a> Case<'a> {
 mod tests {
     use super::*;
 
-    /// Texts of every kind are drawn, and every function is called, also with a table that an earlier call left.
+    /// Texts of every kind are drawn, and calls that take what an earlier one left.
     #[test]
     fn every_kind_is_drawn() {
-        let mut kinds = KINDS.map(|(kind, _, _)| (kind, 0));
-        let mut left = 0;
-        for number in 0..8_000 {
-            let drawn = list(&mut Random::of_case(1, number));
-            let place = kinds.iter().position(|(kind, _)| *kind == drawn.kind);
-            kinds[place.expect("a kind of text")].1 += 1;
-            let parts = drawn.calls.iter().flat_map(|call| &call.parts);
-            left += parts.filter(|part| matches!(part, Part::Left(..))).count();
+        let drawn: Vec<List> = (0..8_000).map(|number| list(&mut Random::of_case(1, number))).collect();
+        for (kind, weight, _) in KINDS {
+            let count = drawn.iter().filter(|list| list.kind == kind).count();
+            assert!(count * 3 > weight, "{kind}: {count}");
         }
-        assert!(
-            kinds.iter().all(|(_, count)| *count > 0) && left > 1_000,
-            "{kinds:?}, {left}"
-        );
+        let parts = drawn.iter().flat_map(|list| &list.calls).flat_map(|call| &call.parts);
+        let left = parts.filter(|part| matches!(part, Part::Left(..))).count();
+        assert!(left > 4_000, "{left}");
     }
 }
