@@ -6,9 +6,11 @@ pub mod descriptions;
 pub mod histories;
 pub mod known;
 pub mod letters;
+pub mod levels;
 pub mod limits;
 pub mod recipes;
 pub mod render;
+pub mod tables;
 pub mod texts;
 
 use crate::call::Call;
@@ -26,8 +28,13 @@ pub struct List {
 }
 
 /// What draws lists, and how often each is asked.
-const DRAWN: [(fn(&mut Random) -> List, usize); 3] =
-    [(texts::list, 100), (texts::respelled_list, 50), (recipes::list, 5)];
+const DRAWN: [(fn(&mut Random) -> List, usize); 5] = [
+    (texts::list, 200),
+    (texts::respelled_list, 100),
+    (tables::list, 200),
+    (levels::list, 200),
+    (recipes::list, 12),
+];
 
 /// One list of any kind.
 pub fn list(random: &mut Random) -> List {
