@@ -10,3 +10,13 @@ impl Tally {
     /// Counts what a list and its answers are examples of.
     pub fn count(&mut self, _drawn: &List, _said: &[Said]) {}
 }
+
+impl Tally {
+    pub fn print(&self, _out: &mut impl std::io::Write) -> std::io::Result<()> {
+        Ok(())
+    }
+
+    pub fn too_rare(&self, _lists: u64) -> Vec<String> {
+        vec![]
+    }
+}

@@ -55,9 +55,12 @@ impl Program {
             .stdin(Stdio::piped())
             .stdout(Stdio::piped())
             .spawn()?;
-        // What is printed is short, so that it waits in the pipe until all is read. The input ends where it is dropped.
-        if let Some(mut lent) = child.stdin.take() {
-            lent.write_all(input)?;
+        // What is printed is short, so that it waits in the pipe until all is read. The input ends where it is dropped; of one
+        // that is too long the program need not read the end.
+        let written = child.stdin.take().map_or(Ok(()), |mut lent| lent.write_all(input));
+        match written {
+            Err(reason) if reason.kind() != io::ErrorKind::BrokenPipe => return Err(reason),
+            _ => (),
         }
         let done = child.wait_with_output()?;
         match done.status.success() {
