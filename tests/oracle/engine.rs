@@ -116,69 +116,19 @@ fn verdict(values: &[u8], rules: &[Rule]) -> Verdict {
     }
 }
 
-/// The least set closed under rules without negated parts, every one of which has a literal as head.
-///
-/// Each rule counts the plain parts it still waits for; a newly derived literal is taken off the count of each rule
-/// that waits for it. So every part is looked at once, however long the chains are.
+/// The least set closed under rules without negated parts, every one of which has a literal as head: round by round the heads
+/// whose plain parts are in it are added, until a round adds nothing.
 pub fn least_closed_set(rules: &[Rule], codes: usize) -> Vec<bool> {
-    let waiting = Waiting::new(rules, codes);
-    let mut missing: Vec<usize> = rules.iter().map(|rule| rule.plain.len()).collect();
     let mut derived = vec![false; codes];
-    let mut fresh = Vec::new();
-    for rule in rules {
-        if rule.plain.is_empty() {
-            derive(rule.head, &mut derived, &mut fresh);
-        }
-    }
-    while let Some(code) = fresh.pop() {
-        for &index in waiting.rules_for(code) {
-            let index = index as usize;
-            missing[index] -= 1;
-            if missing[index] == 0 {
-                derive(rules[index].head, &mut derived, &mut fresh);
+    loop {
+        let before = derived.clone();
+        for rule in rules {
+            if rule.plain.iter().all(|code| derived[usize::from(*code)]) {
+                derived[usize::from(rule.head)] = true;
             }
         }
-    }
-    derived
-}
-
-fn derive(code: u16, derived: &mut [bool], fresh: &mut Vec<usize>) {
-    let code = usize::from(code);
-    if !derived[code] {
-        derived[code] = true;
-        fresh.push(code);
-    }
-}
-
-/// For each literal code the rules that have it as a plain part, once for each time they have it.
-struct Waiting {
-    /// Where each code's rules begin; one entry more than there are codes.
-    starts: Vec<usize>,
-    rules: Vec<u32>,
-}
-
-impl Waiting {
-    fn new(rules: &[Rule], codes: usize) -> Self {
-        let mut starts = vec![0; codes + 1];
-        for code in rules.iter().flat_map(|rule| rule.plain) {
-            starts[usize::from(*code) + 1] += 1;
+        if derived == before {
+            return derived;
         }
-        for code in 0..codes {
-            starts[code + 1] += starts[code];
-        }
-        let mut next = starts.clone();
-        let mut waiting = vec![0; starts[codes]];
-        for (index, rule) in rules.iter().enumerate() {
-            for code in rule.plain {
-                let slot = &mut next[usize::from(*code)];
-                waiting[*slot] = index as u32;
-                *slot += 1;
-            }
-        }
-        Waiting { starts, rules: waiting }
-    }
-
-    fn rules_for(&self, code: usize) -> &[u32] {
-        &self.rules[self.starts[code]..self.starts[code + 1]]
     }
 }

@@ -9,8 +9,8 @@ macro_rules! words {
     ($($word:tt)*) => { &[$(stringify!($word).as_bytes()),*] };
 }
 
-/// All keys. Behind `horizon` and `end` come the two that declare a name, then those whose lines use names: of histories,
-/// of laws from `if` on, of first lines of laws from `static` on (`by` only looks like one), of short laws from `default` on.
+/// All keys. Behind `horizon` and `end` come the two that declare a name; lines with the others use names. From `if` on
+/// they are those of laws, from `static` on those that begin a law (`by` does not), from `default` on of short laws.
 #[rustfmt::skip]
 pub const KEYS: &[&[u8]] = words![
     horizon end fluent action state act if after static dynamic default inertial causes by nonexecutable
@@ -22,16 +22,11 @@ pub fn keys_from(first: &[u8]) -> &'static [&'static [u8]] {
     &KEYS[start.expect("one of the keys")..]
 }
 
-/// Keys that are none, though they look like some.
-const BAD_KEYS: &str = "|Fluent|END|fluents|flue| if|if |actions|ends|afte|Default|defaults|inertia|cause|b|bye|\
-                        nonexecutabl|noexecutable";
-
 /// Values that fit some place and not others.
 const VALUES: &str = "|false|-false|--a|-|a|A|0a|_a|a-|a b|aB|a.|1|30|=|a=b|,|a,a|a,-a|\u{e9}|\r";
 
-/// Values for lines of laws, where + is a literal of a fluent and * one of an action: none, one, or a list of as many as may be
-/// or more.
-const LAW_VALUES: &str = "|false|undeclared|+|*|*|+,*|+,+,+,+,+,+|+,+,+,+,+,+,*|+,+,+,+,+,+,false|-,+,+,+,+,+,+";
+/// Values for lines of laws, where + is a fluent's literal and * an action's: none, one, or as many as may be or more.
+pub const LAW_VALUES: &str = "|false|undeclared|+|*|*|+,*|+,+,+,+,+,+|+,+,+,+,+,+,*|+,+,+,+,+,+,false|-,+,+,+,+,+,+";
 
 /// A line's key and value; a line without an equals sign is all key.
 pub fn parts(line: &[u8]) -> (&[u8], &[u8]) {
@@ -62,19 +57,12 @@ pub fn places(lines: &[Vec<u8>], keys: &[&[u8]]) -> Vec<usize> {
     (0..lines.len()).filter(has_key).collect()
 }
 
-/// A line with one of the keys, each key about as likely as another, so that the many lines of one kind do not hide the few
-/// of others; where there is none, any line.
+/// A line with one of the keys, each key about as likely as another however many lines have it; or else any line.
 pub fn pick_line(random: &mut Random, lines: &[Vec<u8>], keys: &[&[u8]]) -> usize {
     let with_key = places(lines, &[*random.pick(keys)]);
-    let found = if with_key.is_empty() {
-        places(lines, keys)
-    } else {
-        with_key
-    };
-    match found.is_empty() {
-        true => random.below(lines.len()),
-        false => *random.pick(&found),
-    }
+    let all = (0..lines.len()).collect();
+    let mut found = [with_key, places(lines, keys), all].into_iter();
+    *random.pick(&found.find(|found| !found.is_empty()).expect("there are lines"))
 }
 
 /// Damages a text at one to three places.
@@ -91,11 +79,9 @@ pub fn damage(random: &mut Random, text: &mut Vec<u8>) {
 
 /// One byte changed, taken out or put in, often one that stands for something.
 fn damage_byte(random: &mut Random, text: &mut Vec<u8>) {
-    if text.is_empty() {
-        text.push(b'\n');
-    }
-    let at = random.below(text.len());
+    let at = random.below(text.len() + 1);
     match random.below(6) {
+        _ if at == text.len() => text.push(random.byte()),
         0 | 1 => text[at] = random.byte(),
         2 => text[at] ^= 1 << random.below(8),
         3 => drop(text.remove(at)),
@@ -129,16 +115,12 @@ fn damage_line(random: &mut Random, lines: &mut Vec<Vec<u8>>) {
     }
 }
 
-/// The place of a line of a short law. Where there is none with the key that is drawn, a good law with it is put in before the
-/// first end line.
+/// The place of a line of a short law; where there is none with the key that is drawn, a good law with it is put in.
 fn short_line(random: &mut Random, lines: &mut Vec<Vec<u8>>) -> usize {
     let key = *random.pick(keys_from(b"default"));
     if places(lines, &[key]).is_empty() {
-        let value = declared(random, lines, b"fluent");
-        let law = match key {
-            b"causes" | b"by" => vec![line("causes", &value), line("by", &value)],
-            _ => vec![line(key, &value)],
-        };
+        let first = if key == b"by" { b"causes" } else { key };
+        let law = law_lines(random, lines, first, "+", "+");
         let end = places(lines, &[b"end"]).first().copied().unwrap_or(0);
         lines.splice(end..end, law);
     }
@@ -151,10 +133,8 @@ fn move_line(random: &mut Random, lines: &mut Vec<Vec<u8>>, at: usize) {
     let next = (at + 1) % lines.len();
     match random.below(8) {
         0 => drop(lines.remove(at)),
-        1 => lines.insert(at, lines[at].clone()),
-        2 => lines.insert(at, lines[other].clone()),
-        3 => lines.swap(at, other),
-        4 => lines.swap(at, next),
+        1 | 2 => lines.insert(at, lines[*random.pick(&[at, other])].clone()),
+        3 | 4 => lines.swap(at, *random.pick(&[next, other])),
         5 => lines[at.min(other)..=at.max(other)].rotate_left(1),
         6 => lines.insert(at, line(random.pick(KEYS), pick_word(random, VALUES))),
         _ => lines.insert(at + 1, line(random.pick(&["fluent", "action"]), b"late")),
@@ -164,61 +144,71 @@ fn move_line(random: &mut Random, lines: &mut Vec<Vec<u8>>, at: usize) {
 /// A line with another key or value, or with signs where they should not be.
 fn changed_line(random: &mut Random, lines: &[Vec<u8>], at: usize) -> Vec<u8> {
     let (key, value) = parts(&lines[at]);
-    match random.below(22) {
+    match random.below(24) {
         0 => line(random.pick(KEYS), value),
         1 | 2 => line(random.pick(keys_from(b"if")), value),
-        3 => line(near_key(random, key), value),
-        4 => line(pick_word(random, BAD_KEYS), value),
-        5 | 6 => line(key, pick_word(random, VALUES)),
-        7..=10 => line(key, &law_value(random, lines)),
+        3..=5 => line(near_key(random, key), value),
+        6 => line(key, pick_word(random, VALUES)),
+        7..=10 => line(key, &law_value(random, lines, LAW_VALUES)),
         11 | 12 => line(key, parts(random.pick::<Vec<u8>>(lines)).1),
-        13 => [key, value].concat(),
-        14 => line(key, &line("", value)),
-        15 => line("", &line(key, value)),
-        16 => [key, b"=", value, b"\r"].concat(),
+        13 => line(key, &[value, pick_word(random, "-|_|,|=| |0|a|Z|\r")].concat()),
+        14 => [key, value].concat(),
+        15 => line(key, &line("", value)),
+        16 => line("", &line(key, value)),
         17 | 18 if key == b"horizon" => line(key, pick_word(random, HORIZONS)),
-        17 => line(key, b"false"),
+        17 | 18 => line(key, b"false"),
         _ => line(key, &damaged_list(random, value)),
     }
 }
 
-/// A key that differs in capitals, or by one letter too few or too many.
+/// A word near a key: with capitals, with letters too few, or with a letter or a space too many.
 pub fn near_key(random: &mut Random, key: &[u8]) -> Vec<u8> {
     let mut near = key.to_vec();
-    let Some(last) = near.len().checked_sub(1) else {
-        return near;
-    };
-    let at = random.below(near.len());
-    match random.below(6) {
-        0 => near[0].make_ascii_uppercase(),
-        1 => near[last].make_ascii_uppercase(),
-        2 => near[at].make_ascii_uppercase(),
-        3 => near.make_ascii_uppercase(),
-        4 => drop(near.pop()),
-        _ => near.insert(at, b's'),
+    let last = key.len().saturating_sub(1);
+    let at = [0, last, random.below(last + 1)][random.below(3)];
+    match random.below(8) {
+        0 | 1 => near[at..key.len().min(at + 1)].make_ascii_uppercase(),
+        2 => near.make_ascii_uppercase(),
+        3..=5 => near.truncate(at.max(1)),
+        6 => near.insert(at, *random.pick(b"es ")),
+        _ => near.push(*random.pick(b"es ")),
     }
     near
 }
 
-/// A value for a line of a law, with literals of declared names.
-pub fn law_value(random: &mut Random, lines: &[Vec<u8>]) -> Vec<u8> {
-    let mut items = split(pick_word(random, LAW_VALUES), b',');
-    for item in &mut items {
-        match &item[..] {
-            b"+" => *item = declared(random, lines, b"fluent"),
-            b"*" => *item = declared(random, lines, b"action"),
-            _ => (),
-        }
-    }
-    items.join(&b',')
+/// The lines of a law that begins with the given key, with values for heads and for lists.
+pub fn law_lines(random: &mut Random, lines: &[Vec<u8>], key: &[u8], heads: &str, lists: &str) -> Vec<Vec<u8>> {
+    let (first, others): (&str, &[&str]) = match key {
+        b"static" => (heads, &["if"]),
+        b"dynamic" => (heads, &["if", "after"]),
+        b"causes" => (heads, &["by"]),
+        b"nonexecutable" => (lists, &[]),
+        _ => (heads, &[]),
+    };
+    let mut law = vec![line(key, &law_value(random, lines, first))];
+    law.extend(others.iter().map(|key| line(key, &law_value(random, lines, lists))));
+    law
+}
+
+/// One of the values between bars, with literals of declared names.
+fn law_value(random: &mut Random, lines: &[Vec<u8>], values: &str) -> Vec<u8> {
+    let items = split(pick_word(random, values), b',').into_iter();
+    let items = items.map(|item| match &item[..] {
+        b"+" => declared(random, lines, b"fluent"),
+        b"*" => declared(random, lines, b"action"),
+        _ => item,
+    });
+    items.collect::<Vec<_>>().join(&b',')
 }
 
 /// A literal of a name that some line with the key declares, or would declare.
 fn declared(random: &mut Random, lines: &[Vec<u8>], key: &[u8]) -> Vec<u8> {
-    let declaring = places(lines, &[key]);
-    let name = match declaring.is_empty() {
-        true => b"undeclared",
-        false => parts(&lines[*random.pick(&declaring)]).1,
+    let lines = lines.iter().map(|line| parts(line)).filter(|(found, _)| *found == key);
+    let names: Vec<&[u8]> = lines.map(|(_, name)| name).collect();
+    let name = if names.is_empty() {
+        b"undeclared"
+    } else {
+        *random.pick(&names)
     };
     [pick_word(random, "||-"), name].concat()
 }
@@ -228,16 +218,13 @@ fn damaged_list(random: &mut Random, value: &[u8]) -> Vec<u8> {
     let mut items = split(value, b',');
     let at = random.below(items.len());
     let item = items[at].clone();
-    let opposite = match item.strip_prefix(b"-") {
-        Some(name) => name.to_vec(),
-        None => [b"-", &item[..]].concat(),
-    };
+    let name = item.strip_prefix(b"-");
+    let opposite = name.map_or([b"-", &item[..]].concat(), <[u8]>::to_vec);
+    let place = *random.pick(&[0, at, items.len()]);
     match random.below(7) {
-        0 => items.insert(at, Vec::new()),
-        1 => items.push(Vec::new()),
-        2 => items.insert(0, Vec::new()),
-        3 => items.push(item),
-        4 => items.push(opposite),
+        0..=2 => items.insert(place, Vec::new()),
+        3 => items.insert(place, item),
+        4 => items.insert(place, opposite),
         5 => items[at] = opposite,
         _ => items.extend(vec![item; 6]),
     }

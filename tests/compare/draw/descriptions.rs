@@ -1,5 +1,6 @@
 //! Random descriptions.
 
+use super::damage::KEYS;
 use crate::random::Random;
 use oracle::record::{Description, Head, Law};
 use oracle::{MAX_ACTIONS, MAX_FLUENTS, MAX_HORIZON, MAX_LAWS, MAX_LIST, MAX_NAME};
@@ -16,20 +17,10 @@ const SIZES: [(Size, usize); 4] = [
     ([MAX_HORIZON, MAX_FLUENTS, MAX_ACTIONS, MAX_LAWS], 4),
 ];
 
-/// How often a name is drawn before one is made up by counting.
-const TRIES: usize = 50;
-
-/// Names that are easy to mix up with keys, with the word false, or with one another.
-const ODD_NAMES: &str = "false_|fals|falsee|end|state|if|horizon|default|inertial|causes|by|nonexecutable|\
-                         a|aa|a_|a0|aaaaaaaaaaaaaaaa";
-
-/// A size for one description.
-pub fn size(random: &mut Random) -> Size {
-    SIZES[random.weighted(&SIZES.map(|(_, weight)| weight))].0
-}
-
-/// A random description within a size.
-pub fn description(random: &mut Random, [horizon, fluents, actions, laws]: Size) -> Description {
+/// A random description within a given size, or within one that is drawn too.
+pub fn description(random: &mut Random, given: Option<Size>) -> Description {
+    let drawn = random.weighted(&SIZES.map(|(_, weight)| weight));
+    let [horizon, fluents, actions, laws] = given.unwrap_or(SIZES[drawn].0);
     let fluents = random.between(1, fluents);
     let actions = random.between(0, actions);
     let names = names(random, fluents + actions);
@@ -60,24 +51,26 @@ pub fn pick_word<'a>(random: &mut Random, words: &'a str) -> &'a [u8] {
     random.pick(&words).as_bytes()
 }
 
-/// So many different names.
+/// So many different names. Each is drawn up to 50 times before one is made up by counting.
 pub fn names(random: &mut Random, count: usize) -> Vec<Vec<u8>> {
     let mut names: Vec<Vec<u8>> = Vec::new();
     for number in 0..count {
-        let mut drawn = (0..TRIES).map(|_| name(random));
+        let mut drawn = (0..50).map(|_| name(random));
         let fresh = drawn.find(|name| name != b"false" && !names.contains(name));
         names.push(fresh.unwrap_or_else(|| format!("name_number_{number:04}").into_bytes()));
     }
     names
 }
 
+/// A key, a name that is easy to mix up with the word false or with another one, or any name.
 fn name(random: &mut Random) -> Vec<u8> {
-    if random.chance(1, 8) {
-        return pick_word(random, ODD_NAMES).to_vec();
-    }
     let longest = if random.chance(1, 10) { MAX_NAME } else { 4 };
     let length = random.between(1, longest);
-    spelled(random, length)
+    match random.below(16) {
+        0 => random.pick(KEYS).to_vec(),
+        1 => pick_word(random, "false_|fals|falsee|a|aa|a_|a0|aaaaaaaaaaaaaaaa").to_vec(),
+        _ => spelled(random, length),
+    }
 }
 
 /// A random word of a given length that is spelled as a name.
@@ -89,13 +82,9 @@ pub fn spelled(random: &mut Random, length: usize) -> Vec<u8> {
 
 /// The laws of a description whose names are settled, mostly in random order.
 fn random_laws(random: &mut Random, names: &Description, limit: usize) -> Vec<Law> {
-    let mut laws = Vec::new();
-    if random.chance(1, 12) {
-        return laws;
-    }
-    if random.chance(9, 10) {
-        laws = explaining_laws(random, names, limit);
-    }
+    let limit = if random.chance(1, 12) { 0 } else { limit };
+    let explaining = if random.chance(9, 10) { limit } else { 0 };
+    let mut laws = explaining_laws(random, names, explaining);
     let more = random.below(limit - laws.len() + 1);
     let more = if random.chance(1, 2) { more.min(3) } else { more };
     for _ in 0..more {
@@ -152,11 +141,10 @@ pub fn any_law(random: &mut Random, names: &Description) -> Law {
     let mut list = |symbols: usize| {
         let longest = if random.chance(1, 6) { MAX_LIST } else { 3 };
         let length = random.between(0, longest);
-        (random.chance(1, 2), codes(random, length, 2 * symbols))
+        codes(random, length, 2 * symbols)
     };
-    let (_, ifs) = list(names.fluents.len());
-    let (is_dynamic, after) = list(names.stride());
-    law(head, ifs, is_dynamic.then_some(after))
+    let (ifs, after) = (list(names.fluents.len()), list(names.stride()));
+    law(head, ifs, random.chance(1, 2).then_some(after))
 }
 
 /// So many literals whose codes lie below a limit.

@@ -3,10 +3,8 @@
 use crate::random::Random;
 use oracle::record::{Description, Head, Law};
 
-/// How often a state or a step is tried before a history is left as it is.
-const TRIES: usize = 6;
-/// How often a guess at a state is mended.
-const MENDS: usize = 8;
+/// How often a step is tried, and a guess at a state is mended, before a history is left as it is.
+const TRIES: usize = 8;
 
 fn all_hold(codes: &[u16], truths: &[bool]) -> bool {
     let holds = |code: &u16| truths[usize::from(code / 2)] == code.is_multiple_of(2);
@@ -40,7 +38,7 @@ pub fn explained_values(random: &mut Random, description: &Description) -> Vec<u
 /// A random state, mended until it satisfies the static laws or no try is left.
 pub fn first_state(random: &mut Random, description: &Description) -> Vec<bool> {
     let mut state = truths(random, description.fluents.len());
-    for _ in 0..TRIES * MENDS {
+    for _ in 0..6 * TRIES {
         let broken = |law: &&Law| {
             let head = matches!(law.head, Head::Literal(code) if all_hold(&[code], &state));
             law.after.is_none() && all_hold(&law.ifs, &state) && !head
@@ -56,7 +54,7 @@ pub fn first_state(random: &mut Random, description: &Description) -> Vec<bool> 
 
 /// Changes a guess at the next state towards what the laws cause. True if the guess ends up explained.
 pub fn mend(random: &mut Random, description: &Description, before: &[bool], next: &mut [bool]) -> bool {
-    for _ in 0..MENDS {
+    for _ in 0..TRIES {
         let Some(caused) = caused(description, before, next) else {
             return false;
         };
@@ -91,36 +89,23 @@ fn caused(description: &Description, before: &[bool], next: &[bool]) -> Option<V
     Some(marks)
 }
 
-/// Spoils a history a little: a value turned round, taken away or doubled, at one place or a few; now and then an action
-/// has both values.
-pub fn spoil(random: &mut Random, description: &Description, values: &mut [u8]) {
+/// Spoils a history a little: a value turned round, taken away or doubled, at one place or a few.
+pub fn spoil(random: &mut Random, _description: &Description, values: &mut [u8]) {
     let times = if random.chance(3, 4) { 1 } else { random.between(2, 4) };
     for _ in 0..times {
         let index = random.below(values.len());
         let other = 3 - values[index];
-        values[index] = *random.pick(&[0, 3, other, other, other, other, other, other]);
-    }
-    let actions: Vec<usize> = (0..values.len()).filter(|atom| description.is_action(*atom)).collect();
-    if !actions.is_empty() && random.chance(1, 12) {
-        values[*random.pick(&actions)] = 3;
+        values[index] = *random.pick(&[0, 3, 3, other, other, other, other, other]);
     }
 }
 
-/// Spoils a history by several bad atoms. A text has no way to leave an action without a value.
-pub fn spoil_badly(random: &mut Random, description: &Description, values: &mut [u8]) {
-    put_faults(random, values, |atom| !description.is_action(atom));
-}
-
-/// Leaves some atoms without a value and gives some both, near each other and far apart, in either order. Only atoms that
-/// may lack a value are left without one; there is at least one of these.
+/// Leaves some atoms without a value and gives some both, near each other and far apart, in any order. Only atoms that
+/// may lack a value do; there is one at least.
 pub fn put_faults(random: &mut Random, values: &mut [u8], may_lack: impl Fn(usize) -> bool) {
     let last = values.len() - 1;
     let lacking: Vec<usize> = (0..=last).filter(|atom| may_lack(*atom)).collect();
-    let none = match random.below(5) {
-        0 => lacking[0],
-        1 => lacking[lacking.len() - 1],
-        _ => *random.pick(&lacking),
-    };
+    let any = *random.pick(&lacking);
+    let none = *random.pick(&[lacking[0], lacking[lacking.len() - 1], any, any, any]);
     let anywhere = random.below(values.len());
     let (below, above) = (none.saturating_sub(1), last.min(none + 1));
     let both = *random.pick(&[below, below, above, above, 0, last, anywhere, anywhere]);
@@ -136,15 +121,15 @@ pub fn put_faults(random: &mut Random, values: &mut [u8], may_lack: impl Fn(usiz
 pub fn reorder(random: &mut Random, lists: &mut [Vec<u16>]) {
     for list in lists {
         if random.chance(1, 3) {
-            let more = random.below(3);
-            repeat_literals(random, list, more);
+            repeat_literals(random, list, 3);
             random.shuffle(list);
         }
     }
 }
 
-/// Lists so many of a list's literals once more; of an empty list there is none.
-pub fn repeat_literals(random: &mut Random, list: &mut Vec<u16>, more: usize) {
+/// Lists some of a list's literals, fewer than the limit, once more; of an empty list there is none.
+pub fn repeat_literals(random: &mut Random, list: &mut Vec<u16>, limit: usize) {
+    let more = random.below(limit);
     for _ in 0..more.min(more * list.len()) {
         let again = *random.pick(list);
         list.push(again);

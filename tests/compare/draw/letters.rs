@@ -1,5 +1,4 @@
-//! Capitals brought into a text: names declared in some mix of capitals and spelled anew use by use, and the damage that
-//! goes with them.
+//! Capitals brought into a text: names spelled anew where they are declared and used, and the damage that goes with it.
 
 use super::damage::{edit_lines, keys_from, near_key, parts, pick_line, places, split, KEYS};
 use super::descriptions::pick_word;
@@ -56,24 +55,20 @@ pub fn respelled(random: &mut Random, text: &[u8], lines: Lines, of_four: usize)
     changed.join(&b'\n')
 }
 
-/// Gives the letters of a word capitals in some way: none, the first, all, one other than before, or any.
+/// Spells a word otherwise: without capitals, in capitals, or with the first, any or some letters in the other case.
 fn spell(random: &mut Random, word: &mut [u8]) {
     let letters: Vec<usize> = (0..word.len()).filter(|at| word[*at].is_ascii_alphabetic()).collect();
     let Some(first) = letters.first() else { return };
     match random.below(6) {
         0 => word.make_ascii_lowercase(),
-        1 => {
-            word.make_ascii_lowercase();
-            word[*first].make_ascii_uppercase();
-        }
+        1 => word[*first] ^= 32,
         2 => word.make_ascii_uppercase(),
         3 => word[*random.pick(&letters)] ^= 32,
         _ => letters.iter().for_each(|at| word[*at] ^= 32 * random.below(2) as u8),
     }
 }
 
-/// A name is declared again, a key gets capitals, a byte of a name gives way to one near it, or the word false, in capitals
-/// and with a hyphen now and then, stands for a name or a literal.
+/// A name is declared again, a key gets capitals, a name's byte changes, or false in any case stands for a literal.
 fn put_fault(random: &mut Random, lines: &mut Vec<Vec<u8>>) {
     let sort = *random.pick(&[Lines::Declaring, Lines::Using]);
     let fault = random.below(4);
@@ -99,11 +94,8 @@ fn declare_again(random: &mut Random, lines: &mut Vec<Vec<u8>>, first: usize) {
     let mut later = places(lines, Lines::Declaring.keys());
     later.retain(|at| *at >= first);
     let Some(&last) = later.last() else { return };
-    let at = if random.chance(1, 2) {
-        last
-    } else {
-        *random.pick(&later)
-    };
+    later.extend(vec![last; later.len()]);
+    let at = *random.pick(&later);
     let mut name = parts(&lines[first]).1.to_vec();
     spell(random, &mut name);
     // An action may follow a fluent, but not the other way round.
@@ -112,20 +104,13 @@ fn declare_again(random: &mut Random, lines: &mut Vec<Vec<u8>>, first: usize) {
     lines.insert(at + 1, line(key, &name));
 }
 
-/// A byte of a name is changed by 32, often one that is no letter, or gives way to one that looks like a letter to a
-/// careless reader.
+/// A byte of a name, mostly one that is no letter, is changed by 32 or gives way to one near the letters.
 fn change_byte(random: &mut Random, name: &mut [u8]) {
     let is_other = |at: &usize| name[*at].is_ascii_digit() || name[*at] == b'_';
-    let mut places: Vec<usize> = (0..name.len()).filter(is_other).collect();
-    if places.is_empty() || random.chance(1, 4) {
-        places = (0..name.len()).collect();
-    }
+    let others: Vec<usize> = (0..name.len()).filter(is_other).collect();
+    let places = [(0..name.len()).collect(), others.repeat(3 * name.len())].concat();
     if !places.is_empty() {
         let byte = &mut name[*random.pick(&places)];
-        *byte = if random.chance(2, 3) {
-            *byte ^ 32
-        } else {
-            *random.pick(NEAR_BYTES)
-        };
+        *byte = [*byte ^ 32, *byte ^ 32, *random.pick(NEAR_BYTES)][random.below(3)];
     }
 }

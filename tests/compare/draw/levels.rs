@@ -70,12 +70,13 @@ impl Draft {
         (self.values.clone(), rules.chain(self.tail.iter().copied()).collect())
     }
 
-    /// Any code; of many, mostly one of the last or one where a word of 64 marks ends.
-    fn code(&self, random: &mut Random) -> u16 {
+    /// A code for a rule: its head's complement, as in choices, or any; of many mostly where a word of 64 marks ends.
+    fn code(&self, random: &mut Random, head: u16) -> u16 {
         let codes = 2 * self.values.len();
-        let code = match random.below(4) {
+        let code = match random.below(5) {
             0 if codes > 80 => codes - random.between(1, 8),
             1 | 2 if codes > 80 => (64 * random.between(1, codes / 64) + random.below(4) - 2).min(codes - 1),
+            3 if head != FALSE_HEAD => usize::from(head ^ 1),
             _ => random.below(codes),
         };
         code as u16
@@ -94,7 +95,7 @@ impl Draft {
     fn rule(&self, random: &mut Random, head: u16, fails: bool) -> GroundRule {
         let mut made = GroundRule::new(head, &[], &[]);
         for _ in 0..random.weighted(&[1, 2, 4, 4, 2, 1]) {
-            let part = self.code(random);
+            let part = self.code(random, head);
             let is_below = self.is_below(part, head);
             match self.has(part) {
                 true if is_below => made.plain.push(part),
@@ -103,7 +104,7 @@ impl Draft {
             }
         }
         if fails {
-            let mut parts = (0..20).map(|_| self.code(random));
+            let mut parts = (0..20).map(|_| self.code(random, head));
             match parts.find(|part| self.has(*part) || self.is_below(*part, head)) {
                 Some(part) if self.has(part) => made.negated.push(part),
                 Some(part) => made.plain.push(part),
@@ -135,7 +136,7 @@ impl Draft {
 
     /// Some literal loses its rules, one not in the set gains a rule that holds, false does, or a value is another one.
     fn upset(&mut self, random: &mut Random) {
-        let code = self.code(random);
+        let code = self.code(random, FALSE_HEAD);
         let member = code ^ u16::from(!self.has(code));
         let head = match random.below(7) {
             0 => return self.rules.retain(|rule| rule.head != member),
@@ -313,7 +314,7 @@ pub(super) fn wide(random: &mut Random, least: usize) -> Draft {
         // Then what follows from a literal has higher codes.
         made.levels.sort();
     }
-    if random.chance(1, 6) {
+    if random.chance(1, 4) {
         made.chain();
     } else {
         let empty = if random.chance(1, 3) { random.below(atoms) } else { 0 };
@@ -321,13 +322,13 @@ pub(super) fn wide(random: &mut Random, least: usize) -> Draft {
         let others = random.below((3 * atoms).min(MAX_RULES + 1 - 2 * atoms));
         made.explain(random, others);
         if random.chance(1, 3) {
-            let lowest = made.code(random);
-            let codes = (0..random.between(1, 30)).map(|_| made.code(random));
+            let lowest = made.code(random, FALSE_HEAD);
+            let codes = (0..random.between(1, 30)).map(|_| made.code(random, FALSE_HEAD));
             let members: Vec<u16> = codes.filter(|code| made.has(*code) && *code >= lowest).collect();
             made.put_loops(random, &members);
         }
     }
-    let atom = usize::from(made.code(random) / 2);
+    let atom = usize::from(made.code(random, FALSE_HEAD) / 2);
     match random.below(8) {
         0 | 1 => made.upset(random),
         2 | 3 => made.rules.retain(|rule| usize::from(rule.head / 2) != atom),

@@ -30,14 +30,11 @@ pub fn description_lines(description: &Description) -> Vec<Vec<u8>> {
 /// The same lines, but laws that have a short form may be written so: none of them, all, or law by law at random.
 pub fn mixed_lines(random: &mut Random, description: &Description) -> Vec<Vec<u8>> {
     let short_of_four = *random.pick(&[0, 1, 2, 2, 3, 4]);
-    lines_with(description, |law| mixed_law(random, description, law, short_of_four))
-}
-
-/// The lines of a law that is written short, if it can be, in so many of four cases.
-pub fn mixed_law(random: &mut Random, description: &Description, law: &Law, short_of_four: usize) -> Vec<Vec<u8>> {
-    let forms = forms(description, law);
-    let is_short = forms.len() > 1 && random.chance(short_of_four, 4);
-    random.pick(if is_short { &forms[1..] } else { &forms[..1] }).clone()
+    lines_with(description, |law| {
+        let forms = forms(description, law);
+        let is_short = forms.len() > 1 && random.chance(short_of_four, 4);
+        random.pick(if is_short { &forms[1..] } else { &forms[..1] }).clone()
+    })
 }
 
 /// The lines of a description whose laws are written by the given function.
@@ -86,8 +83,7 @@ pub fn history_lists(description: &Description, values: &[u8]) -> Vec<Vec<u16>> 
     lists
 }
 
-/// The lists of a history of which an act line may leave out what was not done: nothing of it, all in some lines, some in
-/// any line, or all. A reader takes them for the same values.
+/// The same lists, but act lines may leave out what was not done: none of it, all in some lines, some in any, or all.
 pub fn log_lists(random: &mut Random, description: &Description, values: &[u8]) -> Vec<Vec<u16>> {
     let (lines_of_two, literals_of_two) = *random.pick(&[(0, 2), (1, 2), (2, 1), (2, 2)]);
     let mut lists = history_lists(description, values);
@@ -134,62 +130,47 @@ pub fn history_text(description: &Description, values: &[u8]) -> Vec<u8> {
 
 #[cfg(test)]
 mod tests {
-    use super::super::damage::{keys_from, parts};
-    use super::super::descriptions::{description, size};
+    use super::super::{damage::keys_from, damage::parts, descriptions::description};
     use super::*;
-    use oracle::description::read_description;
-    use oracle::history::read_lines;
-    use oracle::{Refusal, MAX_LAWS};
+    use oracle::{description::read_description, history::filled, history::read_lines, Refusal, MAX_LAWS};
 
-    /// Tries something on random descriptions.
-    fn on_descriptions(seed: u64, mut test: impl FnMut(&mut Random, Description)) {
-        let mut random = Random::new(seed);
+    /// Tries something on random descriptions and their lines.
+    fn on_descriptions(test: fn(&mut Random, Description, Vec<Vec<u8>>)) {
+        let mut random = Random::new(5);
         for _ in 0..2_000 {
-            let size = size(&mut random);
-            let made = description(&mut random, size);
-            test(&mut random, made);
+            let made = description(&mut random, None);
+            let lines = mixed_lines(&mut random, &made);
+            test(&mut random, made, lines);
         }
     }
 
     #[test]
     fn what_is_written_short_is_read_back() {
-        let mut short = 0;
-        on_descriptions(5, |random, mut made| {
-            let lines = mixed_lines(random, &made);
-            short += usize::from(lines.len() < description_lines(&made).len());
-            let text = join(&lines);
-            (made.length, made.lines) = (text.len(), lines.len());
-            assert_eq!(read_description(&text, MAX_LAWS), Ok(made));
+        on_descriptions(|_, mut made, lines| {
+            (made.length, made.lines) = (join(&lines).len(), lines.len());
+            assert_eq!(read_description(&join(&lines), MAX_LAWS), Ok(made));
         });
-        assert!(short > 1_000, "{short}");
     }
 
     /// A text has no way to say that an action is without a value; all other values are read back.
     #[test]
     fn what_is_listed_or_left_out_is_read_back() {
-        on_descriptions(8, |random, made| {
+        on_descriptions(|random, made, _| {
             let values: Vec<u8> = (0..made.atoms()).map(|_| random.below(4) as u8).collect();
-            let absent_is_false = |atom: usize| match values[atom] {
-                0 if made.is_action(atom) => 2,
-                value => value,
-            };
-            let wanted: Vec<u8> = (0..made.atoms()).map(absent_is_false).collect();
-            let log = join(&log_lines(random, &made, &values));
-            for text in [log, history_text(&made, &values)] {
-                assert_eq!(read_lines(&made, &text), Ok(wanted.clone()));
+            for text in [history_text(&made, &values), join(&log_lines(random, &made, &values))] {
+                assert_eq!(read_lines(&made, &text), Ok(filled(&made, &values)));
             }
         });
     }
 
     #[test]
     fn a_shorter_run_is_refused_where_the_next_law_starts() {
-        on_descriptions(6, |random, made| {
-            let lines = mixed_lines(random, &made);
+        on_descriptions(|random, made, lines| {
             let starts_law = |key: &[u8]| keys_from(b"static").contains(&key) && key != b"by";
             let starts = (1..=lines.len()).filter(|at| starts_law(parts(&lines[at - 1]).0));
-            let run = random.below(made.laws.len() + 1);
             let refusals: Vec<Refusal> = starts.map(|place| Refusal::new(5, place)).collect();
             assert_eq!(refusals.len(), made.laws.len());
+            let run = random.below(made.laws.len() + 1);
             let read = read_description(&join(&lines), run);
             assert_eq!(read.err().as_ref(), refusals.get(run));
         });

@@ -194,14 +194,13 @@ mod tests {
     use oracle::header::{meaning, Answer};
     use std::collections::BTreeMap;
 
-    /// Answers that must come often, by words or numbers of refusals. Behind them stands `last` if the value is 65535,
-    /// and `high` if it is another from 1,024 on.
-    const OFTEN: [(&str, &str); 5] = [
-        ("check_set", "passes,clash,broken,unfounded,10 high,11,12"),
-        ("check_completion", "holds,fails,fails last,missing,clash,10 high,11,12"),
-        ("check_by_levels", "holds,fails,fails last,missing,clash,12,13,13 last"),
-        ("wide check_set", "passes,clash,broken,unfounded,unfounded high"),
-        ("wide check_completion", "holds,fails,fails last,missing,clash"),
+    /// Answers that must come so often; `last` stands for the value 65535, `high` for any other from 1,024 on.
+    const OFTEN: [(&str, usize, &str); 5] = [
+        ("check_set", 300, "passes,clash,broken,unfounded,10 high,11,12"),
+        ("check_completion", 300, "holds,fails,fails last,missing,clash,11,12"),
+        ("check_by_levels", 300, "holds,fails,fails last,missing,12,13,13 last"),
+        ("wide check_set", 12, "passes,clash,broken,unfounded,unfounded high"),
+        ("wide check_completion", 12, "holds,fails,fails last,missing"),
     ];
 
     /// The answers to a list in such words.
@@ -230,8 +229,9 @@ mod tests {
         let count = |label: &str| seen.get(label).copied().unwrap_or(0);
         let kinds = [KINDS.map(|kind| kind.0), levels::KINDS.map(|kind| kind.0)].concat();
         assert!(kinds.iter().all(|kind| count(kind) >= 5), "{seen:#?}");
-        let comes = |call: &str, word: &str| count(&format!("{call} {word}")) >= 20;
-        let all_come = |(call, words): &(&str, &str)| words.split(',').all(|word| comes(call, word));
+        let comes = |call: &str, least: usize, word: &str| count(&format!("{call} {word}")) >= least;
+        let all_come =
+            |(call, least, words): &(&str, usize, &str)| words.split(',').all(|word| comes(call, *least, word));
         assert!(OFTEN.iter().all(all_come), "{seen:#?}");
     }
 }
