@@ -1,149 +1,117 @@
 """Stored inputs for short laws: default, inertial, causes with by, and nonexecutable."""
-from recipes import PASSING, SHORT, SHORT_RECIPE, history, still, swapped
+from recipes import M1_TO_M5, SHORT_RECIPE, each, gathered, inputs, lines, still, swapped
+
+# What each law stands for, short and long laws in one description, and names that are spelled as the keys.
+TAKEN = inputs("short_passes | short_recipe" + M1_TO_M5.format("short_", "short") + """
+    let door = horizon=1/fluent=closed/action=open/default=closed/causes=-closed/by=open/end=/
+    default_kept | door | closed | -open | closed
+    default_comes_back | door | -closed | -open | closed
+    default_gives_way | door | closed | open | -closed
+    default_one_way_only | door | -closed | -open | -closed
+    let stays = horizon=1/fluent=p/action=a/inertial=p/inertial=-p/causes=-p/by=a/end=/
+    inertial_gives_way | stays | p | a | -p
+    inertial_no_cause | stays | -p | -a | p
+    inertial_contradicted | stays | p | a | p
+    let follows = horizon=1/fluent=p/fluent=q/causes=q/by=p/causes=-q/by=-p,-p/default=p/default=-p/end=/
+    by_in_the_old_state | follows | p,-q | | -p,q
+    by_not_in_the_new_state | follows | p,-q | | -p,-q
+    let nothing = horizon=1/fluent=p/causes=p/by=/end=/
+    by_empty | nothing | -p | | p
+    by_empty_contradicted | nothing | p | | -p
+    let bans = horizon=1/fluent=p/action=a/nonexecutable=a,-p/causes=false/by=a,p,p,-p/inertial=p/inertial=-p/end=/
+    nonexecutable_not_done | bans | -p | -a | -p
+    nonexecutable_done | bans | -p | a | -p
+    nonexecutable_elsewhere | bans | p | a | p
+    nonexecutable_empty | lawless | end=/ -> nonexecutable=/end=/
+    causes_false | short_recipe | nonexecutable=reflow,locked/ -> causes=false/by=reflow,locked/
+    mixed_long_first | short_recipe | causes=flowed/by=reflow/ -> dynamic=flowed/if=/after=reflow/
+    mixed_long_between | short_recipe | inertial=locked/ -> dynamic=locked/if=locked/after=locked/
+    mixed_long_last | short_recipe | inertial=-flowed/ -> dynamic=-flowed/if=-flowed/after=-flowed/
+    mixed_static_between | short_recipe | inertial=locked/ -> inertial=locked/static=flowed/if=flowed/
+    short_and_long_again | again | inertial=locked/ -> inertial=locked/dynamic=locked/if=locked/after=locked/
+    let behind = horizon=1/fluent=p/default=p/end=/
+    short_behind_fluents | behind | p | | p
+    names_as_short_keys | named | default,-inertial,-by | causes,-nonexecutable | default,-inertial,by
+    names_as_short_keys_broken | named | default,-inertial,by | causes,nonexecutable | default,-inertial,by
+    """, lawless=still(1, 1, 1), again=SHORT_RECIPE.replace("inertial=locked\n", "inertial=locked\n" * 2),
+               named=lines("horizon=1/fluent=default/fluent=inertial/fluent=by/action=causes/action=nonexecutable/"
+                           "default=default/inertial=inertial/inertial=-inertial/causes=by/by=causes/"
+                           "nonexecutable=nonexecutable,by/end=/"))
 
 # A good law by each first key, over fluent f0 and action a0.
-GOOD = {
-    "default": "default=f0\n",
-    "inertial": "inertial=-f0\n",
-    "causes": "causes=f0\nby=a0\n",
-    "nonexecutable": "nonexecutable=a0,f0\n",
-}
-
-
-def lawful(laws):
-    """A recipe of fluent f0 and action a0 with these laws, in which nothing happens."""
-    return still(1, 1, 1, laws)
-
-
-def edited(new, old="inertial=locked\n"):
-    """The short recipe with the lines of one law replaced; lines 5 to 11 hold its laws."""
-    return swapped(old, new, SHORT_RECIPE)
-
-
-def taken():
-    """Short laws that are taken: the full recipe and M1 to M5, and what each law stands for."""
-    stays = "horizon=1\nfluent=p\naction=a\ninertial=p\ninertial=-p\ncauses=-p\nby=a\nend=\n"
-    door = "horizon=1\nfluent=closed\naction=open\ndefault=closed\ncauses=-closed\nby=open\nend=\n"
-    follows = "horizon=1\nfluent=p\nfluent=q\ncauses=q\nby=p\ncauses=-q\nby=-p,-p\ndefault=p\ndefault=-p\nend=\n"
-    bans = "horizon=1\nfluent=p\naction=a\nnonexecutable=a,-p\ncauses=false\nby=a,p,p,-p\ninertial=p\ninertial=-p\nend=\n"
-    nothing = "horizon=1\nfluent=p\ncauses=p\nby=\nend=\n"
-    return {
-        "short_passes": SHORT_RECIPE,
-        "short_m1": SHORT + history("locked,-flowed", "reflow", "locked,flowed"),
-        "short_m2": SHORT + history("-locked,-flowed", "-reflow", "-locked,flowed"),
-        "short_m3": SHORT + history("locked,-flowed", "-reflow", "-locked,-flowed"),
-        "short_m4": SHORT + history("-locked", "reflow", "-locked,flowed"),
-        "short_m5": SHORT + history("-locked,locked,-flowed", "reflow", "-locked,flowed"),
-        "default_kept": door + history("closed", "-open", "closed"),
-        "default_comes_back": door + history("-closed", "-open", "closed"),
-        "default_gives_way": door + history("closed", "open", "-closed"),
-        "default_one_way_only": door + history("-closed", "-open", "-closed"),
-        "inertial_gives_way": stays + history("p", "a", "-p"),
-        "inertial_no_cause": stays + history("-p", "-a", "p"),
-        "inertial_contradicted": stays + history("p", "a", "p"),
-        "by_in_the_old_state": follows + history("p,-q", "", "-p,q"),
-        "by_not_in_the_new_state": follows + history("p,-q", "", "-p,-q"),
-        "by_empty": nothing + history("-p", "", "p"),
-        "by_empty_contradicted": nothing + history("p", "", "-p"),
-        "nonexecutable_not_done": bans + history("-p", "-a", "-p"),
-        "nonexecutable_done": bans + history("-p", "a", "-p"),
-        "nonexecutable_elsewhere": bans + history("p", "a", "p"),
-        "nonexecutable_empty": lawful("nonexecutable=\n"),
-        "causes_false": edited("causes=false\nby=reflow,locked\n", "nonexecutable=reflow,locked\n"),
-    }
-
-
-def mixed():
-    """Short and long laws in one description, laws written twice, and names that are spelled as the keys."""
-    lines = "causes=flowed\nby=reflow\n"
-    named = "horizon=1\nfluent=default\nfluent=inertial\nfluent=by\naction=causes\naction=nonexecutable\n"
-    named += "default=default\ninertial=inertial\ninertial=-inertial\ncauses=by\nby=causes\n"
-    named += "nonexecutable=nonexecutable,by\nend=\n"
-    return {
-        "mixed_long_first": edited("dynamic=flowed\nif=\nafter=reflow\n", lines),
-        "mixed_long_between": edited("dynamic=locked\nif=locked\nafter=locked\n"),
-        "mixed_long_last": edited("dynamic=-flowed\nif=-flowed\nafter=-flowed\n", "inertial=-flowed\n"),
-        "mixed_static_between": edited("inertial=locked\nstatic=flowed\nif=flowed\n"),
-        "short_and_long_again": edited("inertial=locked\ndynamic=locked\nif=locked\nafter=locked\ninertial=locked\n"),
-        "short_behind_fluents": "horizon=1\nfluent=p\ndefault=p\nend=\n" + history("p", "", "p"),
-        "names_as_short_keys": named + history("default,-inertial,-by", "causes,-nonexecutable", "default,-inertial,by"),
-        "names_as_short_keys_broken": named
-        + history("default,-inertial,by", "causes,nonexecutable", "default,-inertial,by"),
-    }
+GOOD = "default=f0/ inertial=-f0/ causes=f0/by=a0/ nonexecutable=a0,f0/".split()
 
 
 def limits():
-    """64 and 65 laws by each short form, and lists of six and seven literals."""
-    cases = {}
-    long = "static=f0\nif=f0\n"
-    for key, law in GOOD.items():
-        cases |= {f"{key}_laws_{n}": lawful(law * n) for n in (64, 65)}
-        cases[f"{key}_as_64th"] = lawful(long * 63 + law)
-        cases[f"{key}_as_65th"] = lawful(long * 64 + law)
-        cases[f"{key}_garbage_as_64th"] = lawful(long * 63 + f"{key}=garbage\n")
-        cases[f"{key}_garbage_as_65th"] = lawful(long * 64 + f"{key}=garbage\n")
-        cases[f"static_behind_64_{key}"] = lawful(law * 64 + long)
-    all_four = "".join(GOOD.values())
-    cases |= {"short_laws_64": lawful(all_four * 16), "short_laws_65": lawful(all_four * 16 + "default=f0\n")}
-    cases["by_behind_64_laws"] = lawful(all_four * 16 + "by=a0\n")
-    cases["nonexecutable_seven_as_65th"] = lawful(long * 64 + "nonexecutable=f0,f0,f0,f0,f0,f0,f0\n")
-    cases["default_false_as_65th"] = lawful(long * 64 + "default=false\n")
-    six = "f0,a0,-f0,-a0,f0,a0"
-    for key, start in (("by", "causes=f0\nby="), ("nonexecutable", "nonexecutable=")):
-        cases[f"{key}_literals_6"] = lawful(f"{start}{six}\n")
-        cases[f"{key}_literals_7"] = lawful(f"{start}{six},f0\n")
-        cases[f"{key}_five_before_six"] = lawful(f"{start}{six},garbage\n")
-        cases[f"{key}_six_before_the_seventh"] = lawful(f"{start}f0,garbage,{six}\n")
-        cases[f"{key}_comma_behind_six"] = lawful(f"{start}{six},\n")
-    return cases
+    """64 and 65 laws by each short form, and lists of six and seven literals; the laws of each input."""
+    laws = {}
+    long, all_four, six = "static=f0/if=f0/", "".join(GOOD), "f0,a0,-f0,-a0,f0,a0"
+    for law in GOOD:
+        key = law.split("=")[0]
+        laws |= {f"{key}_laws_{n}": law * n for n in (64, 65)}
+        laws |= {f"{key}_as_{n}th": long * (n - 1) + law for n in (64, 65)}
+        laws |= {f"{key}_garbage_as_{n}th": long * (n - 1) + f"{key}=garbage/" for n in (64, 65)}
+        laws[f"static_behind_64_{key}"] = law * 64 + long
+    behind = {"short_laws_64": "", "short_laws_65": "default=f0/", "by_behind_64_laws": "by=a0/"}
+    laws |= {name: all_four * 16 + law for name, law in behind.items()}
+    laws["nonexecutable_seven_as_65th"] = long * 64 + "nonexecutable=f0,f0,f0,f0,f0,f0,f0/"
+    laws["default_false_as_65th"] = long * 64 + "default=false/"
+    for key, start in (("by", "causes=f0/by="), ("nonexecutable", "nonexecutable=")):
+        laws |= {f"{key}_literals_6": f"{start}{six}/", f"{key}_literals_7": f"{start}{six},f0/"}
+        laws[f"{key}_five_before_six"] = f"{start}{six},garbage/"
+        laws[f"{key}_six_before_the_seventh"] = f"{start}f0,garbage,{six}/"
+        laws[f"{key}_comma_behind_six"] = f"{start}{six},/"
+    return laws
 
 
 def values():
-    """Values that are no literal, or none of the allowed sort."""
+    """Values that are no literal, or none of the allowed sort; the lines of each law."""
     bad = {"unknown": "flown", "empty": "", "action": "reflow", "not_false": "-false", "list": "locked,flowed",
            "two_hyphens": "--locked"}
-    cases = {}
-    for key, behind in (("default", ""), ("inertial", ""), ("causes", "by=reflow\n")):
-        cases |= {f"{key}_{label}": edited(f"{key}={value}\n{behind}") for label, value in bad.items()}
-    cases |= {f"{key}_false": edited(f"{key}=false\n") for key in ("default", "inertial")}
-    lists = {"unknown": "reflow,flown", "false": "false", "empty_item": "reflow,,locked", "last_comma": "reflow,"}
-    lists |= {"first_comma": ",reflow", "two_hyphens": "--reflow"}
-    for key, start in (("by", "causes=flowed\nby="), ("nonexecutable", "nonexecutable=")):
-        cases |= {f"{key}_{label}": edited(f"{start}{value}\n") for label, value in lists.items()}
-    cases["causes_before_a_missing_by"] = edited("causes=flown\nafter=reflow\n")
-    cases["causes_before_by"] = edited("causes=flown\nby=flown\n")
-    return cases
+    laws = {}
+    for key, behind in (("default", ""), ("inertial", ""), ("causes", "by=reflow/")):
+        laws |= {f"{key}_{label}": f"{key}={value}/{behind}" for label, value in bad.items()}
+    laws |= {f"{key}_false": f"{key}=false/" for key in ("default", "inertial")}
+    lists = {"unknown": "reflow,flown", "false": "false", "empty_item": "reflow,,locked", "last_comma": "reflow,",
+             "first_comma": ",reflow", "two_hyphens": "--reflow"}
+    for key, start in (("by", "causes=flowed/by="), ("nonexecutable", "nonexecutable=")):
+        laws |= {f"{key}_{label}": f"{start}{value}/" for label, value in lists.items()}
+    laws["causes_before_a_missing_by"] = "causes=flown/after=reflow/"
+    return laws | {"causes_before_by": "causes=flown/by=flown/"}
 
 
-def places():
-    """Keys of short laws where they are not allowed, and others where by is due."""
-    cases = {}
-    for key in ("default", "inertial", "causes", "by", "nonexecutable"):
-        line = f"{key}=locked\n"
-        cases[f"{key}_first"] = line + SHORT_RECIPE
-        cases[f"{key}_before_the_fluents"] = edited(f"horizon=1\n{line}", "horizon=1\n")
-        cases[f"{key}_for_if"] = edited(f"dynamic=locked\n{line}after=locked\n")
-        cases[f"{key}_for_after"] = edited(f"dynamic=locked\nif=locked\n{line}")
-        cases[f"{key}_for_state"] = SHORT + line + PASSING
-        cases[f"{key}_in_capitals"] = edited(f"{key.capitalize()}=locked\n")
-        cases[f"{key}_cut"] = edited(f"{key[:-1]}=locked\n")
-    for line in ("after=reflow\n", "if=\n", "causes=flowed\nby=reflow\n", "default=flowed\n", "action=late\n",
-                 "dynamic=flowed\nif=\nafter=\n"):
-        cases[f"{line[: line.index('=')]}_for_by"] = edited(line, "by=reflow\n")
-    cases["end_for_by"] = SHORT[: SHORT.index("by=")] + "end=\n" + PASSING
-    cases["nothing_for_by"] = SHORT[: SHORT.index("by=")]
-    cases["by_without_line_end"] = SHORT[: SHORT.index("by=")] + "by=reflow"
-    cases["short_key_with_a_letter_more"] = edited("defaults=locked\n")
-    cases["short_key_without_equals_sign"] = edited("inertiallocked\n")
-    cases["by_alone"] = edited("by=reflow\n")
-    cases["by_twice"] = edited("by=reflow\nby=reflow\n", "by=reflow\n")
-    cases["if_behind_causes_and_by"] = edited("by=reflow\nif=\n", "by=reflow\n")
-    for key in ("default", "inertial", "nonexecutable"):
-        cases[f"by_behind_{key}"] = edited(f"{key}=locked\nby=reflow\n")
-        cases[f"action_behind_{key}"] = edited(f"{key}=locked\naction=late\n")
-        cases[f"fluent_behind_{key}"] = edited(f"{key}=locked\nfluent=late\n")
-    return cases
+# Keys of short laws where they are not allowed.
+MISPLACED = """
+    {0}_first | short_recipe | horizon=1/ -> {0}=locked/horizon=1/
+    {0}_before_the_fluents | short_recipe | horizon=1/ -> horizon=1/{0}=locked/
+    {0}_for_if | short_recipe | inertial=locked/ -> dynamic=locked/{0}=locked/after=locked/
+    {0}_for_after | short_recipe | inertial=locked/ -> dynamic=locked/if=locked/{0}=locked/
+    {0}_for_state | short_recipe | end=/ -> end=/{0}=locked/
+    {0}_in_capitals | short_recipe | inertial=locked/ -> {1}=locked/
+    {0}_cut | short_recipe | inertial=locked/ -> {2}=locked/"""
+# Others where by is due, and by where it is not.
+FOR_BY = "after=reflow/ if=/ causes=flowed/by=reflow/ default=flowed/ action=late/ dynamic=flowed/if=/after=/".split()
+BY = """
+    end_for_by | start | causes=flowed/ -> causes=flowed/end=/ | -locked,-flowed | reflow | -locked,flowed
+    nothing_for_by | start
+    by_without_line_end | start | causes=flowed/ -> causes=flowed/by=reflow
+    short_key_with_a_letter_more | short_recipe | inertial=locked/ -> defaults=locked/
+    short_key_without_equals_sign | short_recipe | inertial=locked/ -> inertiallocked/
+    by_alone | short_recipe | inertial=locked/ -> by=reflow/
+    by_twice | short_recipe | by=reflow/ -> by=reflow/by=reflow/
+    if_behind_causes_and_by | short_recipe | by=reflow/ -> by=reflow/if=/"""
+BEHIND = """
+    by_behind_{0} | short_recipe | inertial=locked/ -> {0}=locked/by=reflow/
+    action_behind_{0} | short_recipe | inertial=locked/ -> {0}=locked/action=late/
+    fluent_behind_{0} | short_recipe | inertial=locked/ -> {0}=locked/fluent=late/"""
 
-
-def cases():
-    return taken() | mixed() | limits() | values() | places()
+CASES = gathered(
+    TAKEN,
+    {name: still(1, 1, 1, lines(laws)) for name, laws in limits().items()},
+    {name: swapped("inertial=locked\n", lines(law), SHORT_RECIPE) for name, law in values().items()},
+    each(MISPLACED, "default Default defaul", "inertial Inertial inertia", "causes Causes cause", "by By b",
+         "nonexecutable Nonexecutable nonexecutabl"),
+    {line.split("=")[0] + "_for_by": swapped("by=reflow\n", lines(line), SHORT_RECIPE) for line in FOR_BY},
+    inputs(BY, start=SHORT_RECIPE[: SHORT_RECIPE.index("by=")]),
+    each(BEHIND, "default", "inertial", "nonexecutable"),
+)
