@@ -1,14 +1,16 @@
-"""Descriptions and histories in action language C, their text, and the two
-translations the comparison needs: the program in the solver's own language,
-and the same rules counted and coded as the contract counts and codes them.
+"""Descriptions and histories in action language C: their text, the program in clingo's own language, and the same rules
+counted and coded as the contract counts and codes them.
 
-A literal of fluent f has code 2f or 2f+1 (negative), one of action k has code
-2(n+k) or 2(n+k)+1, where n is the number of fluents.
+With n fluents and m actions a literal of fluent f has code 2f, one of action k 2(n+k), the negative literal one more;
+at time t a literal has a code higher by 2t(n+m). The complement of a literal is got by changing the lowest bit.
 """
 
-from typing import NamedTuple, Optional, Tuple
+from typing import Dict, NamedTuple, Optional, Tuple
 
 FALSE_HEAD = 65535
+
+# Bytes 65 to 90, the capitals A to Z, go to the letters a to z; no other sign is changed.
+LOWERING = {code: code + 32 for code in range(65, 91)}
 
 
 class Law(NamedTuple):
@@ -19,19 +21,24 @@ class Law(NamedTuple):
 
 
 class Description(NamedTuple):
-    fluents: Tuple[str, ...]
+    fluents: Tuple[str, ...]  # as declared
     actions: Tuple[str, ...]
     laws: Tuple[Law, ...]
     horizon: int
 
+    @property
+    def width(self):
+        """The number of literals of one time."""
+        return 2 * (len(self.fluents) + len(self.actions))
 
-# Bytes 65 to 90, the capitals A to Z, go to the letters a to z; no other sign is changed.
-LOWERING = {code: code + 32 for code in range(65, 91)}
+    @property
+    def fluent_width(self):
+        """The number of literals of fluents of one time; those of actions come behind."""
+        return 2 * len(self.fluents)
 
-
-def lowered(word):
-    """The spelling that two spellings of one name have in common."""
-    return word.translate(LOWERING)
+    def last_time(self, code):
+        """The last time at which a literal has an atom."""
+        return self.horizon - (code >= self.fluent_width)
 
 
 class History(NamedTuple):
@@ -39,72 +46,49 @@ class History(NamedTuple):
     acts: Tuple[Tuple[int, ...], ...]  # what is absent was not done
 
 
-# ---------------------------------------------------------------- text
+class Program(NamedTuple):
+    """Ground rules (head, negated parts, plain parts) in their stated order, all literal codes over atoms."""
+
+    atoms: int
+    rules: Tuple[Tuple[int, Tuple[int, ...], Tuple[int, ...]], ...]
+    plain: str  # the rules in clingo's language
+    literals: Dict[str, int]  # each literal there, with its code, lowest first
+    description: Optional[Description] = None  # what was translated; a missing value is a fault then
+
+    def words(self):
+        """The rules as the table's words."""
+        return [word for head, negated, plain in self.rules
+                for word in (head, len(negated), len(plain), *negated, *plain)]
 
 
-def literal_text(description, code):
-    names = description.fluents + description.actions
-    return ("-" if code % 2 else "") + names[code // 2]
+def lowered(word):
+    """The spelling that two spellings of one name have in common."""
+    return word.translate(LOWERING)
+
+
+# ---------------------------------------------------------------- writing
 
 
 def list_text(description, codes):
-    return ",".join(literal_text(description, code) for code in codes)
-
-
-def long_lines(description, law):
-    """A law written out: the lines static, if, or the lines dynamic, if, after."""
-    lines = [("dynamic=" if law.dynamic else "static=") + head_text(description, law)]
-    lines.append("if=" + list_text(description, law.if_list))
-    if law.dynamic:
-        lines.append("after=" + list_text(description, law.after_list))
-    return lines
-
-
-def head_text(description, law):
-    return "false" if law.head is None else literal_text(description, law.head)
+    names = description.fluents + description.actions
+    return ",".join(("-" if code % 2 else "") + names[code // 2] for code in codes)
 
 
 def law_forms(description, law):
     """All ways to write a law: written out, then the short ones it has."""
-    forms, head = [long_lines(description, law)], head_text(description, law)
-    after = list_text(description, law.after_list)
-    if law.head is not None and law.if_list == (law.head,):
-        if not law.dynamic:
-            forms.append(["default=" + head])
-        elif law.after_list == (law.head,):
-            forms.append(["inertial=" + head])
+    head = "false" if law.head is None else list_text(description, (law.head,))
+    condition, after = list_text(description, law.if_list), list_text(description, law.after_list)
+    if not law.dynamic:
+        forms = [["static=" + head, "if=" + condition]]
+    else:
+        forms = [["dynamic=" + head, "if=" + condition, "after=" + after]]
+    if law.if_list == (law.head,) and law.after_list == law.if_list * law.dynamic:
+        forms.append([("inertial=" if law.dynamic else "default=") + head])
     if law.dynamic and not law.if_list:
         forms.append(["causes=" + head, "by=" + after])
         if law.head is None:
             forms.append(["nonexecutable=" + after])
     return forms
-
-
-# A spelling takes the ways to write a law and picks one of them.
-
-
-def written_out(forms):
-    return forms[0]
-
-
-def written_short(forms):
-    return forms[-1]
-
-
-def mixed_spelling(rng):
-    """Laws are written short by turns of chance, in some texts all or none."""
-    share = rng.choice([0.0, 0.3, 0.5, 0.7, 1.0])
-
-    def spelling(forms):
-        return rng.choice(forms[1:]) if forms[1:] and rng.random() < share else forms[0]
-    return spelling
-
-
-# Letters take a word, a name or false, as it is used once and give it capitals or take them.
-
-
-def as_declared(word):
-    return word
 
 
 def some_capitals(rng, word):
@@ -115,69 +99,70 @@ def some_capitals(rng, word):
     return "".join(rng.choice((sign.lower(), sign.upper())) for sign in word)
 
 
-def mixed_letters(rng):
-    """Words are spelled anew by turns of chance, in some texts all or none."""
-    share = rng.choice([0.0, 0.5, 0.9, 1.0])
+class Writer:
+    """Writes laws short, and words where they are used in other letters, by chance; in some texts all or none."""
 
-    def letters(word):
-        return some_capitals(rng, word) if rng.random() < share else word
-    return letters
+    def __init__(self, rng):
+        self.rng = rng
+        self.short, self.respelled = rng.choice([0.0, 0.3, 0.5, 0.7, 1.0]), rng.choice([0.0, 0.5, 0.9, 1.0])
+
+    def law_lines(self, forms):
+        return self.rng.choice(forms[1:]) if forms[1:] and self.rng.random() < self.short else forms[0]
+
+    def item(self, item):
+        name = item.removeprefix("-")
+        spelled = some_capitals(self.rng, name) if name and self.rng.random() < self.respelled else name
+        return item[:len(item) - len(name)] + spelled
+
+    def line(self, line):
+        key, _, value = line.partition("=")
+        return key + "=" + ",".join(map(self.item, value.split(",")))
+
+    def recipe_text(self, description, history):
+        """The description and the history as the product's reader takes them."""
+        declared = ["fluent=" + name for name in description.fluents]
+        declared += ["action=" + name for name in description.actions]
+        lines = [line for law in description.laws for line in self.law_lines(law_forms(description, law))] + ["end="]
+        for state, act in zip(history.states, history.acts):
+            lines += ["state=" + list_text(description, state), "act=" + list_text(description, act)]
+        lines += ["state=" + list_text(description, history.states[-1]), "end="]
+        return "\n".join(["horizon=%d" % description.horizon, *declared, *map(self.line, lines)]) + "\n"
 
 
-def spelled_line(line, letters):
-    """A line with each name in its list, or the word false, in its own letters."""
-    key, _, value = line.partition("=")
-    items = [item[:1] + letters(item[1:]) if item.startswith("-") else letters(item)
-             for item in value.split(",")]
-    return key + "=" + ",".join(items)
-
-
-def recipe_text(description, history, spelling=written_out, letters=as_declared):
-    """The description and the history as the product's reader takes them."""
-    names = ["fluent=" + name for name in description.fluents]
-    names += ["action=" + name for name in description.actions]
-    lines = []
-    for law in description.laws:
-        lines += spelling(law_forms(description, law))
-    lines.append("end=")
-    for time, state in enumerate(history.states):
-        lines.append("state=" + list_text(description, state))
-        if time < len(history.acts):
-            lines.append("act=" + list_text(description, history.acts[time]))
-    lines.append("end=")
-    lines = [spelled_line(line, letters) for line in lines]
-    return "\n".join(["horizon=%d" % description.horizon] + names + lines) + "\n"
+# ---------------------------------------------------------------- reading
 
 
 class RecipeLines:
-    """The lines of a well-formed recipe text, taken one after another."""
+    """The lines of a well-formed recipe, or of a description with anything behind it, taken one after another."""
 
     def __init__(self, text):
-        self.pairs = [line.split("=", 1) for line in text.splitlines() if line]
-        self.names = []  # lowered
+        self.pairs = [line.partition("=")[::2] for line in text.split("\n")]
+        self.place = 0
+        self.names = {}  # lowered, with the code of the positive literal
 
     def next_key(self):
-        return self.pairs[0][0] if self.pairs else ""
+        return self.pairs[self.place][0]
 
     def take(self, key):
         if self.next_key() != key:
             raise ValueError("expected %s=, found %s=" % (key, self.next_key()))
-        return self.pairs.pop(0)[1]
+        self.place += 1
+        return self.pairs[self.place - 1][1]
 
     def take_names(self, key):
-        found = []
+        first = self.place
         while self.next_key() == key:
-            found.append(self.take(key))
-        self.names += map(lowered, found)
-        return tuple(found)
+            self.names[lowered(self.take(key))] = 2 * len(self.names)
+        return tuple(value for _, value in self.pairs[first:self.place])
 
     def literal(self, word):
-        negative = word.startswith("-")
-        return 2 * self.names.index(lowered(word[negative:])) + negative
+        name = lowered(word.removeprefix("-"))
+        if name not in self.names:
+            raise ValueError("%s is not declared" % name)
+        return self.names[name] + word.startswith("-")
 
     def take_list(self, key):
-        value = self.take(key)
-        return tuple(self.literal(word) for word in value.split(",") if word)
+        return tuple(self.literal(word) for word in self.take(key).split(",") if word)
 
     def take_head(self, key):
         word = self.take(key)
@@ -189,191 +174,131 @@ class RecipeLines:
             return Law(False, self.take_head(key), self.take_list("if"))
         if key == "dynamic":
             return Law(True, self.take_head(key), self.take_list("if"), self.take_list("after"))
-        return self.take_short_law(key)
-
-    def take_short_law(self, key):
-        if key == "nonexecutable":
-            return Law(True, None, (), self.take_list(key))
         if key == "causes":
             return Law(True, self.take_head(key), (), self.take_list("by"))
+        if key == "nonexecutable":
+            return Law(True, None, (), self.take_list(key))
         if key not in ("default", "inertial"):
             raise ValueError("expected a law, found %s=" % key)
-        code = self.literal(self.take(key))
-        if key == "default":
-            return Law(False, code, (code,))
-        return Law(True, code, (code,), (code,))
+        codes = (self.literal(self.take(key)),)
+        return Law(key == "inertial", codes[0], codes, codes if key == "inertial" else ())
+
+    def take_description(self):
+        horizon = int(self.take("horizon"))
+        fluents, actions = self.take_names("fluent"), self.take_names("action")
+        laws = []
+        while self.next_key() != "end":
+            laws.append(self.take_law())
+        self.take("end")
+        return Description(fluents, actions, tuple(laws), horizon)
+
+    def take_history(self, horizon):
+        lists = [self.take_list("act" if place % 2 else "state") for place in range(2 * horizon + 1)]
+        self.take("end")
+        return History(tuple(lists[0::2]), tuple(lists[1::2]))
 
 
 def read_recipe(text):
     """Reads a well-formed recipe; it judges no faulty text."""
     lines = RecipeLines(text)
-    horizon = int(lines.take("horizon"))
-    fluents, actions = lines.take_names("fluent"), lines.take_names("action")
-    laws = []
-    while lines.next_key() != "end":
-        laws.append(lines.take_law())
-    lines.take("end")
-    states, acts = [lines.take_list("state")], []
-    for _ in range(horizon):
-        acts.append(lines.take_list("act"))
-        states.append(lines.take_list("state"))
-    lines.take("end")
-    description = Description(fluents, actions, tuple(laws), horizon)
-    return description, History(tuple(states), tuple(acts))
+    description = lines.take_description()
+    return description, lines.take_history(description.horizon)
 
 
-# ---------------------------------------------------------------- the program
-
-
-def complement(code):
-    return code + 1 if code % 2 == 0 else code - 1
+# ---------------------------------------------------------------- the program for clingo
 
 
 def solver_literal(description, code, time):
     """f(3,T) for fluent 3, -a(0,T) for the negative literal of action 0."""
-    sign = "-" if code % 2 else ""
-    place = code // 2
-    count = len(description.fluents)
-    if place < count:
-        return "%sf(%d,%s)" % (sign, place, time)
-    return "%sa(%d,%s)" % (sign, place - count, time)
+    name, first = ("f", 0) if code < description.fluent_width else ("a", len(description.fluents))
+    return "%s%s(%d,%s)" % ("-" if code % 2 else "", name, code // 2 - first, time)
 
 
 def law_rule(description, law):
-    """One rule with the time left to the solver as the variable T."""
+    """One rule with the time left to clingo as the variable T."""
     now, last = ("T+1", description.horizon - 1) if law.dynamic else ("T", description.horizon)
     body = ["T = 0..%d" % last]
-    for code in law.if_list:
-        body.append("not " + solver_literal(description, complement(code), now))
-    for code in law.after_list:
-        body.append(solver_literal(description, code, "T"))
+    body += ["not " + solver_literal(description, code ^ 1, now) for code in law.if_list]
+    body += [solver_literal(description, code, "T") for code in law.after_list]
     head = "" if law.head is None else solver_literal(description, law.head, now) + " "
     return head + ":- " + ", ".join(body) + "."
 
 
-def choice_rules(description):
-    """Time-0 fluents and all actions may have either value."""
-    lines = []
-    for fluent in range(len(description.fluents)):
-        lines.append("-f(%d,0) :- not f(%d,0)." % (fluent, fluent))
-        lines.append("f(%d,0) :- not -f(%d,0)." % (fluent, fluent))
-    for action in range(len(description.actions)):
-        times = "T = 0..%d" % (description.horizon - 1)
-        lines.append("-a(%d,T) :- %s, not a(%d,T)." % (action, times, action))
-        lines.append("a(%d,T) :- %s, not -a(%d,T)." % (action, times, action))
-    return lines
-
-
 def solver_program(description):
-    """The translation of section 4 in the solver's language."""
+    """The translation of section 4 in clingo's language; time-0 fluents and all actions may have either value."""
     lines = [law_rule(description, law) for law in description.laws]
-    return "\n".join(lines + choice_rules(description)) + "\n"
+    for code in range(description.width):
+        last = 0 if code < description.fluent_width else description.horizon - 1
+        literal, other = (solver_literal(description, one, "T") for one in (code, code ^ 1))
+        lines.append("%s :- T = 0..%d, not %s." % (literal, last, other))
+    return "\n".join(lines) + "\n"
 
 
 def complete_only(description):
     """The constraints (6) of section 3: every atom has a value."""
     lines = []
-    for fluent in range(len(description.fluents)):
-        rule = ":- T = 0..%d, not f(%d,T), not -f(%d,T)."
-        lines.append(rule % (description.horizon, fluent, fluent))
-    for action in range(len(description.actions)):
-        rule = ":- T = 0..%d, not a(%d,T), not -a(%d,T)."
-        lines.append(rule % (description.horizon - 1, action, action))
+    for code in range(0, description.width, 2):
+        literals = tuple(solver_literal(description, one, "T") for one in (code, code + 1))
+        lines.append(":- T = 0..%d, not %s, not %s." % (description.last_time(code), *literals))
     return "\n".join(lines) + "\n"
 
 
-def all_literals(description):
-    """Every literal of the program, in the solver's spelling."""
-    count = len(description.fluents)
-    found = []
-    for time in range(description.horizon + 1):
-        last = count + (len(description.actions) if time < description.horizon else 0)
-        found += [solver_literal(description, code, time) for code in range(2 * last)]
-    return found
-
-
-def absent_actions(description, act):
-    """The places among all names of the actions that an act line does not list."""
-    names = len(description.fluents) + len(description.actions)
-    listed = {code // 2 for code in act}
-    return [place for place in range(len(description.fluents), names) if place not in listed]
-
-
-def filled_history(description, history):
-    """The set a history stands for, as pairs of time and code: what it lists, and the
-    negative literal of each action absent from its act line."""
-    found = set()
-    for lists in (history.states, history.acts):
-        for time, codes in enumerate(lists):
-            found.update((time, code) for code in codes)
-    for time, act in enumerate(history.acts):
-        found.update((time, 2 * place + 1) for place in absent_actions(description, act))
-    return found
-
-
-def history_literals(description, history):
-    """The set a history stands for, in the solver's spelling."""
-    return frozenset(solver_literal(description, code, time)
-                     for time, code in filled_history(description, history))
-
-
-def history_constraints(description, history):
-    """Requires each literal of the history, forbids each other literal."""
-    held = history_literals(description, history)
-    lines = []
-    for literal in all_literals(description):
-        lines.append(":- %s%s." % ("not " if literal in held else "", literal))
-    return "\n".join(lines) + "\n"
+def set_constraints(program, codes, condition=""):
+    """Requires each literal of a set, forbids each other literal, perhaps under a condition."""
+    return "".join(":- %s%s%s.\n" % (condition, "not " if code in codes else "", literal)
+                   for literal, code in program.literals.items())
 
 
 # ---------------------------------------------------------------- counted rules
 
 
-class Program(NamedTuple):
-    """Ground rules in their stated order, parts as literal codes over atoms.
-
-    `history` says that a missing value is a fault, as in the history check.
-    """
-
-    atoms: int
-    rules: Tuple[Tuple[int, Tuple[int, ...], Tuple[int, ...]], ...]
-    history: bool
-
-
-def coded_rules(description):
-    """The rules in the contract's order: (head, negated parts, plain parts)."""
-    width = 2 * (len(description.fluents) + len(description.actions))
-    horizon, rules = description.horizon, []
-    for dynamic in (False, True):
-        for law in (law for law in description.laws if law.dynamic == dynamic):
-            for time in range(horizon + (0 if dynamic else 1)):
-                now = width * (time + 1 if dynamic else time)
-                head = FALSE_HEAD if law.head is None else now + law.head
-                negated = tuple(now + complement(code) for code in law.if_list)
-                plain = tuple(width * time + code for code in law.after_list)
-                rules.append((head, negated, plain))
-    return tuple(rules) + coded_choices(description)
+def law_rules(description):
+    """The rules of the laws in the contract's order."""
+    width, horizon = description.width, description.horizon
+    for law in sorted(description.laws, key=lambda law: law.dynamic):
+        for time in range(horizon + (not law.dynamic)):
+            now = width * (time + law.dynamic)
+            yield (FALSE_HEAD if law.head is None else now + law.head,
+                   tuple(now + (code ^ 1) for code in law.if_list),
+                   tuple(width * time + code for code in law.after_list))
 
 
-def coded_choices(description):
-    count, width = len(description.fluents), len(description.fluents) + len(description.actions)
-    chosen = list(range(count))
+def choice_rules(description):
+    """For each atom that may have either value, lowest first, the rule for the negative literal and then the other."""
+    width, first = description.width, description.fluent_width
+    chosen = list(range(0, first, 2))
     for time in range(description.horizon):
-        chosen += range(width * time + count, width * (time + 1))
-    rules = []
-    for atom in chosen:
-        rules.append((2 * atom + 1, (2 * atom,), ()))
-        rules.append((2 * atom, (2 * atom + 1,), ()))
-    return tuple(rules)
+        chosen += range(width * time + first, width * (time + 1), 2)
+    for code in chosen:
+        yield code + 1, (code,), ()
+        yield code, (code + 1,), ()
 
 
-def coded_program(description):
-    width = len(description.fluents) + len(description.actions)
-    atoms = description.horizon * width + len(description.fluents)
-    return Program(atoms, coded_rules(description), True)
+def translated(description):
+    """The description's program in both forms."""
+    literals = [solver_literal(description, code, time) for time in range(description.horizon + 1)
+                for code in range(description.width) if time <= description.last_time(code)]
+    rules = (*law_rules(description), *choice_rules(description))
+    codes = {literal: code for code, literal in enumerate(literals)}
+    return Program(len(literals) // 2, rules, solver_program(description), codes, description)
 
 
-def coded_history(description, history):
-    """The set of literal codes over atoms that a history stands for."""
-    width = 2 * (len(description.fluents) + len(description.actions))
-    return frozenset(width * time + code for time, code in filled_history(description, history))
+def history_codes(description, history):
+    """The set a history stands for: what it lists, and the negative literal of each action absent from its act line."""
+    width, found = description.width, set()
+    for time, state in enumerate(history.states):
+        found.update(width * time + code for code in state)
+    for time, act in enumerate(history.acts):
+        undone = (code + 1 for code in range(description.fluent_width, width, 2) if not {code, code + 1} & {*act})
+        found.update(width * time + code for code in (*act, *undone))
+    return frozenset(found)
+
+
+def values_of(atoms, codes):
+    """One value for each atom: 0 none, 1 true, 2 false, 3 both."""
+    return [(2 * atom in codes) + 2 * (2 * atom + 1 in codes) for atom in range(atoms)]
+
+
+def codes_of(values):
+    """The set of literal codes that values hold."""
+    return frozenset(2 * atom + bit for atom, value in enumerate(values) for bit in (0, 1) if value >> bit & 1)
