@@ -5,6 +5,7 @@ use super::limits::HORIZONS;
 use super::render::{join, line};
 use crate::random::Random;
 
+/// Words as byte strings.
 macro_rules! words {
     ($($word:tt)*) => { &[$(stringify!($word).as_bytes()),*] };
 }

@@ -75,11 +75,11 @@ fn put_fault(random: &mut Random, lines: &mut Vec<Vec<u8>>) {
     let keys = [Lines::Declaring.keys(), KEYS, sort.keys(), keys_from(b"fluent")][fault];
     let at = pick_line(random, lines, keys);
     let (key, value) = parts(&lines[at]);
-    let mut items = split(value, b',');
+    let (mut key, mut items) = (key.to_vec(), split(value, b','));
     let place = random.below(items.len());
     match fault {
         0 => return declare_again(random, lines, at),
-        1 => return lines[at] = line(near_key(random, key), value),
+        1 => key = near_key(random, &key),
         2 => change_byte(random, &mut items[place]),
         _ => {
             items[place] = pick_word(random, "false|false|false|-false").to_vec();

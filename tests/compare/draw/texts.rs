@@ -163,8 +163,8 @@ impl<'a> Known<'a> {
         ]
     }
 
-    /// For one value an atom: the translation's table is judged by the engine and by the formulas, without levels and with
-    /// times as levels, and the history check judges the values.
+    /// For one value an atom: the translation's table is judged by the engine and by the completion formulas, without
+    /// levels and with times as levels, and the history check judges the values.
     fn add_complete(&self, random: &mut Random, calls: &mut Vec<Call>) {
         let [text, values] = [self.description, &self.values].map(Part::bytes);
         let table = Part::Left(calls.len(), 1);
