@@ -1,15 +1,15 @@
-//! Compares the linked library with the oracle, on the cases of folders and on lists of calls drawn from a seed.
+//! Compares the linked library with the oracle: on the cases of folders, on families of calls, and on lists drawn from a seed.
 //!
 //! `compare [--seed SEED] [--lists N] [--cases FOLDER] .. [--program CHECK] [--exact]`. A run prints its seed, so that it can be
 //! made again. CHECK is the program `check_main`, which some of the recipes go through too. With `--exact` each part is lent in
-//! memory of just its length, for a tool that watches memory.
+//! memory of just its length, for a tool that watches memory; the families are left out, for such a tool is slow.
 
 mod library;
 
 use compare::cases::{answered_otherwise, folder};
 use compare::kinds::Tally;
 use compare::program::Program;
-use compare::run::compare;
+use compare::run::{compare, drawn, whole_families};
 use compare::sides::{Oracle, Side};
 use library::Library;
 use std::path::PathBuf;
@@ -70,7 +70,9 @@ fn all_lists(library: &mut Library, asked: &Asked) -> Result<(), String> {
     println!("seed {}", asked.seed);
     let mut tally = Tally::default();
     let mut program = asked.program.as_ref().map(Program::new);
-    compare(library, program.as_mut(), asked.seed, asked.lists, &mut tally)?;
+    let families = whole_families().filter(|_| !asked.exact);
+    let lists = families.chain(drawn(asked.seed, asked.lists));
+    compare(library, program.as_mut(), lists, &mut tally)?;
     tally.print(&mut io::stdout()).map_err(|reason| reason.to_string())?;
     let rare = tally.too_rare(asked.lists);
     if !rare.is_empty() {

@@ -2,6 +2,7 @@
 
 use crate::call::{Call, Part, Said};
 use crate::claims;
+use crate::draw::families::families;
 use crate::draw::{list, List};
 use crate::kinds::Tally;
 use crate::program::Program;
@@ -11,24 +12,38 @@ use crate::sides::{answers, Oracle, Side};
 /// How often a smaller input is tried for a difference, at most.
 const TRIES: usize = 4_000;
 
-/// Compares so many lists drawn from a seed, some of them beside the program too. The error tells the first difference.
+/// A list, and how it is made again.
+pub type Named = (String, List);
+
+/// So many lists drawn from a seed.
+pub fn drawn(seed: u64, lists: u64) -> impl Iterator<Item = Named> {
+    (0..lists).map(move |number| {
+        let drawn = list(&mut Random::of_case(seed, number));
+        (format!("seed {seed}, list {number}"), drawn)
+    })
+}
+
+/// The lists of all families.
+pub fn whole_families() -> impl Iterator<Item = Named> {
+    families().map(|list| ("a family".to_string(), list))
+}
+
+/// Compares lists, some of them beside the program too. The error tells the first difference.
 pub fn compare(
     library: &mut dyn Side,
     mut program: Option<&mut Program>,
-    seed: u64,
-    lists: u64,
+    lists: impl Iterator<Item = Named>,
     tally: &mut Tally,
 ) -> Result<(), String> {
-    for number in 0..lists {
-        let drawn = list(&mut Random::of_case(seed, number));
-        let found = compare_list(library, &drawn).and_then(|said| {
-            tally.count(&drawn, &said);
+    for (name, list) in lists {
+        let found = compare_list(library, &list).and_then(|said| {
+            tally.count(&list, &said);
             match &mut program {
-                Some(program) => program.compare(drawn.kind, &drawn.calls, &said),
+                Some(program) => program.compare(list.kind, &list.calls, &said),
                 None => Ok(()),
             }
         });
-        found.map_err(|found| format!("seed {seed}, list {number}, {}\n{found}", drawn.kind))?;
+        found.map_err(|found| format!("{name}, {}\n{found}", list.kind))?;
     }
     Ok(())
 }
@@ -186,7 +201,7 @@ mod tests {
     }
 
     fn found(library: &mut dyn Side) -> Result<(), String> {
-        compare(library, None, 7, 3_000, &mut Tally::default())
+        compare(library, None, drawn(7, 3_000), &mut Tally::default())
     }
 
     #[test]

@@ -3,6 +3,7 @@
 pub mod causes;
 pub mod damage;
 pub mod descriptions;
+pub mod families;
 pub mod histories;
 pub mod known;
 pub mod letters;
