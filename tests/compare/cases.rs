@@ -111,11 +111,7 @@ fn case(function: Function, line: &str) -> Read<Case> {
         return Err(format!("not name, {}, answer", FIELDS[function as usize]));
     }
     let parts = sorts.zip(&columns[1..]).map(|(sort, field)| part(sort, field));
-    Ok(Case {
-        name: columns[0].to_string(),
-        call: Call::new(function, parts.collect::<Read<Vec<Part>>>()?),
-        wanted,
-    })
+    Ok(Case { name: columns[0].to_string(), call: Call::new(function, parts.collect::<Read<Vec<Part>>>()?), wanted })
 }
 
 /// `refused N PLACE`, a verdict with its numbers, `written ATOMS RULES WORDS` or `read`, and behind ` : ` the words or

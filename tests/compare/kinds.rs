@@ -98,9 +98,8 @@ impl Tally {
             self.see("formulas", formulas(call, said, &calls));
             self.see("both faults", faults(call.function, said).into_iter().flatten());
         }
-        let text = calls
-            .iter()
-            .find_map(|(call, said)| Some((said.parts[0].as_bytes(), printed(call.function, said)?)));
+        let text =
+            calls.iter().find_map(|(call, said)| Some((said.parts[0].as_bytes(), printed(call.function, said)?)));
         if let Some((text, printed)) = text {
             self.see("refused", refused(text, printed).into_iter().flatten());
             self.see("text", taken(text, printed).into_iter().flatten());

@@ -57,11 +57,7 @@ fn all_cases(library: &mut Library, path: &PathBuf) -> Result<(), String> {
             return Err(format!("{}: the {name} answers otherwise\n{found}", path.display()));
         }
     }
-    println!(
-        "{}: {} cases answered as stated by both sides",
-        path.display(),
-        cases.len()
-    );
+    println!("{}: {} cases answered as stated by both sides", path.display(), cases.len());
     Ok(())
 }
 

@@ -18,10 +18,7 @@ pub struct Program {
 
 impl Program {
     pub fn new(path: impl AsRef<Path>) -> Self {
-        Program {
-            path: path.as_ref().to_path_buf(),
-            given: BTreeMap::new(),
-        }
+        Program { path: path.as_ref().to_path_buf(), given: BTreeMap::new() }
     }
 
     pub fn recipes(&self) -> usize {
@@ -42,19 +39,14 @@ impl Program {
             if printed != said.printed() {
                 let (wanted, printed) = (said.printed().escape_ascii(), printed.escape_ascii());
                 let input = input.escape_ascii();
-                return Err(format!(
-                    "oracle  {wanted}\nprogram {printed}\ninput, with escapes:\n{input}"
-                ));
+                return Err(format!("oracle  {wanted}\nprogram {printed}\ninput, with escapes:\n{input}"));
             }
         }
         Ok(())
     }
 
     fn printed(&self, input: &[u8]) -> io::Result<Vec<u8>> {
-        let mut child = Command::new(&self.path)
-            .stdin(Stdio::piped())
-            .stdout(Stdio::piped())
-            .spawn()?;
+        let mut child = Command::new(&self.path).stdin(Stdio::piped()).stdout(Stdio::piped()).spawn()?;
         // What is printed is short, so that it waits in the pipe until all is read. The input ends where it is dropped; of one
         // that is too long the program need not read the end.
         let written = child.stdin.take().map_or(Ok(()), |mut lent| lent.write_all(input));

@@ -75,12 +75,7 @@ fn shown(library: &mut dyn Side, calls: &[Call]) -> String {
     let small = shrunk(calls, &mut has_difference);
     let (wanted, given) = (answers(&mut Oracle, &small), answers(library, &small));
     let last = small.len() - 1;
-    format!(
-        "{}oracle  {}\nlibrary {}",
-        lines(&small),
-        said(&wanted[last]),
-        said(&given[last])
-    )
+    format!("{}oracle  {}\nlibrary {}", lines(&small), said(&wanted[last]), said(&given[last]))
 }
 
 fn lines(calls: &[Call]) -> String {
@@ -90,12 +85,7 @@ fn lines(calls: &[Call]) -> String {
 }
 
 fn said(said: &Said) -> String {
-    format!(
-        "{:?} (number {}), parts left: {:?}",
-        said.answer(),
-        said.number,
-        said.parts
-    )
+    format!("{:?} (number {}), parts left: {:?}", said.answer(), said.number, said.parts)
 }
 
 /// Smaller calls that still have what is looked for: first without earlier calls, then with shorter parts, in ever smaller
@@ -223,10 +213,7 @@ mod tests {
         let table = Part::words([0, 0, 1, 2, 2, 0, 1, 0, 4, 0, 0]);
         let calls = [report, Call::new(Function::CheckSet, [Part::bytes([1, 1, 1]), table])];
         let told = shown(&mut NoDerivation, &calls);
-        assert!(
-            told.starts_with("call 0: check_set of [bytes [1], words []]\n"),
-            "{told}"
-        );
+        assert!(told.starts_with("call 0: check_set of [bytes [1], words []]\n"), "{told}");
     }
 
     #[test]

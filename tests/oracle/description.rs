@@ -21,14 +21,8 @@ pub fn read_description(text: &[u8], law_run: usize) -> Result<Description, Refu
     }
     let mut lines = Lines::new(text);
     let horizon = read_horizon(&lines.expect(Key::Horizon)?)?;
-    let mut description = Description {
-        horizon,
-        fluents: Vec::new(),
-        actions: Vec::new(),
-        laws: Vec::new(),
-        length: 0,
-        lines: 0,
-    };
+    let mut description =
+        Description { horizon, fluents: Vec::new(), actions: Vec::new(), laws: Vec::new(), length: 0, lines: 0 };
     read_parts(&mut lines, &mut description, law_run.min(MAX_LAWS))?;
     description.length = lines.position();
     description.lines = lines.count();
@@ -128,11 +122,7 @@ fn static_law(head: Head, ifs: Vec<u16>) -> Law {
 }
 
 fn dynamic_law(head: Head, ifs: Vec<u16>, after: Vec<u16>) -> Law {
-    Law {
-        head,
-        ifs,
-        after: Some(after),
-    }
+    Law { head, ifs, after: Some(after) }
 }
 
 /// The after-list of a law: literals of either sort.

@@ -72,22 +72,12 @@ fn first_rule(words: &[u16], codes: usize) -> Option<(Rule<'_>, usize)> {
         return None;
     }
     let (negated_parts, plain_parts) = parts.split_at(negated);
-    Some((
-        Rule {
-            head,
-            negated: negated_parts,
-            plain: plain_parts,
-        },
-        3 + parts.len(),
-    ))
+    Some((Rule { head, negated: negated_parts, plain: plain_parts }, 3 + parts.len()))
 }
 
 /// One mark a literal code: is it in the set?
 fn members(values: &[u8]) -> Vec<bool> {
-    values
-        .iter()
-        .flat_map(|value| [value & 1 != 0, value & 2 != 0])
-        .collect()
+    values.iter().flat_map(|value| [value & 1 != 0, value & 2 != 0]).collect()
 }
 
 /// The verdicts in the contract's order.
@@ -104,11 +94,7 @@ fn verdict(values: &[u8], rules: &[Rule]) -> Verdict {
     if let Some(rule) = rules.iter().position(breaks) {
         return Verdict::Broken(rule);
     }
-    let founding: Vec<Rule> = rules
-        .iter()
-        .filter(|rule| rule.head != FALSE_HEAD && kept(rule))
-        .copied()
-        .collect();
+    let founding: Vec<Rule> = rules.iter().filter(|rule| rule.head != FALSE_HEAD && kept(rule)).copied().collect();
     let derived = least_closed_set(&founding, set.len());
     match (0..set.len()).find(|code| set[*code] && !derived[*code]) {
         Some(code) => Verdict::Unfounded(code),

@@ -15,10 +15,7 @@ pub struct Recipe {
 impl Recipe {
     /// Values under the names and laws of a description, for another horizon.
     pub fn new(laws: &Description, horizon: usize, values: Vec<u8>) -> Self {
-        let description = Description {
-            horizon,
-            ..laws.clone()
-        };
+        let description = Description { horizon, ..laws.clone() };
         Recipe { description, values }
     }
 
@@ -49,10 +46,7 @@ pub fn cut(whole: &Recipe, steps: usize) -> Option<(Recipe, Recipe)> {
     let start = steps * description.stride();
     let first = values[..start + description.fluents.len()].to_vec();
     let second = values[start..].to_vec();
-    Some((
-        Recipe::new(description, steps, first),
-        Recipe::new(description, description.horizon - steps, second),
-    ))
+    Some((Recipe::new(description, steps, first), Recipe::new(description, description.horizon - steps, second)))
 }
 
 /// Two recipes of one description put together as if they fitted: the first, then the second without its first state.
@@ -86,10 +80,7 @@ pub fn parts(text: &[u8]) -> Option<Parts<'_>> {
     let (laws, history) = rest.split_at(end + 1);
     let (last, history) = history.split_last()?;
     let is_whole = horizon.starts_with(b"horizon=") && *last == b"end=\n" && history.len() % 2 == 1;
-    is_whole.then(|| Parts {
-        laws: laws.to_vec(),
-        history: history.to_vec(),
-    })
+    is_whole.then(|| Parts { laws: laws.to_vec(), history: history.to_vec() })
 }
 
 /// A text of these lines. Its horizon is the number of its act lines.
@@ -104,12 +95,7 @@ pub fn written(laws: &[&[u8]], history: &[&[u8]]) -> Vec<u8> {
 pub fn cut_text(text: &[u8], steps: usize) -> Option<(Vec<u8>, Vec<u8>)> {
     let Parts { laws, history } = parts(text)?;
     let is_inside = steps >= 1 && 2 * steps + 1 < history.len();
-    is_inside.then(|| {
-        (
-            written(&laws, &history[..=2 * steps]),
-            written(&laws, &history[2 * steps..]),
-        )
-    })
+    is_inside.then(|| (written(&laws, &history[..=2 * steps]), written(&laws, &history[2 * steps..])))
 }
 
 /// Two texts of one description put together as if they fitted: the history lines of the first, then those of the second
@@ -137,9 +123,7 @@ fn listed(line: &[u8]) -> Vec<Vec<u8>> {
     let line = line.strip_suffix(b"\n").unwrap_or(line);
     let value = line.splitn(2, |byte| *byte == b'=').nth(1).unwrap_or_default();
     let items = value.split(|byte| *byte == b',');
-    let mut items: Vec<Vec<u8>> = items
-        .map(|item| item.iter().map(|byte| lowered(*byte)).collect())
-        .collect();
+    let mut items: Vec<Vec<u8>> = items.map(|item| item.iter().map(|byte| lowered(*byte)).collect()).collect();
     items.sort();
     items.dedup();
     items

@@ -40,17 +40,11 @@ pub struct Answer {
 
 impl Answer {
     pub fn new(code: u8, value: usize) -> Self {
-        Answer {
-            code,
-            value: value as u64,
-        }
+        Answer { code, value: value as u64 }
     }
 
     pub fn from_number(number: u64) -> Self {
-        Answer {
-            code: (number % 256) as u8,
-            value: number / 256,
-        }
+        Answer { code: (number % 256) as u8, value: number / 256 }
     }
 
     pub fn number(self) -> u64 {
@@ -65,10 +59,7 @@ impl Answer {
 
 impl From<Refusal> for Answer {
     fn from(refusal: Refusal) -> Self {
-        Answer {
-            code: refusal.number,
-            value: refusal.place as u64 % (1 << 56),
-        }
+        Answer { code: refusal.number, value: refusal.place as u64 % (1 << 56) }
     }
 }
 

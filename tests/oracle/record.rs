@@ -65,11 +65,7 @@ pub fn accept(description: &Description) -> Result<(), Refusal> {
     if !counts {
         return Err(Refusal::new(8, MAX_LAWS));
     }
-    if let Some(bad) = description
-        .laws
-        .iter()
-        .position(|law| !accept_law(law, fluents, actions))
-    {
+    if let Some(bad) = description.laws.iter().position(|law| !accept_law(law, fluents, actions)) {
         return Err(Refusal::new(8, bad));
     }
     if !(1..=MAX_HORIZON).contains(&description.horizon) {

@@ -133,11 +133,7 @@ impl<'a> Lines<'a> {
         let key = key_of(&line[..equals]).ok_or(bad)?;
         self.at += length + 1;
         self.taken = number;
-        Ok(Line {
-            number,
-            key,
-            value: &line[equals + 1..],
-        })
+        Ok(Line { number, key, value: &line[equals + 1..] })
     }
 
     /// The next line, which must have the given key.

@@ -73,11 +73,7 @@ fn time_sample(label: &str, text: &[u8]) {
     let each = f64::from(TIMES);
     let times = by_turns(|| proved() / each, || own() / each);
     print_pair("causal reading", &times);
-    println!(
-        "    {} readings take {:.1} times as long as {TIMES}",
-        10 * TIMES,
-        growth(text)
-    );
+    println!("    {} readings take {:.1} times as long as {TIMES}", 10 * TIMES, growth(text));
 }
 
 fn main() {

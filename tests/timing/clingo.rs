@@ -33,10 +33,7 @@ pub fn solve(file: &str) -> io::Result<Taken> {
         let output = Command::new("clingo").args(["--stats=1", file]).output()?;
         process.push(start.elapsed().as_secs_f64());
         if !is_solved(output.status.code()) {
-            return Err(io::Error::other(format!(
-                "clingo did not solve {file}: {}",
-                output.status
-            )));
+            return Err(io::Error::other(format!("clingo did not solve {file}: {}", output.status)));
         }
         let printed = String::from_utf8_lossy(&output.stdout);
         let times = times(&printed).ok_or_else(|| io::Error::other(format!("clingo gave no time for {file}")))?;
@@ -44,12 +41,7 @@ pub fn solve(file: &str) -> io::Result<Taken> {
         solving.push(times.1);
         said = verdict(&printed);
     }
-    Ok(Taken {
-        own: median(&mut own),
-        solving: median(&mut solving),
-        process: median(&mut process),
-        said,
-    })
+    Ok(Taken { own: median(&mut own), solving: median(&mut solving), process: median(&mut process), said })
 }
 
 /// The median time of a program's whole process, in seconds, with a file as its standard input.

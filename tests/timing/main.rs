@@ -62,15 +62,8 @@ impl Timed {
 
 /// The engine and the completion formulas on a table that is there already.
 fn on_table(values: &[u8], table: &[u16]) -> Vec<Timed> {
-    let calls = [
-        ("engine", Function::CheckSet),
-        ("completion", Function::CheckCompletion),
-    ];
-    let timed = |(what, function)| Timed {
-        what,
-        function,
-        parts: vec![Part::bytes(values), Part::words(table)],
-    };
+    let calls = [("engine", Function::CheckSet), ("completion", Function::CheckCompletion)];
+    let timed = |(what, function)| Timed { what, function, parts: vec![Part::bytes(values), Part::words(table)] };
     calls.map(timed).into()
 }
 
@@ -79,19 +72,12 @@ fn on_text(label: &str, text: &[u8]) -> Vec<Timed> {
     let read = read_input(text).expect("samples are good texts");
     let table = all_rules(&read.description);
     let (atoms, rules, words) = (read.values.len(), table.rules, table.words.len());
-    println!(
-        "{label}: {atoms} atoms, {rules} rules, {words} words, {} bytes of text",
-        text.len()
-    );
+    println!("{label}: {atoms} atoms, {rules} rules, {words} words, {} bytes of text", text.len());
     let mut calls = on_table(&read.values, &table.words);
     calls.push(Timed {
         what: "history check",
         function: Function::CheckHistory,
-        parts: vec![
-            Part::bytes(text),
-            Part::bytes(&read.values),
-            Part::words(vec![0; words]),
-        ],
+        parts: vec![Part::bytes(text), Part::bytes(&read.values), Part::words(vec![0; words])],
     });
     calls
 }
@@ -165,9 +151,7 @@ fn time_clingo() -> Result<(), String> {
     let Some(check) = given.next() else { return Ok(()) };
     println!("against clingo: ratios are the checker by clingo, 0 solving time left out");
     for pair in given {
-        let (program, recipe) = pair
-            .split_once('=')
-            .ok_or(format!("`{pair}` is not of the form PROGRAM=RECIPE"))?;
+        let (program, recipe) = pair.split_once('=').ok_or(format!("`{pair}` is not of the form PROGRAM=RECIPE"))?;
         match clingo::solve(program) {
             Ok(taken) => print_against(&taken, recipe, &check).map_err(|reason| reason.to_string())?,
             Err(reason) if reason.kind() == io::ErrorKind::NotFound => {
@@ -186,23 +170,14 @@ fn print_against(taken: &clingo::Taken, recipe: &str, check: &str) -> io::Result
     let library = calls[2].time().first / 1e9;
     let process = clingo::whole_process(check, recipe)?;
     let clingo::Taken { own, solving, .. } = taken;
-    println!(
-        "  clingo says {}, solving {solving:.4} s, own time {own:.4} s",
-        taken.said
-    );
+    println!("  clingo says {}, solving {solving:.4} s, own time {own:.4} s", taken.said);
     if *solving > 0.0 {
         println!("    history check by solving: ratio {:.4}", library / solving);
     }
     let ratio = library / own;
-    println!(
-        "    history check {} by clingo's own time: ratio {ratio:.4}",
-        readable(library * 1e9)
-    );
+    println!("    history check {} by clingo's own time: ratio {ratio:.4}", readable(library * 1e9));
     let ratio = process / taken.process;
-    println!(
-        "    whole process {process:.4} s by clingo's {:.4} s: ratio {ratio:.3}",
-        taken.process
-    );
+    println!("    whole process {process:.4} s by clingo's {:.4} s: ratio {ratio:.3}", taken.process);
     Ok(())
 }
 

@@ -72,11 +72,7 @@ pub fn by_turns(mut first: impl FnMut() -> f64, mut second: impl FnMut() -> f64)
         second_times.push(second());
     }
     let runs = first_times.len();
-    Pair {
-        first: median(&mut first_times),
-        second: median(&mut second_times),
-        runs,
-    }
+    Pair { first: median(&mut first_times), second: median(&mut second_times), runs }
 }
 
 /// Times two calls by turns.
@@ -88,10 +84,7 @@ pub fn pair<T>(mut first: impl FnMut() -> T, mut second: impl FnMut() -> T) -> P
 /// Prints a library's time beside the oracle's.
 pub fn print_pair(what: &str, times: &Pair) {
     let (library, oracle, ratio) = (readable(times.first), readable(times.second), times.ratio());
-    println!(
-        "  {what}: library {library}, oracle {oracle}, ratio {ratio:.2} ({} runs a side)",
-        times.runs
-    );
+    println!("  {what}: library {library}, oracle {oracle}, ratio {ratio:.2} ({} runs a side)", times.runs);
 }
 
 /// Nanoseconds in a readable unit.

@@ -206,11 +206,7 @@ fn law_value(random: &mut Random, lines: &[Vec<u8>], values: &str) -> Vec<u8> {
 fn declared(random: &mut Random, lines: &[Vec<u8>], key: &[u8]) -> Vec<u8> {
     let lines = lines.iter().map(|line| parts(line)).filter(|(found, _)| *found == key);
     let names: Vec<&[u8]> = lines.map(|(_, name)| name).collect();
-    let name = if names.is_empty() {
-        b"undeclared"
-    } else {
-        *random.pick(&names)
-    };
+    let name = if names.is_empty() { b"undeclared" } else { *random.pick(&names) };
     [pick_word(random, "||-"), name].concat()
 }
 

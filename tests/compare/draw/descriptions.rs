@@ -31,14 +31,7 @@ pub fn description(random: &mut Random, given: Option<Size>) -> Description {
 
 /// A description without laws, of which the first so many names are fluents and the others actions.
 pub fn without_laws(horizon: usize, mut names: Vec<Vec<u8>>, fluents: usize) -> Description {
-    Description {
-        horizon,
-        actions: names.split_off(fluents),
-        fluents: names,
-        laws: vec![],
-        length: 0,
-        lines: 0,
-    }
+    Description { horizon, actions: names.split_off(fluents), fluents: names, laws: vec![], length: 0, lines: 0 }
 }
 
 pub fn law(head: Head, ifs: Vec<u16>, after: Option<Vec<u16>>) -> Law {

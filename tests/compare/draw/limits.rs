@@ -75,11 +75,7 @@ fn many_laws(random: &mut Random, made: &mut Description) {
 
 fn long_name(random: &mut Random, made: &mut Description) {
     let is_fluent = made.actions.is_empty() || random.chance(1, 2);
-    let names = if is_fluent {
-        &mut made.fluents
-    } else {
-        &mut made.actions
-    };
+    let names = if is_fluent { &mut made.fluents } else { &mut made.actions };
     let index = random.below(names.len());
     let length = random.between(MAX_NAME - 1, MAX_NAME + 2);
     names[index] = spelled(random, length);

@@ -29,13 +29,8 @@ pub struct List {
 }
 
 /// What draws lists, and how often each is asked.
-const DRAWN: [(fn(&mut Random) -> List, usize); 5] = [
-    (texts::list, 200),
-    (texts::respelled_list, 100),
-    (tables::list, 200),
-    (levels::list, 200),
-    (recipes::list, 12),
-];
+const DRAWN: [(fn(&mut Random) -> List, usize); 5] =
+    [(texts::list, 200), (texts::respelled_list, 100), (tables::list, 200), (levels::list, 200), (recipes::list, 12)];
 
 /// One list of any kind.
 pub fn list(random: &mut Random) -> List {

@@ -334,14 +334,7 @@ fn settled(random: &mut Random) -> Description {
     let [horizon, fluents, actions] = ranges.map(|range| drawn(random, range));
     let mut fluents = names(random, fluents + actions);
     let actions = fluents.split_off(fluents.len() - actions);
-    Description {
-        horizon,
-        fluents,
-        actions,
-        laws: vec![],
-        length: 0,
-        lines: 0,
-    }
+    Description { horizon, fluents, actions, laws: vec![], length: 0, lines: 0 }
 }
 
 /// Does a fluent change in more than half of the steps?
@@ -385,10 +378,7 @@ fn step(random: &mut Random, one: &Description, state: &[bool]) -> Option<Step> 
         let turns = if tries == TRIES { 0 } else { random.below(3) };
         let made = explained_step(random, one, state, turns);
         best = best.into_iter().chain(made).max_by_key(|(worth, _)| *worth);
-        if best
-            .as_ref()
-            .is_some_and(|(worth, _)| *worth == 3 || random.chance(1, 12))
-        {
+        if best.as_ref().is_some_and(|(worth, _)| *worth == 3 || random.chance(1, 12)) {
             break;
         }
     }
@@ -479,9 +469,6 @@ mod tests {
             *drawn.entry(made.kind).or_insert(0) += 1;
             assert_eq!(broken(&made, &answers(&mut Oracle, &made.calls)), None);
         }
-        assert!(
-            drawn.len() == KINDS.len() && drawn.values().all(|number| *number > 10),
-            "{drawn:?}"
-        );
+        assert!(drawn.len() == KINDS.len() && drawn.values().all(|number| *number > 10), "{drawn:?}");
     }
 }

@@ -111,11 +111,7 @@ pub fn log_lines(random: &mut Random, description: &Description, values: &[u8]) 
 
 /// Lines put together, each ended by byte 10.
 pub fn join(lines: &[Vec<u8>]) -> Vec<u8> {
-    lines
-        .iter()
-        .flat_map(|line| line.iter().chain(b"\n"))
-        .copied()
-        .collect()
+    lines.iter().flat_map(|line| line.iter().chain(b"\n")).copied().collect()
 }
 
 /// A description's text, every law written out.

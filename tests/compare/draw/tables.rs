@@ -19,9 +19,7 @@ const KINDS: [Kind<Lent>; 8] = [
     ("table of up to 40 atoms", 2_600, |random| sound(random, 40, 60)),
     ("table of 41 to 1,024 atoms", 420, |random| wide(random, 41).lent()),
     ("table with loops", 1_500, |random| looped(random, false).lent()),
-    ("table of about 1,024 atoms", 20, |random| {
-        wide(random, MAX_ATOMS - 60).lent()
-    }),
+    ("table of about 1,024 atoms", 20, |random| wide(random, MAX_ATOMS - 60).lent()),
     ("table of about 4,096 rules", 16, many_rules),
     ("damaged table", 1_300, damaged_table),
     ("damaged values", 600, damaged_values),

@@ -19,9 +19,7 @@ const KINDS: [Kind; 7] = [
     ("text with a spoilt history", 1_700, |random| whole(random, None, spoil)),
     ("text with several bad atoms", 900, |random| {
         // A text has no way to leave an action without a value.
-        whole(random, None, |random, made, values| {
-            put_faults(random, values, |atom| !made.is_action(atom))
-        })
+        whole(random, None, |random, made, values| put_faults(random, values, |atom| !made.is_action(atom)))
     }),
     ("text at a limit", 1_200, limits::text),
     ("damaged text", 3_250, damaged),
