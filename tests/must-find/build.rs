@@ -64,7 +64,9 @@ fn edited(name: &str, edit: &str, oracle: &Files) -> Files {
             ("file", named) => file = named.trim_end_matches(".rs"),
             ("old", text) => old = text,
             ("new" | "new:", text) => {
-                let whole = files.get_mut(file).expect("a file of the oracle");
+                let Some(whole) = files.get_mut(file) else {
+                    panic!("{name}: the oracle has no file {file}");
+                };
                 let places = whole.matches(old).count();
                 assert_eq!(places, 1, "{name}: this must stand once in {file}: {old}");
                 *whole = whole.replacen(old, text, 1);
