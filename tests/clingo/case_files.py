@@ -128,7 +128,7 @@ def worked_cases(folder, function):
     """The cases of one file that are no refusals and not too large."""
     named, found = {}, []
     with open(os.path.join(folder, function + ".txt"), encoding="utf-8", newline="\n") as file:
-        lines = [line for line in file.read().split("\n") if line.strip() and not line.startswith("#")]
+        lines = [line for line in file.read().replace("\n    ", " ").split("\n") if line.strip() and not line.startswith("#")]
     for line in lines:
         try:
             line = re.sub(r"\{([^}]*)\}", lambda name: named[name[1]], line)

@@ -1,7 +1,7 @@
 //! Cases worked out by hand: tests/cases/FUNCTION.txt, and what clingo writes out in the same form.
 //!
-//! Blank lines and lines that begin with `#` are not read. `let NAME = STUFF` names what `{NAME}` then stands for. A
-//! case is a line `name | part | .. | answer`, see `FIELDS` and `answer`. `<A/B/C>` makes a case of each of A, B and C;
+//! Blank lines and lines that begin with `#` are not read; one that begins with four spaces goes on with the line before
+//! it, behind one space. `let NAME = STUFF` names what `{NAME}` then stands for. A case is a line `name | part | .. | answer`, see `FIELDS` and `answer`. `<A/B/C>` makes a case of each of A, B and C;
 //! several of these vary together. `(STUFF)*N` is STUFF N times, `#` in it 0, 1, 2 and so on.
 //! - Text: its lines with single spaces between, each ended by byte 10; `\s` a space, `\xNN` any byte, `\e` at the very
 //!   end: the last line is not ended. An empty field is the empty text. Behind a text may stand edits ` [OLD -> NEW]`,
@@ -48,11 +48,11 @@ pub fn folder(path: &Path) -> Read<Vec<Case>> {
     Some(cases).filter(|cases| !cases.is_empty()).ok_or(none)
 }
 
-/// The cases of a file. An error names the line.
+/// The cases of a file. An error shows the line.
 pub fn read(function: Function, file: &str) -> Read<Vec<Case>> {
     let (mut found, mut named) = (Vec::new(), BTreeMap::new());
-    for (number, line) in file.lines().enumerate() {
-        let told = |error| format!("{}.txt, line {}: {error}", function.name(), number + 1);
+    for line in file.replace("\n    ", " ").lines() {
+        let told = |error| format!("{}.txt: {error}: {line}", function.name());
         if let Some((name, stuff)) = line.strip_prefix("let ").and_then(|line| line.split_once(" =")) {
             let stuff = expanded(stuff.trim(), &named).and_then(|stuff| edited(&stuff));
             named.insert(name.to_string(), stuff.map_err(told)?.trim_end().to_string());

@@ -29,12 +29,7 @@ struct Slip {
 
 impl Slip {
     fn new((name, side): &(&'static str, fn() -> Box<dyn Side>)) -> Self {
-        Slip {
-            name,
-            side: side(),
-            lists: None,
-            fell_over: false,
-        }
+        Slip { name, side: side(), lists: None, fell_over: false }
     }
 
     /// Does it answer otherwise, by what asks it?
