@@ -267,12 +267,12 @@ mod tests {
     }
 
     #[test]
-    fn an_error_names_the_line() {
+    fn an_error_shows_the_line() {
         let lines = r"a|b= a|{b}|0|read a|b|<0/1>|<read/read/path> a|(b|0|read a|\q|0|read a||x|read a||0|refused";
         for line in lines.split(' ') {
             let file = format!("#\n\n{line}");
             let told = read(Function::Translate, &file).err().unwrap_or_default();
-            assert!(told.starts_with("translate.txt, line 3: "), "{line}: {told}");
+            assert!(told.starts_with("translate.txt: ") && told.ends_with(line), "{line}: {told}");
         }
     }
 
