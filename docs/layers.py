@@ -28,8 +28,8 @@ MARKS = ("<!-- layers: made by docs/layers.py -->\n", "<!-- end of layers -->\n"
 ABOUT = (
     "In the picture a thin arrow leads from a crate to one of its room that it uses, and a thick arrow from a room to "
     "one that some of its crates use. Arrows, and the uses in the tables, are only those that no others imply: a "
-    "crate may also use what these reach. [crates.txt](../crates.txt) names every use, with the libraries io, libc "
-    "and os, which are left out here. Kind, as in the picture: F is functions with what is proved of them, T is "
+    "crate may also use what these reach. [crates.txt](../crates.txt) names every use, with the toolchain's library "
+    "io, which is left out here. Kind, as in the picture: F is functions with what is proved of them, T is "
     "definitions and theorems alone, P is a program."
 )
 
@@ -99,9 +99,9 @@ def read_rooms():
         elif line.startswith("#"):
             said = line[1:].strip()
         else:
-            name, colon, uses = line.partition(":")
+            head, colon, uses = line.partition(":")
             if colon:
-                crates[name.strip()] = Crate(room, said, uses.split())
+                crates[head.split()[0]] = Crate(room, said, uses.split())
             said = ""
     known = {name: crate._replace(uses=[use for use in crate.uses if use in crates]) for name, crate in crates.items()}
     return rooms, known

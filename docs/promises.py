@@ -49,12 +49,13 @@ Each is proved of every input. {owed}
 
 ## How to read a clause
 
-- `λ r. ⌜ P ⌝` says that P holds of each result r; `λ _.` stands where P doesn't speak of the result.
-- `now (x .entry)` is what the memory lent as x holds when the function is called, and `now (x .exit)` what it holds
-  when the function returns; memory lent by `&` can't change. A parameter by value is its name alone.
-- `r .f` is the field f of the result, `now r` what a returned slice holds. Memory and arrays are lists.
-- `≡` is "equals", `×` is "and", `↔` is "exactly if". `get_d xs i d` is the element i of xs, or d where xs has none;
-  `set xs i x` is xs with x at place i; `sets xs i ys` is xs with ys from place i on, as far as xs goes.
+- `result` is the result, `result.f` its field f, and `result.now` what a returned slice holds.
+- `x.old` is what the memory lent as x by `&mut` holds when the function is called, and `x.new` what it holds when the
+  function returns. Memory lent by `&` can't change, and `x.now` is what it holds; `x.entry` is the part of memory
+  itself, which says where it lies. A parameter by value is its name alone. Memory and arrays are lists.
+- `≡` is "equals", `×` is "and", `↔` is "exactly if", `x ∷ xs` is the list xs with x in front. `get_or xs i d` is the
+  element i of xs, or d where xs has none; `set xs i x` is xs with x at place i; `sets xs i ys` is xs with ys from
+  place i on, as far as xs goes.
 - Below a clause stand the definitions of this repository that it cites; `take`, `drop`, `length` and the like come
   from the toolchain's libraries.
 
@@ -66,8 +67,8 @@ A function with several clauses has a name for each. The name of a field of the 
 NOTHING_OWED = "None of these functions has a `requires`: a caller owes them nothing."
 
 FUNCTION = re.compile(r'^ *pub (?:(?:const|unsafe|extern "C") )*fn (\w+)', re.M)
-CLAUSE = re.compile(r"\s*(requires|ensures|ghost)\b(?: (\w+))? *(?=\{)")
-USE = re.compile(r"^ghost use Rattle·(\w+)(?:·specs)?\.specs\.([\w.-]+?)(?:\.\{([^}]*)\}| as (\w+))?;", re.M)
+CLAUSE = re.compile(r"\s*(requires|ensures|ghost)\b\*?(?: (\w+))? *(?=\{)")
+USE = re.compile(r"^ghost use Rattle\.(\w+)\.specs\.([\w.]+?)(?:\.\{([^}]*)\}| as (\w+))?;", re.M)
 
 
 class Clause(NamedTuple):
@@ -94,7 +95,7 @@ def read_rooms():
             said = line[1:].strip()
         else:
             if ":" in line:
-                rooms[-1][1].append((line.split(":", 1)[0].strip(), said))
+                rooms[-1][1].append((line.split(":", 1)[0].split()[0], said))
             said = ""
     return [room for room in rooms if room[0] or room[1]]
 
@@ -138,10 +139,11 @@ def closing(text, at):
 
 
 def brought_in(text):
-    """What a source's `ghost use` lines bring in of specs: names, and modules by the name that they are called by."""
+    """What a source's `ghost use` lines bring in of specs: names, and modules by the name that they are called by.
+    What comes from std, words that all crates share, and what the toolchain declares for a type is left out."""
     names, modules = {}, {}
     for crate, module, some, alias in USE.findall(text):
-        if module.split(".")[0] == "declared":
+        if crate == "std" or module.split(".")[0] == "declared":
             continue
         if some:
             names.update({name.strip(): (crate, module) for name in some.split(",")})
@@ -154,7 +156,7 @@ def cited(clause, bound, names, modules):
     """The definitions that a clause cites, each once: the words for it, its crate, its module and its own name."""
     bound = bound | set(re.findall(r"(?:λ|let) (\w+)", clause))
     found = {}
-    for word in re.findall(r"[^\s(){}\[\],;λ⌜⌝]+", clause):
+    for word in re.findall(r"[^\s(){}\[\],;λ]+", clause):
         module, dot, name = word.partition(".")
         if word in names and word not in bound:
             found[word] = (*names[word], word)
@@ -266,7 +268,7 @@ def faults(functions):
         for clause in promised if len(promised) > 1 else []:
             said = next((name for name in NAMES if f"{clause.name}_".startswith(f"{name}_")), "")
             field = clause.name[len(said) :].lstrip("_")
-            if not clause.name or field and f" .{field}" not in clause.text:
+            if not clause.name or field and not re.search(rf"\.{field}\b", clause.text):
                 found.append(f"{function.name}: a clause has no name, or one that isn't known: {clause.name}")
     return found
 

@@ -1,13 +1,13 @@
 /* Huntyghai for C: the proved checker for recipes as a static library.
  *
- * Build it with `rt staticlib huntyghai` and link target/staticlib/libhuntyghai.a. Each function is proved to meet the
- * promise of its Rattle source (crates/huntyghai), for every input; nothing checks this header against that source.
- * docs/CALLING.md has programs that use it, and docs/FORMAT.md says what verdicts, refusals and numbers mean.
+ * Build it with `rt lib` in crates/huntyghai and link crates/huntyghai/out/libhuntyghai.a. Each function is proved to
+ * meet the promise of its Rattle source (crates/huntyghai), for every input; nothing checks this header against that
+ * source. docs/CALLING.md has programs that use it, and docs/FORMAT.md says what verdicts, refusals and numbers mean.
  *
  * A slice is a pointer and a length in elements. A length of 0 may come with any pointer; the parts of memory lent to
  * one call must not overlap where one of them is written to. Nothing is kept after a call and nothing is allocated.
- * A call holds its arrays on the stack: at most 96 KiB in huntyghai_report, 32 in huntyghai_causal_reading and in
- * huntyghai_check_history, 26 in huntyghai_check_set, 22 in huntyghai_read_history, 19 in huntyghai_translate and 3 in
+ * A call holds its arrays on the stack: at most 100 KiB in huntyghai_report, 35 in huntyghai_check_history, 34 in
+ * huntyghai_causal_reading, 26 in huntyghai_check_set, 23 in huntyghai_read_history and in huntyghai_translate and 3 in
  * the two by the completion formulas, on every input tried, the largest recipe and tables of 4,096 rules among them;
  * what a thread takes for itself comes on top (measured, not proved).
  *

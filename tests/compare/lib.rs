@@ -3,7 +3,7 @@
 //! - `cargo test --release`: the comparison tried on itself, and the cases of tests/cases by the oracle.
 //! - `cargo run --release --bin compare -- --seed SEED --lists N --cases cases`: so many lists of calls, drawn from a seed, and the
 //!   cases of a folder, with the library linked. It is looked for in the directory named by HUNTYGHAI_LIB, or else in
-//!   `../target/staticlib`.
+//!   `../crates/huntyghai/out`.
 
 pub mod call;
 pub mod cases;
