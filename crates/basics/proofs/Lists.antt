@@ -62,7 +62,7 @@ each-range P k zero at e = (λ h i b. absurd (omega arith), λ h. tt)
 each-range P k (suc n) at e =
     let here : at 0 ≡ k = omega (arith, e 0) in
     let rest = each-range P (suc k) n (λ i. at (suc i)) (λ i. omega (arith, e (suc i))) in (
-      λ h i. elim i [ zero ↦ λ b. rw here h.0 | suc j ↦ λ b. rest.0 h.1 j (omega arith) ],
+      λ h i. elim i as (λ i. i < suc n → P (at i)) [ zero ↦ λ b. rw here h.0 | suc j ↦ λ b. rest.0 h.1 j (omega arith) ],
       λ h. (rw here at (h 0 (omega arith)), rest.1 (λ i b. h (suc i) (omega arith))),
     )
 

@@ -107,7 +107,8 @@ pub no_place : {r : Found} {found : Option ℕ} → place_of r ≡ found → r �
 no_place is e = sym is ∙ ap place_of e
 
 -- and what its refusal says
-pub refused-at : (number : ℕ) {r : Found} {found : Option ℕ} {k : ℕ} → refusal_of number r ≡ refusal number found → r ≡ At k → found ≡ some k
+pub refused-at : (number : ℕ) {r : Found} {found : Option ℕ} {k : ℕ} → refusal_of number r ≡ refusal number found → r ≡ At k
+    → found ≡ some k
 refused-at number {r} {found} {k} is e = place found (sym is ∙ ap (refusal_of number) e)
   where
     place : (o : Option ℕ) → refusal number o ≡ refused number k → o ≡ some k

@@ -17,7 +17,8 @@ get_d_replicate (suc n) zero a = refl
 get_d_replicate (suc n) (suc i) a = get_d_replicate n i a
 
 -- what stands at j after a store at i
-pub get_d_set : {A : Type 0} (l : List A) (i : ℕ) (a d : A) → i < length l → (j : ℕ) → get_or (set l i a) j d ≡ cond (eqb i j) a (get_or l j d)
+pub get_d_set : {A : Type 0} (l : List A) (i : ℕ) (a d : A) → i < length l → (j : ℕ)
+    → get_or (set l i a) j d ≡ cond (eqb i j) a (get_or l j d)
 get_d_set l i a d h j = ⊎_elim same other (true-or-false (eqb i j))
   where
     same : eqb i j ≡ true → get_or (set l i a) j d ≡ cond (eqb i j) a (get_or l j d)

@@ -66,7 +66,8 @@ each-map₂ f (x ∷ xs) h k = (f x h.0 k.0, each-map₂ f xs h.1 k.1)
 pub each_at : {A : Type 0} (P : A → Type 0) (d : A) (xs : List A) → Each P xs ↔ ((i : ℕ) → i < length xs → P (get_or xs i d))
 each_at P d [] = (λ h i b. absurd (omega arith), λ h. tt)
 each_at P d (x ∷ xs) = (
-  λ h i. elim i [ zero ↦ λ b. h.0 | suc j ↦ λ b. (each_at P d xs).0 h.1 j (omega arith) ],
+  λ h i. elim i as (λ i. i < length (x ∷ xs) → P (get_or (x ∷ xs) i d))
+      [ zero ↦ λ b. h.0 | suc j ↦ λ b. (each_at P d xs).0 h.1 j (omega arith) ],
   λ h. (h 0 (omega arith), (each_at P d xs).1 (λ i b. h (suc i) (omega arith))),
 )
 
@@ -132,7 +133,7 @@ module _ {A : Type 0} (p : A → Bool) (d : A) where
             (
               omega arith,
               holds,
-              λ m. elim m [
+              λ m. elim m as (λ m. m < suc i → p (get_or (x ∷ xs) m d) ≡ true → ⊥) [
                 | zero ↦ λ below q. not-both q f
                 | suc m ↦ λ below q. lowest m (omega arith) q
               ],

@@ -1,12 +1,14 @@
 // The place of something searched for: what the searches of the crates above answer.
-#[derive(Drop)]
+#![tactic(auto)]
+
+#[derive(Clone, Copy)]
 pub enum Found {
     At(usize),
     Nothing,
 }
 
 // Whether tests let a call pass; else the number and the place of the first that refuses it.
-#[derive(Drop)]
+#[derive(Clone, Copy)]
 pub enum Tested {
     Refused(u8, usize),
     Accepted,
