@@ -15,7 +15,8 @@ use Rattle.logic_programs.specs.Rules.{Head, lit, falsum, Rule}
 use Rattle.logic_programs.specs.Words.{head_word, rule_words, words, head_of, rule_size, rule_at, rules_in, rules_of, head_fits}
 use Rattle.logic_programs.specs.Words.{rule_fits, bad_rule_in, bad_rule}
 use Rattle.basics.proofs.Tests.{true_of_not, and-iff, or-iff, each_map, each_append}
-use Rattle.rule_tables.proofs.Fitting.{after_rule, fewer, bad_rule_from, bad_rule_from-cons, bad_rule_from-nil, bad_rule-from, rule_fits-iff}
+use Rattle.rule_tables.proofs.Fitting.{after_rule, fewer, bad_rule_from, bad_rule_from-cons, bad_rule_from-nil}
+use Rattle.rule_tables.proofs.Fitting.{bad_rule-from, rule_fits-iff}
 use Rattle.rule_tables.proofs.Walking.{rules_of-nil, rules_of-cons}
 use Rattle.answer_set_theory.proofs.Least.{HeadBelow, HeadsBelow}
 use borrow.Author.Tests.{ltb-true, lt-ltb, eqb-true, ne_eqb}
@@ -87,8 +88,8 @@ word_fits : (n : ℕ) (h : Head) → HeadBelow (2 * n) h → head_fits n (head_w
 word_fits n (lit c) b = (or-iff (eqb c 65535) (ltb c (2 * n))).1 (inr (lt-ltb c (2 * n) b))
 word_fits n falsum b = refl
 
-pub rule_fits_lem : (n : ℕ) (r : Rule) (ws : List ℕ) → RuleBelow (2 * n) r → rule_fits n (rule_words r ++ ws) ≡ true
-rule_fits_lem n r ws b =
+pub rule_words-fit : (n : ℕ) (r : Rule) (ws : List ℕ) → RuleBelow (2 * n) r → rule_fits n (rule_words r ++ ws) ≡ true
+rule_words-fit n r ws b =
     (rule_fits-iff n (rule_words r ++ ws)).1 (
       omega (arith, length-append parts ws, length-append r.negated r.plain),
       word_fits n r.head b.0,
@@ -102,7 +103,7 @@ rule_fits_lem n r ws b =
 words-fit : (n k at : ℕ) (Π : List Rule) → CodesBelow (2 * n) Π → k + length Π ≤ 4096 → bad_rule_from n k at (words Π) ≡ none
 words-fit n k at [] h few = bad_rule_from-nil n k at
 words-fit n k at (r ∷ rs) h few =
-    rw (bad_rule_from-cons, lt-ltb k 4096 (omega arith), rule_fits_lem n r (words rs) h.0, rest-on r (words rs))
+    rw (bad_rule_from-cons, lt-ltb k 4096 (omega arith), rule_words-fit n r (words rs) h.0, rest-on r (words rs))
     (words-fit n (suc k) (at + rule_size (words (r ∷ rs))) rs h.1 (omega arith))
 
 pub words-accepted : (n : ℕ) (Π : List Rule) → CodesBelow (2 * n) Π → length Π ≤ 4096 → bad_rule n (words Π) ≡ none

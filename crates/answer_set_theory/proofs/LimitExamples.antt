@@ -23,7 +23,7 @@ use Rattle.answer_set_theory.specs.Answers.{answer}
 use Rattle.rule_tables.specs.Acceptance.{Accepted}
 use Rattle.answer_set_theory.specs.Limits.{RuleOver, AcceptedValues, AcceptedTable}
 use Rattle.answer_set_theory.specs.LimitExamples.{accepted_tables, IsAccepted, bad_tables, IsBad, fact, facts, LimitsHold}
-use Rattle.answer_set_theory.proofs.Decoding.{rule_fits}
+use Rattle.answer_set_theory.proofs.Decoding.{rule_words-fit}
 use Rattle.answer_set_theory.proofs.Theorems.{no-literal, set_of-below, passes-exactly}
 use Rattle.answer_set_theory.proofs.Limits.{table-iff, table-rules, within-limits}
 
@@ -102,7 +102,7 @@ facts-over k at (suc m) before all = go (ltb k 4096) refl (facts-over (suc k) (a
         → bad_rule_from 1 k at (facts (suc m)) ≡ some (at + 3 * (4096 - k))
     go true t later =
         let below = ltb-true k 4096 t in
-        rw (bad_rule_from-cons, t, rule_fits 1 fact (facts m) (omega arith, tt, tt))
+        rw (bad_rule_from-cons, t, rule_words-fit 1 fact (facts m) (omega arith, tt, tt))
         (later (omega arith) (omega arith) ∙ ap {B = Option ℕ} some (omega arith))
     go false f later = let last = ltb-false k 4096 f in rw (bad_rule_from-cons, f) (ap {B = Option ℕ} some (omega arith))
 

@@ -1,1 +1,2 @@
 // Theorems on answer sets; no code.
+#![tactic(auto)]

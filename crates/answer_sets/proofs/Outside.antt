@@ -62,7 +62,8 @@ module _ (rest : List ℕ) (w : ℕ) (Y : Lits) where
   unfolding waits_for
   waits-still r is e = rw (← is, e)
 
-  pub waits-none : (r h : Bool) → r ≡ (ltb w 2048 && not (Y w)) → r ≡ false → h ≡ Y (get_or rest 0 0) → h ≡ true → 65535 ≡ waits_for rest w Y
+  pub waits-none : (r h : Bool) → r ≡ (ltb w 2048 && not (Y w)) → r ≡ false → h ≡ Y (get_or rest 0 0) → h ≡ true
+      → 65535 ≡ waits_for rest w Y
   unfolding waits_for
   waits-none r h is e head t = rw (← is, e, ← head, t)
 

@@ -9,7 +9,7 @@ use Prim.Native.Nat.{ℕ, ◌+◌, ◌*◌, ◌≤◌, ◌<◌}
 use native.Mathlib.Numerals.{add-one}
 use native.Mathlib.Omega.{arith}
 use borrow.Author.Count.{below_more}
-use borrow.Author.Tests.{eqb-false, not-true, not-false}
+use borrow.Author.Tests.{eqb-false}
 use lib.Dec.{eqb}
 use lib.ListN.{length, get_or, take, drop, set, length-set, length-drop}
 use lib.Seq.{take-suc-set, drop-drop, get_or-drop, get_or-set_same, get_or-set_other}
@@ -100,11 +100,11 @@ module _ (table : List ℕ) (X : Lits) (n : ℕ) (starts rest : List ℕ) (at ru
   rest-enough Z sub c = rw (rules-front rest h) at (inv.enough Z sub c)
 
   -- it is broken
-  pub scan-stop : (a i : Bool) → a ≡ front_applies X X rest → a ≡ true → i ≡ head_in (head_of (get_or rest 0 0)) X → not i ≡ true
+  pub scan-stop : (a i : Bool) → a ≡ front_applies X X rest → a ≡ true → i ≡ head_in (head_of (get_or rest 0 0)) X → i ≡ false
       → some rule ≡ first (is_broken X) 0 (rules_of table)
   scan-stop a i is t head f =
       let applied = sym (whole-applies X X rest here is) ∙ t in
-      let lacks = sym head ∙ not-true i f in
+      let lacks = sym head ∙ f in
       rule-stop (is_broken X) rule rest h inv.unbroken (rw (applied, lacks))
 
   module _ (small : (k : ℕ) → get_or table k 0 < 65536) where
@@ -183,14 +183,14 @@ module _ (table : List ℕ) (X : Lits) (n : ℕ) (starts rest : List ℕ) (at ru
         }
 
     pub scan-turn : {a : Bool} → a ≡ front_applies X X rest → (starts' : List ℕ) (count' : ℕ)
-        → ((a ≡ true) × ((i : Bool) × (i ≡ head_in (head_of (get_or rest 0 0)) X) × (not i ≡ false))
+        → ((a ≡ true) × ((i : Bool) × (i ≡ head_in (head_of (get_or rest 0 0)) X) × (i ≡ true))
         × (starts' ≡ set starts count at) × (count' ≡ count + 1))
         ⊎ ((a ≡ false) × (starts' ≡ starts) × (count' ≡ count))
         → Scanned table X n starts' (drop (rule_size rest) rest) (at + rule_size rest) (rule + 1) count'
     scan-turn is starts' count' came =
         let e = whole-applies X X rest here is in
         ⊎_elim
-        (λ w. rw (w.2, w.3) (keeps (sym e ∙ w.0) (sym w.1.1 ∙ not-false w.1.0 w.1.2)))
+        (λ w. rw (w.2, w.3) (keeps (sym e ∙ w.0) (sym w.1.1 ∙ w.1.2)))
         (λ w. rw (w.1, w.2) (passes-by (sym e ∙ w.0)))
         came
 

@@ -13,7 +13,7 @@ use basics::Found;
 use literal_sets::marks;
 
 // The marks after a round, and how many rules still wait.
-#[derive(Drop)]
+#[derive(Clone, Copy)]
 struct Outcome {
     marks: [u64; 32],
     left: usize,
@@ -28,11 +28,11 @@ fn round(
     waits: &mut [u16],
     count: usize,
 ) -> Outcome
-    requires count_in_bounds { count ≤ length starts.old }
-    requires count_in_bounds_2 { count ≤ length waits.old }
-    requires each_waiting { EachWaiting table.now starts.old waits.old count }
-    ensures left_le_count { result.left ≤ count }
-    ensures each_waiting_2 { EachWaiting table.now starts.new waits.new result.left }
+    requires starts_room { count ≤ length starts.old }
+    requires waits_room { count ≤ length waits.old }
+    requires waiting { EachWaiting table.now starts.old waits.old count }
+    ensures no_more { result.left ≤ count }
+    ensures still_waiting { EachWaiting table.now starts.new waits.new result.left }
     ensures made { Made table.now (marked old) (take count starts.old) result.marks
         (take result.left starts.new) }
 {
@@ -60,7 +60,7 @@ fn round(
 }
 
 // The lowest broken rule, if any; else the marks of the least closed set.
-#[derive(Drop)]
+#[derive(Clone, Copy)]
 pub(crate) struct Derivation {
     pub(crate) broken: Found,
     pub(crate) marks: [u64; 32],
@@ -75,11 +75,11 @@ fn derive_in(
     starts: &mut [u32],
     waits: &mut [u16],
 ) -> Derivation
-    requires atoms_bound { atoms ≤ 1024 }
-    requires table_value { bad_rule atoms table.now ≡ none }
+    requires few_atoms { atoms ≤ 1024 }
+    requires fitting { bad_rule atoms table.now ≡ none }
     requires roomy { Roomy table.now (length starts.old) }
-    requires waits_value { waits.old ≡ replicate (length starts.old) 65535 }
-    ensures broken_value { place_of result.broken ≡ first (is_broken (marked x.now)) 0 (rules_of table.now) }
+    requires none_waits { waits.old ≡ replicate (length starts.old) 65535 }
+    ensures lowest_broken { place_of result.broken ≡ first (is_broken (marked x.now)) 0 (rules_of table.now) }
     ensures derived { Derived atoms (rules_of table.now) (marked x.now) result.marks }
 {
     let limit = 2 * atoms + 1;
@@ -116,9 +116,9 @@ fn derive_in(
 // The lowest broken rule or the least closed set. A rule takes three words at least, so a short table needs little room; most recipes of
 // an editor are short.
 pub(crate) fn derive(table: &[u16], x: &[u64], atoms: usize) -> Derivation
-    requires atoms_bound { atoms ≤ 1024 }
-    requires table_value { bad_rule atoms table.now ≡ none }
-    ensures broken_value { place_of result.broken ≡ first (is_broken (marked x.now)) 0 (rules_of table.now) }
+    requires few_atoms { atoms ≤ 1024 }
+    requires fitting { bad_rule atoms table.now ≡ none }
+    ensures lowest_broken { place_of result.broken ≡ first (is_broken (marked x.now)) 0 (rules_of table.now) }
     ensures derived { Derived atoms (rules_of table.now) (marked x.now) result.marks }
 {
     if table.len() <= 768 {

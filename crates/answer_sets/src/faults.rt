@@ -12,9 +12,9 @@ use basics::Found;
 
 // The first verdict that holds.
 pub(crate) fn judge(values: &[u8], table: &[u16]) -> Answer
-    requires values_len_bound { length values.now ≤ 1024 }
-    requires values_value { bad_value values.now ≡ none }
-    requires table_value { bad_rule (length values.now) table.now ≡ none }
+    requires few_values { length values.now ≤ 1024 }
+    requires values_fit { bad_value values.now ≡ none }
+    requires rules_fit { bad_rule (length values.now) table.now ≡ none }
     ensures { reply_of result ≡ answered
         (verdict (length values.now) (rules_of table.now) (set_of values.now)) }
 {

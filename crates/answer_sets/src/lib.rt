@@ -1,4 +1,6 @@
 // The answer-set engine: whether a set of literals is an answer set of a rule table. It knows nothing of what atoms mean.
+#![tactic(auto)]
+
 mod derivation;
 mod faults;
 mod pending;
@@ -13,7 +15,7 @@ use basics::Tested;
 use rule_tables::acceptance;
 
 // A refusal's number and place, or the first verdict that holds with the atom, rule or literal code that it names.
-#[derive(Drop)]
+#[derive(Clone, Copy)]
 pub enum Answer {
     Refused(u8, usize),
     Clash(usize),

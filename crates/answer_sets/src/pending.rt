@@ -80,7 +80,7 @@ pub(crate) fn waits_for(rest: &[u16], wait: u16, marks: &[u64]) -> u16
 }
 
 // The lowest rule that a set breaks, if any, and how many rules apply in the set before it.
-#[derive(Drop)]
+#[derive(Clone, Copy)]
 pub(crate) struct Applying {
     pub(crate) broken: Found,
     pub(crate) count: usize,
@@ -91,7 +91,7 @@ pub(crate) struct Applying {
 pub(crate) fn scan(table: &[u16], x: &[u64], starts: &mut [u32]) -> Applying
     requires sound { Sound table.now }
     requires roomy { Roomy table.now (length starts.old) }
-    ensures broken_value { place_of result.broken ≡ first (is_broken (marked x.now)) 0 (rules_of table.now) }
+    ensures lowest_broken { place_of result.broken ≡ first (is_broken (marked x.now)) 0 (rules_of table.now) }
     ensures begun { first (is_broken (marked x.now)) 0 (rules_of table.now) ≡ none
         → Begun table.now (marked x.now) starts.new result.count }
 {

@@ -1,6 +1,6 @@
 -- The rule at the front of a table: its body, its head's mark, and its levels; and the marks of the heads, rule by rule.
 -- Assumes nothing.
-use mathlib.Core.Path.{◌≡◌, refl, sym, ◌∙◌}
+use mathlib.Core.Path.{◌≡◌, refl, sym, ap, ◌∙◌}
 use mathlib.Core.Bool.{Bool, true, false, cond, not, ◌&&◌, ◌||◌, and-false, beq}
 use mathlib.Core.List.{List}
 use mathlib.Core.Logic.{◌⊎◌, inl, inr}
@@ -24,11 +24,11 @@ use Rattle.completion.specs.Internal.{marked_head, read_as, mark_of, head_of_mar
 
 -- a body: first its negated parts are looked at, then its plain ones
 module _ (X : Lits) (ws : List ℕ) (r : Bool) (is : r ≡ all (λ c. X (read_as true c)) (rule_at ws).negated) where
-  pub holds-stop : not r ≡ true → false ≡ body_holds X (rule_at ws)
-  holds-stop e = and-stop r (all X (rule_at ws).plain) is e
+  pub holds-stop : r ≡ false → false ≡ body_holds X (rule_at ws)
+  holds-stop e = and-stop r (all X (rule_at ws).plain) is (ap not e)
 
-  pub holds-go : (q : Bool) → not r ≡ false → q ≡ all X (rule_at ws).plain → q ≡ body_holds X (rule_at ws)
-  holds-go q e plain = and-go r q is e plain
+  pub holds-go : (q : Bool) → r ≡ true → q ≡ all X (rule_at ws).plain → q ≡ body_holds X (rule_at ws)
+  holds-go q e plain = and-go r q is (ap not e) plain
 
 -- a head word's mark is that of its head
 same-mark : (w k : ℕ) → (w ≡ 65535 → ⊥) → w < 2048 → eqb w k ≡ same_head (lit w) (head_of_mark k)

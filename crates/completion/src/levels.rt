@@ -41,7 +41,7 @@ fn stands_above(rest: &[u16], levels: &[u16]) -> bool
 // The lowest rule whose head does not stand above its plain parts.
 fn first_not_above(table: &[u16], levels: &[u16]) -> Found
     requires { Sound table.now × Levelled levels.now table.now }
-    ensures* { λ r. ⌜ place_of r ≡ first (λ r. not (stands_above levels.now r)) 0 (rules_of table.now) ⌝ }
+    ensures { place_of result ≡ first (λ r. not (stands_above levels.now r)) 0 (rules_of table.now) }
 {
     let mut rest = table;
     let mut rule = 0;
@@ -69,7 +69,7 @@ fn wrong_count(levels: &[u16], atoms: usize) -> Found
 
 // Refusal 13: the count of the levels, or the lowest rule that they do not fit.
 pub(crate) fn bad_levels(table: &[u16], levels: &[u16], atoms: usize) -> Found
-    requires atoms_bound { atoms ≤ 1024 }
+    requires few_atoms { atoms ≤ 1024 }
     requires sound { Sound table.now × PlainBelow (2 * atoms) table.now }
     ensures { place_of result ≡ bad_levels atoms table.now levels.now }
 {

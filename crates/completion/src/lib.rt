@@ -1,6 +1,8 @@
 // Judging by the completion formulas: whether a set of literals satisfies the literal completion of a rule table. No derivation is
 // made: one pass through the table marks the heads that have a body that holds, and one through the literals compares them with
 // the set. It knows nothing of what atoms mean.
+#![tactic(auto)]
+
 mod heads;
 mod levels;
 
@@ -20,7 +22,7 @@ use rule_tables::acceptance;
 
 // A refusal's number and place; or missing or clash with the lowest atom that has no value or both; or the head word of the first
 // formula that fails, which is a literal's code, or 65535 for false, which comes last.
-#[derive(Drop)]
+#[derive(Clone, Copy)]
 pub enum Answer {
     Refused(u8, usize),
     Missing(usize),
@@ -31,8 +33,8 @@ pub enum Answer {
 
 // What the formulas say of accepted values and an accepted table.
 fn judge_formulas(values: &[u8], table: &[u16]) -> Answer
-    requires values_len_bound { length values.now ≤ 1024 }
-    requires table_value { bad_rule (length values.now) table.now ≡ none }
+    requires few_values { length values.now ≤ 1024 }
+    requires rules_fit { bad_rule (length values.now) table.now ≡ none }
     ensures { reply_of result ≡ answered
         (judged_by_formulas (length values.now) (rules_of table.now) (set_of values.now)) }
 {
@@ -48,8 +50,8 @@ fn judge_formulas(values: &[u8], table: &[u16]) -> Answer
 
 // What is found of accepted values and an accepted table.
 fn judge(values: &[u8], table: &[u16]) -> Answer
-    requires values_len_bound { length values.now ≤ 1024 }
-    requires table_value { bad_rule (length values.now) table.now ≡ none }
+    requires few_values { length values.now ≤ 1024 }
+    requires rules_fit { bad_rule (length values.now) table.now ≡ none }
     ensures { reply_of result ≡ answered (formula_finding values.now table.now) }
 {
     let fault = literal_sets::values::first_fault(values);

@@ -101,7 +101,8 @@ table-over n ws e = each_map (λ r b. (head r.head b.0, b.1, b.2)) (rules_of ws)
     head falsum b = tt
 
 -- 000, Proposition 3, for one value an atom
-pub completion-answer-set : (vs ws : List ℕ) → bad_rule (length vs) ws ≡ none → Each OneValue vs → (level : ℕ → ℕ) → Tight level (rules_of ws)
+pub completion-answer-set : (vs ws : List ℕ) → bad_rule (length vs) ws ≡ none → Each OneValue vs
+    → (level : ℕ → ℕ) → Tight level (rules_of ws)
     → Completion (length vs) (rules_of ws) (set_of vs) ↔ AnswerSet (rules_of ws) (set_of vs)
 completion-answer-set vs ws fits one level tight =
     let by = proposition-3 level (length vs) (rules_of ws) tight (table-over (length vs) ws fits) (set_of vs) (one-complete vs one) in

@@ -44,7 +44,7 @@ fn first_none_or_both(values: &[u8]) -> Found
 }
 
 // An atom without a value, an atom with both, or neither: each atom has one value.
-#[derive(Drop)]
+#[derive(Clone, Copy)]
 pub enum Fault {
     Missing(usize),
     Clash(usize),

@@ -72,11 +72,13 @@ module _ (vs : List ℕ) where
   pub lowest-none-or-both : (a : ℕ) → first none_or_both 0 vs ≡ some a
       ↔ Lowest (λ i. (get_or vs i 0 ≡ 0) ⊎ (get_or vs i 0 ≡ 3)) (length vs) a
   lowest-none-or-both =
-      first-lowest none_or_both 0 vs (length vs) refl (λ i. (get_or vs i 0 ≡ 0) ⊎ (get_or vs i 0 ≡ 3)) (λ i b. none-or-both-iff (get_or vs i 0))
+      first-lowest none_or_both 0 vs (length vs) refl (λ i. (get_or vs i 0 ≡ 0) ⊎ (get_or vs i 0 ≡ 3))
+      (λ i b. none-or-both-iff (get_or vs i 0))
 
   pub nowhere-none-or-both : first none_or_both 0 vs ≡ none ↔ Nowhere (λ i. (get_or vs i 0 ≡ 0) ⊎ (get_or vs i 0 ≡ 3)) (length vs)
   nowhere-none-or-both =
-      first-nowhere none_or_both 0 vs (length vs) refl (λ i. (get_or vs i 0 ≡ 0) ⊎ (get_or vs i 0 ≡ 3)) (λ i b. none-or-both-iff (get_or vs i 0))
+      first-nowhere none_or_both 0 vs (length vs) refl (λ i. (get_or vs i 0 ≡ 0) ⊎ (get_or vs i 0 ≡ 3))
+      (λ i b. none-or-both-iff (get_or vs i 0))
 
   pub all-one-value : Each OneValue vs → first none_or_both 0 vs ≡ none
   all-one-value one = (none-iff none_or_both 0 vs).1 (each_map one-value-neither vs one)

@@ -1,7 +1,8 @@
 -- A rule table: each rule is a run of words, its head code (65535 for false), the count of its negated parts, the count of
 -- its plain parts, the negated parts, the plain parts.
 -- Assumes nothing.
-use Rattle.std.specs.Prelude.{Bool, cond, ◌&&◌, ◌||◌, List, [], ◌∷◌, ◌++◌, ℕ, zero, suc, ◌+◌, ◌*◌, eqb, ltb, leb, length, get_or, take, drop}
+use Rattle.std.specs.Prelude.{Bool, cond, ◌&&◌, ◌||◌, List, [], ◌∷◌, ◌++◌, ℕ, zero, suc, ◌+◌, ◌*◌, eqb, ltb, leb}
+use Rattle.std.specs.Prelude.{length, get_or, take, drop}
 use Rattle.std.proofs.Math.Option.{Option, none, some}
 use Rattle.basics.specs.Search.{all}
 use Rattle.logic_programs.specs.Rules.{Head, lit, falsum, Rule}

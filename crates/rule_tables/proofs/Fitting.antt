@@ -65,7 +65,8 @@ parts_fit-iff n cs = (
 
 -- a rule fits: it does not run past the end, its head is in range, and so are its parts
 pub rule_fits-iff : (n : ℕ) (ws : List ℕ) → rule_fits n ws ≡ true
-    ↔ ((rule_size ws ≤ length ws) × (head_fits n (get_or ws 0 0) ≡ true) × Each (λ c. c < 2 * n) (take (get_or ws 1 0 + get_or ws 2 0) (drop 3 ws)))
+    ↔ ((rule_size ws ≤ length ws) × (head_fits n (get_or ws 0 0) ≡ true)
+    × Each (λ c. c < 2 * n) (take (get_or ws 1 0 + get_or ws 2 0) (drop 3 ws)))
 rule_fits-iff n ws = (
   λ e. let h = both.0 e in (leb-true _ _ h.0, h.1, (parts_fit-iff n parts).0 h.2),
   λ h. both.1 (le-leb _ _ h.0, h.1, (parts_fit-iff n parts).1 h.2),
@@ -74,5 +75,6 @@ rule_fits-iff n ws = (
     parts : List ℕ
     parts = take (get_or ws 1 0 + get_or ws 2 0) (drop 3 ws)
 
-    both : rule_fits n ws ≡ true ↔ ((leb (rule_size ws) (length ws) ≡ true) × (head_fits n (get_or ws 0 0) ≡ true) × (parts_fit n parts ≡ true))
+    both : rule_fits n ws ≡ true
+        ↔ ((leb (rule_size ws) (length ws) ≡ true) × (head_fits n (get_or ws 0 0) ≡ true) × (parts_fit n parts ≡ true))
     both = and₃-iff (leb (rule_size ws) (length ws)) (head_fits n (get_or ws 0 0)) (parts_fit n parts)

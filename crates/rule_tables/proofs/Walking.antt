@@ -42,7 +42,8 @@ rules_of-nil = refl
 pub rules_of-cons : (w : ℕ) (ws : List ℕ) → rules_of (w ∷ ws) ≡ rule_at (w ∷ ws) ∷ rules_of (drop (rule_size (w ∷ ws)) (w ∷ ws))
 unfolding rules_of
 rules_of-cons w ws =
-    ap {B = List Rule} (λ rs. rule_at (w ∷ ws) ∷ rs) (rules_in-enough (length ws) (after_rule (w ∷ ws)) (fewer w ws (length ws) (omega arith)))
+    ap {B = List Rule} (λ rs. rule_at (w ∷ ws) ∷ rs)
+    (rules_in-enough (length ws) (after_rule (w ∷ ws)) (fewer w ws (length ws) (omega arith)))
 
 -- a table of rules that is not at its end
 pub rules-front : (ws : List ℕ) → 0 < length ws → rules_of ws ≡ rule_at ws ∷ rules_of (drop (rule_size ws) ws)
@@ -102,7 +103,8 @@ module _ (p : Rule → Bool) (k : ℕ) (ws : List ℕ) {R : Option ℕ} where
   pub rule-stop : 0 < length ws → first p k (rules_of ws) ≡ R → p (rule_at ws) ≡ true → some k ≡ R
   rule-stop h inv e = rw (rules-front ws h, e) at inv
 
-  pub rule-go : 0 < length ws → first p k (rules_of ws) ≡ R → p (rule_at ws) ≡ false → first p (k + 1) (rules_of (drop (rule_size ws) ws)) ≡ R
+  pub rule-go : 0 < length ws → first p k (rules_of ws) ≡ R → p (rule_at ws) ≡ false
+      → first p (k + 1) (rules_of (drop (rule_size ws) ws)) ≡ R
   rule-go h inv e = rw add-one (rw (rules-front ws h, e) at inv)
 
   pub rule_end : length ws ≤ 0 → first p k (rules_of ws) ≡ R → none ≡ R

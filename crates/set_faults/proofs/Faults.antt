@@ -14,9 +14,9 @@ use Rattle.logic_programs.specs.Literals.{Lits, set_of, holds_true, holds_false}
 use Rattle.answer_set_theory.specs.Verdicts.{both_values, is_unfounded}
 
 -- an atom has both values where its byte is 3
-pub both_values_lem : (vs : List ℕ) (a : ℕ) → both_values (set_of vs) a ≡ eqb (get_or vs a 0) 3
+pub both_values-byte : (vs : List ℕ) (a : ℕ) → both_values (set_of vs) a ≡ eqb (get_or vs a 0) 3
 unfolding set_of holds_true holds_false
-both_values_lem vs a =
+both_values-byte vs a =
     let even : 2 * a % 2 ≡ 0 = omega arith in
     let own : 2 * a / 2 ≡ a = omega arith in
     let odd : (2 * a + 1) % 2 ≡ 1 = omega arith in

@@ -1,5 +1,7 @@
 // The lowest fault of each kind that a set of literals can have by itself: an atom with both values, and a literal outside the least
 // closed set.
+#![tactic(auto)]
+
 ghost use Rattle.std.specs.Prelude.{◌≡◌, length};
 ghost use Rattle.basics.specs.Search.{first, place_of, range};
 ghost use Rattle.logic_programs.specs.Literals.{set_of};

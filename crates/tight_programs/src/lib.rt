@@ -1,1 +1,2 @@
 // Theorems on tight programs; no code.
+#![tactic(auto)]

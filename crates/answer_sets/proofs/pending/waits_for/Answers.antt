@@ -1,0 +1,19 @@
+-- `answer_sets::pending::waits_for` meets its contract.
+-- Assumes nothing.
+use mathlib.Core.Path.{sym, ◌∙◌}
+use Rattle.rule_tables.proofs.Fronts.{plain-whole}
+use Rattle.answer_sets.proofs.Outside.{waits-still, waits-none, waits-part}
+use Rattle.answer_sets.proofs.pending.waits_for.Goals as goal
+
+pub returns-then-still_waits : goal.returns-then-still_waits
+returns-then-still_waits c = waits-still _ _ _ _ c.still_waits.ensures c.if-still_waits.true
+
+pub returns-then-has : goal.returns-then-has
+returns-then-has c =
+    waits-none _ _ _ _ _ c.still_waits.ensures c.if-still_waits.false c.has.ensures c.if-has.true
+
+pub returns : goal.returns
+returns c =
+    let parts = c.plain_parts.ensures ∙ sym (plain-whole c.args.rest.now c.requires) in
+    waits-part _ _ _ _ _ c.still_waits.ensures c.if-still_waits.false c.has.ensures c.if-has.false _
+    (rw parts at c.first_outside.ensures)
