@@ -1,20 +1,21 @@
 // Descriptions in action language C as records: law records, and the counts beside them: no function.
+#![tactic(auto)]
 
 // A head is a fluent literal's code or false.
-#[derive(Drop)]
+#[derive(Clone, Copy)]
 pub enum Head {
     Lit(u8),
     False,
 }
 
-#[derive(Drop)]
+#[derive(Clone, Copy)]
 pub enum Kind {
     Static,
     Dynamic,
 }
 
 // Places past a list's count are not read, nor a static law's after-list and its count.
-#[derive(Drop)]
+#[derive(Clone, Copy)]
 pub struct Law {
     pub kind: Kind,
     pub head: Head,
@@ -25,7 +26,7 @@ pub struct Law {
 }
 
 // The counts of a description and its horizon; its laws are lent beside it.
-#[derive(Drop)]
+#[derive(Clone, Copy)]
 pub struct Description {
     pub fluents: usize,
     pub actions: usize,

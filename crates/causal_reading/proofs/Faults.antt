@@ -1,14 +1,11 @@
 -- The verdict on steps, taken apart into the fault of each and what comes next.
 -- Assumes nothing.
 use mathlib.Core.Path.{◌≡◌, refl, sym, ◌∙◌, ap}
-use mathlib.Core.Logic.{⊎_elim}
-use mathlib.Core.List.{List, [], ◌∷◌}
+use mathlib.Core.List.{List}
 use mathlib.Core.Option.{Option, none, some}
 use Prim.Native.Nat.{ℕ, suc, ◌+◌, ◌-◌, ◌≤◌, ◌<◌}
 use native.Mathlib.Numerals.{add-one}
 use native.Mathlib.Omega.{arith}
-use types.Run.{OneOf}
-use denote.Enum.Declared.{tag_of}
 use Rattle.basics.specs.Search.{first, range}
 use Rattle.basics.specs.Replies.{answered, or_else}
 use Rattle.action_language.specs.declared.Law.{Law}
@@ -17,7 +14,6 @@ use Rattle.causal_reading.specs.Verdicts.{Causal, contradicted, uncaused, path, 
 use Rattle.causal_reading.specs.declared.Reading.{Reading}
 use Rattle.causal_reading.specs.declared.Reading.TheVariants.{Refused, Contradicted, Uncaused, Path}
 use Rattle.causal_reading.specs.Readings.{reply_of}
-use Rattle.causal_reading.specs.contracts.Reading.{the_type}
 
 -- a verdict's fault, else what the next one says
 abbrev first_fault : Causal → Causal → Causal
@@ -26,12 +22,12 @@ first_fault (uncaused time fluent) next = uncaused time fluent
 first_fault path next = next
 
 -- a verdict that is a fault
-pub kept : (r : Reading) → OneOf (0 ∷ 1 ∷ 2 ∷ []) (tag_of the_type r) → (x y : Causal) → reply_of r ≡ answered x
+pub kept : (r : Reading) → (r ≡ Path → ⊥) → (x y : Causal) → reply_of r ≡ answered x
     → reply_of r ≡ answered (first_fault x y)
 kept (Refused number place) h x y e = let z : ◌≡◌ {A = ℕ} 0 1 = cc in absurd (omega arith)
 kept (Contradicted time law) h x y e = let is : contradicted time law ≡ x = cc in rw (← is)
 kept (Uncaused time fluent) h x y e = let is : uncaused time fluent ≡ x = cc in rw (← is)
-kept Path h x y e = absurd (⊎_elim (λ z. omega arith) (⊎_elim (λ z. omega arith) (λ z. omega arith)) h)
+kept Path h x y e = absurd (h refl)
 
 -- the verdict path
 pub explained : (r : Reading) → r ≡ Path → (x : Causal) → reply_of r ≡ answered x → path ≡ x
@@ -64,7 +60,7 @@ module _ (n m : ℕ) (ls : List Law) (vs : List ℕ) (t T : ℕ) where
       (steps_from n m ls vs (suc t) (T - suc t))))
 
   module _ {R : Causal} where
-    pub steps-stop : (r : Reading) → t < T → steps_from n m ls vs t (T - t) ≡ R → OneOf (0 ∷ 1 ∷ 2 ∷ []) (tag_of the_type r)
+    pub steps-stop : (r : Reading) → t < T → steps_from n m ls vs t (T - t) ≡ R → (r ≡ Path → ⊥)
         → reply_of r ≡ answered here → reply_of r ≡ answered R
     steps-stop r h inv fault e = kept r fault here _ e ∙ ap answered (sym (steps-cons h) ∙ inv)
 

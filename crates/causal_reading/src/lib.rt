@@ -1,4 +1,6 @@
 // The causal reading: whether a set of values is a path of causally explained transitions, and the first fault where not.
+#![tactic(auto)]
+
 mod values;
 
 ghost use Rattle.std.specs.Prelude.{◌≡◌, suc, ◌+◌, ◌*◌, ◌≤◌, ◌<◌, length, take};
@@ -14,7 +16,7 @@ use action_language::{Description, Law};
 use basics::Found;
 
 // A refusal's number and place, or the verdict with its time and the law or the fluent that it names.
-#[derive(Drop)]
+#[derive(Clone, Copy)]
 pub enum Reading {
     Refused(u8, usize),
     Contradicted(usize, usize),

@@ -7,8 +7,6 @@ use mathlib.Core.List.{List, [], ◌∷◌}
 use mathlib.Core.Option.{none, some}
 use Prim.Native.Nat.{ℕ, suc, ◌+◌, ◌≤◌, ◌<◌}
 use native.Mathlib.Omega.{arith}
-use types.Run.{OneOf}
-use denote.Enum.Declared.{tag_of}
 use borrow.Author.Tests.{eqb-true}
 use lib.Dec.{eqb}
 use lib.ListN.{length, get_or, set, take, drop, replicate}
@@ -26,7 +24,6 @@ use Rattle.law_effects.specs.Effects.{effect_of}
 use Rattle.causal_steps.specs.Internal.{is_cause, head_marked}
 use Rattle.law_effects.specs.declared.laws.Effect.{Effect}
 use Rattle.law_effects.specs.declared.laws.Effect.TheVariants.{Idle, Causes, Contradicts}
-use Rattle.law_effects.specs.contracts.laws.Effect.{the_type}
 use Rattle.causal_steps.proofs.CausedHeads.{cause-iff-caused}
 
 -- a law that contradicts
@@ -40,15 +37,15 @@ contradicting s' False true e = refl
 contradicting s' h false e = let z : ◌≡◌ {A = ℕ} 0 1 = cc in absurd (omega arith)
 
 -- a law that does not: what it causes is its head, if it applies
-pub agreeing : (s' : Interpretation) (h : Head) (b : Bool) → OneOf (0 ∷ 1 ∷ []) (tag_of the_type (effect_of s' h b))
+pub agreeing : (s' : Interpretation) (h : Head) (b : Bool) → (effect_of s' h b ≡ Contradicts → ⊥)
     → ((b && not (satisfies_head s' h)) ≡ false) × ((c : ℕ) → is_cause (effect_of s' h b) c ≡ (b && head_is h c))
 agreeing s' (Lit d) true told = go (satisfies s' d) told
   where
-    go : (v : Bool) → OneOf (0 ∷ 1 ∷ []) (tag_of the_type (cond v (Causes d) Contradicts))
+    go : (v : Bool) → (cond v (Causes d) Contradicts ≡ Contradicts → ⊥)
         → (not v ≡ false) × ((c : ℕ) → is_cause (cond v (Causes d) Contradicts) c ≡ eqb d c)
     go true q = (refl, λ c. refl)
-    go false q = absurd (⊎_elim (λ z. omega arith) (λ z. omega arith) q)
-agreeing s' False true told = absurd (⊎_elim (λ z. omega arith) (λ z. omega arith) told)
+    go false q = absurd (q refl)
+agreeing s' False true told = absurd (told refl)
 agreeing s' h false told = (refl, λ c. refl)
 
 -- what is caused holds in the new state
@@ -62,9 +59,9 @@ caused-holds s' False true c e = absurd (not-both e refl)
 caused-holds s' h false c e = absurd (not-both e refl)
 
 -- a law that causes nothing
-pub causes-nothing : (e : Effect) → OneOf (0 ∷ 2 ∷ []) (tag_of the_type e) → (c : ℕ) → is_cause e c ≡ false
+pub causes-nothing : (e : Effect) → ((d : ℕ) → e ≡ Causes d → ⊥) → (c : ℕ) → is_cause e c ≡ false
 causes-nothing Idle told c = refl
-causes-nothing (Causes d) told c = absurd (⊎_elim (λ z. omega arith) (λ z. omega arith) told)
+causes-nothing (Causes d) told c = absurd (told d refl)
 causes-nothing Contradicts told c = refl
 
 -- marks after a store
@@ -112,7 +109,7 @@ module _ (s' : Interpretation) (marks : List Bool) (held : (c : ℕ) → marked_
 
   -- and where it is, nothing is left to be marked
   pub known-agreeing : (h : Head) (b known : Bool) → known ≡ head_marked marks h
-      → OneOf (0 ∷ 1 ∷ []) (tag_of the_type (effect_of s' h (not known && b)))
+      → (effect_of s' h (not known && b) ≡ Contradicts → ⊥)
       → ((b && not (satisfies_head s' h)) ≡ false)
       × ((c : ℕ) → (is_cause (effect_of s' h (not known && b)) c || marked_caused marks c) ≡ ((b && head_is h c) || marked_caused marks c))
   known-agreeing h b false is told = let agrees = agreeing s' h b told in (agrees.0, λ c. rw (agrees.1 c))
@@ -164,10 +161,10 @@ module _ (n : ℕ) (s a s' : Interpretation) (ls : List Law) (count end : ℕ) w
         )
 
     pub try-go : i < end → end ≤ length ls → Ahead i marks → known ≡ head_marked marks (get_or ls i d).head
-        → (e : Effect) → e ≡ effect_of s' (get_or ls i d).head (not known && applied (get_or ls i d)) → OneOf (0 ∷ 1 ∷ []) (tag_of the_type e)
+        → (e : Effect) → e ≡ effect_of s' (get_or ls i d).head (not known && applied (get_or ls i d)) → (e ≡ Contradicts → ⊥)
         → (next : List Bool) → ((c : ℕ) → marked_caused next c ≡ (is_cause e c || marked_caused marks c)) → Ahead (i + 1) next
     try-go h within inv head-known e is told next marking =
-        let agrees = known-agreeing s' marks inv.2 (get_or ls i d).head (applied (get_or ls i d)) known head-known (rw is at told) in (
+        let agrees = known-agreeing s' marks inv.2 (get_or ls i d).head (applied (get_or ls i d)) known head-known (λ q. told (is ∙ q)) in (
           prefix-go against ls end i d h within inv.0 agrees.0,
           λ c. rw (marking c, is, agrees.1 c)
               (exchange (applied (get_or ls i d) && head_is (get_or ls i d).head c) (marked_caused marks c) _

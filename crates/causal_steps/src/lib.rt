@@ -1,4 +1,6 @@
 // What laws do in a step: which apply, the lowest that contradicts the new state, and what is caused.
+#![tactic(auto)]
+
 mod marks;
 
 ghost use Rattle.std.specs.Prelude.{◌≡◌, not, take};
@@ -13,7 +15,7 @@ use law_effects::laws::Effect;
 use law_effects::{laws, values};
 
 // The lowest law that contradicts the new state, and the marks of what the laws before it cause, one mark a code.
-#[derive(Drop)]
+#[derive(Clone, Copy)]
 pub struct Tried {
     pub contradicting: Found,
     pub marks: [bool; 256],

@@ -137,7 +137,8 @@ module _ (n : ℕ) (s a s' : Interpretation) where
   contradicting-iff : (l : Law) → contradicts (applies_in_step n s a s') s' l ≡ true ↔ Contradicting n s a s' l
   contradicting-iff l = rw (causing-applies n s a s' l.kind l refl) (implied (applies_in_step n s a s' l) (satisfies_head s' l.head))
 
-  not-caused-iff : (ls : List Law) (f : ℕ) → not (some_cause (applies_in_step n s a s') (literal_in s' f) ls) ≡ true ↔ NotCaused n s a s' ls f
+  not-caused-iff : (ls : List Law) (f : ℕ) → not (some_cause (applies_in_step n s a s') (literal_in s' f) ls) ≡ true
+      ↔ NotCaused n s a s' ls f
   not-caused-iff ls f = Iff.trans (not_iff cause) (
     λ e c half holds-there member. let same : c ≡ literal_in s' f = (rw half at (satisfied-literal s' c holds-there)) in
         not-both ((cause-iff-caused n s a s' (literal_in s' f) ls).1 (rw same at member)) e,
@@ -174,7 +175,8 @@ module _ (n m T : ℕ) (ls : List Law) (vs : List ℕ) where
       (λ j b. contradicting-iff n (s t) (action_at n m vs t) (s (suc t)) (get_or ls j no_law)) i
 
   law-nowhere : (t : ℕ) → law_at t ≡ none ↔ Nowhere (ContradictedAt n m ls vs t) (length ls)
-  law-nowhere zero = first-nowhere _ no_law ls (length ls) refl (ContradictedAt n m ls vs 0) (λ j b. unsatisfied-iff (s 0) (get_or ls j no_law))
+  law-nowhere zero = first-nowhere _ no_law ls (length ls) refl (ContradictedAt n m ls vs 0)
+      (λ j b. unsatisfied-iff (s 0) (get_or ls j no_law))
   law-nowhere (suc t) = first-nowhere _ no_law ls (length ls) refl (ContradictedAt n m ls vs (suc t))
       (λ j b. contradicting-iff n (s t) (action_at n m vs t) (s (suc t)) (get_or ls j no_law))
 
@@ -202,7 +204,8 @@ module _ (n m T : ℕ) (ls : List Law) (vs : List ℕ) where
       (law-nowhere u).0 law,
       (fluent-nowhere u).0 fluent,
     ),
-    λ h u from b. let (law, fluent) = h u b in (said-path u (law_at u) (fluent_at u)).1 ((law-nowhere u).1 law, (fluent-nowhere u).1 fluent),
+    λ h u from b. let (law, fluent) = h u b in
+        (said-path u (law_at u) (fluent_at u)).1 ((law-nowhere u).1 law, (fluent-nowhere u).1 fluent),
   )
 
   verdict-fault : (x : Causal) → (x ≡ path → ⊥) → causal_verdict n m T ls vs ≡ x

@@ -66,13 +66,15 @@ pub engine-clash : (vs ws : List ℕ) → Accepted vs ws → (a : ℕ) → engin
     ↔ Lowest (BothValues vs) (length vs) a
 unfolding Demand2
 engine-clash vs ws accepted a =
-    Iff.trans ((demand-2 vs ws accepted).clash-exactly a) (lowest-iff (Clashing (set_of vs)) (BothValues vs) (clashing-iff vs) (length vs) a)
+    Iff.trans ((demand-2 vs ws accepted).clash-exactly a)
+    (lowest-iff (Clashing (set_of vs)) (BothValues vs) (clashing-iff vs) (length vs) a)
 
 -- what the history check says, from the fault of its values and the engine's answer
 module _ (vs ws : List ℕ) (accepted : Accepted vs ws) where
   abbrev said : ValueFault → Reply history.Finding
   said fault =
-      or_fault fault (λ a. answered (history.missing a)) (λ a. answered (history.judged (clash a))) (history.of_engine (engine.answer vs ws))
+      or_fault fault (λ a. answered (history.missing a)) (λ a. answered (history.judged (clash a)))
+      (history.of_engine (engine.answer vs ws))
 
   missing-said : (a : ℕ) → history.finding vs ws ≡ answered (history.missing a) ↔ (Lowest (NoneOrBoth vs) (length vs) a × NoValue vs a)
   missing-said a = (λ e. go (value_fault vs) refl e, λ h. rw ((missing-iff vs a).1 h) refl)

@@ -56,7 +56,8 @@ module _ (n : ℕ) (s a s' : Interpretation) where
   result-state : (ls : List Law) → Obeyed s' (applies_in_step n s a s') ls → State ls s'
   result-state ls h = (state-iff s' ls).1 (each_map (λ l obeyed e. obeyed (applies-later l e)) ls h)
 
-  step-iff : (ls : List Law) → Explained n ls s a s' ↔ (Obeyed s' (applies_in_step n s a s') ls × Supplied n s' (applies_in_step n s a s') ls)
+  step-iff : (ls : List Law) → Explained n ls s a s'
+      ↔ (Obeyed s' (applies_in_step n s a s') ls × Supplied n s' (applies_in_step n s a s') ls)
   step-iff ls =
       Iff.trans (explained-iff n s a s' ls)
       (Iff.and (caused-iff n s a s' (λ h. satisfies_head s' h ≡ true) ls) (λ h. h, λ h. h))
@@ -90,7 +91,7 @@ module _ (n m T : ℕ) (ls : List Law) (vs : List ℕ) where
 
   -- every state of a path satisfies the static laws (000, section 2): after the first, they are caused in the step that leads to it
   pub path-states : Path n m T ls vs → (t : ℕ) → t ≤ T → State ls (state_at n m vs t)
-  path-states h t = elim t [
+  path-states h t = elim t as (λ t. t ≤ T → State ls (state_at n m vs t)) [
     | zero ↦ λ b. h.start
     | suc t ↦ λ b. result-state n (s t) (action_at n m vs t) (s (suc t)) ls ((explained-at t).0 (h.steps t (omega arith))).0
   ]

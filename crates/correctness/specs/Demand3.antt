@@ -48,7 +48,8 @@ pub record FiveReadings (d : Description) (ls : List Law) (lent : ℕ) (vs : Lis
   -- for every table that is long enough; else the refusal is 9
   pub history-passes : (room : ℕ) → length (table_for d ls) ≤ room
       → history.checked d ls lent vs room ≡ answered (history.judged passes) ↔ PathOf d ls vs
-  pub history-refused : (room : ℕ) → room < length (table_for d ls) → history.checked d ls lent vs room ≡ refused 9 (length (table_for d ls))
+  pub history-refused : (room : ℕ) → room < length (table_for d ls)
+      → history.checked d ls lent vs room ≡ refused 9 (length (table_for d ls))
   pub causal-path : causal.reading d ls lent vs ≡ answered path ↔ PathOf d ls vs
 
 -- for all descriptions, law runs, numbers lent and values

@@ -1,1 +1,2 @@
 // The theorems that join the layers; no code.
+#![tactic(auto)]

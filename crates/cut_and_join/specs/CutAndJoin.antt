@@ -38,7 +38,8 @@ pub record EachUndoesTheOther (n m : ℕ) : Type 0 where
       → last_state n (first_steps n m k vs) ≡ first_state n (later_steps n m k vs)
   pub joined-again : (vs : List ℕ) (k : ℕ) → joined n (first_steps n m k vs) (later_steps n m k vs) ≡ vs
   -- a join, cut where it was joined, gives its halves
-  pub cut_again : (vs ws : List ℕ) (j k : ℕ) → length vs ≡ atom_count n m j → length ws ≡ atom_count n m k → last_state n vs ≡ first_state n ws
+  pub cut_again : (vs ws : List ℕ) (j k : ℕ) → length vs ≡ atom_count n m j → length ws ≡ atom_count n m k
+      → last_state n vs ≡ first_state n ws
       → (first_steps n m j (joined n vs ws) ≡ vs) × (later_steps n m j (joined n vs ws) ≡ ws)
 
 -- of the path and of each of demand 3's readings

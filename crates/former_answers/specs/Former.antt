@@ -33,4 +33,5 @@ abbrev pub former_answer : List ℕ → List ℕ → Reply formulas.FormulaFindi
 former_answer vs ws = after_tests vs ws (answered (former_formulas vs ws))
 
 abbrev pub former_answer_by_levels : List ℕ → List ℕ → List ℕ → Reply formulas.FormulaFinding
-former_answer_by_levels vs ws levels = after_tests vs ws (or_refuse (bad_levels (length vs) ws levels) 13 (answered (former_formulas vs ws)))
+former_answer_by_levels vs ws levels =
+    after_tests vs ws (or_refuse (bad_levels (length vs) ws levels) 13 (answered (former_formulas vs ws)))

@@ -1,4 +1,6 @@
 // The history check: whether values are a history of a description, by its translation and the answer-set engine.
+#![tactic(auto)]
+
 ghost use Rattle.std.specs.Prelude.{◌≡◌, length};
 ghost use Rattle.answer_sets.specs.Answers as engine;
 ghost use Rattle.history_check.specs.Checks.{reply_of, of_engine, finding, checked, table_after};
@@ -10,7 +12,7 @@ use literal_sets::values::Fault;
 use translation::Translated;
 
 // A refusal's number and place, or the first verdict that holds with the atom, rule or literal code that it names.
-#[derive(Drop)]
+#[derive(Clone, Copy)]
 pub enum Checked {
     Refused(u8, usize),
     Missing(usize),

@@ -8,7 +8,7 @@ use crate::{literals, values};
 use action_language::{Head, Kind, Law};
 
 // What a law does in a step: nothing, or it causes the literal of a code, which holds in the new state, or it contradicts that state.
-#[derive(Drop)]
+#[derive(Clone, Copy)]
 pub enum Effect {
     Idle,
     Causes(u8),

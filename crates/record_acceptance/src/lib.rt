@@ -1,4 +1,6 @@
 // Which records are accepted, and how many atoms an accepted one has.
+#![tactic(auto)]
+
 ghost use Rattle.std.specs.Prelude.{◌≡◌, ◌&&◌, ℕ, ◌+◌, ◌*◌, ◌≤◌, leb, take};
 ghost use Rattle.basics.specs.Search.{place_of};
 ghost use Rattle.basics.specs.Replies.{refusal_of, refusal};

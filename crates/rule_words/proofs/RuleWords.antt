@@ -27,7 +27,8 @@ map_at f (x ∷ xs) zero h = refl
 map_at f (x ∷ xs) (suc i) h = map_at f xs i (omega arith)
 
 -- the element of a list's front is the list's
-front_at : (f : ℕ → ℕ) (count : ℕ) (xs : List ℕ) (i : ℕ) → i < length (take count xs) → get_or (map f (take count xs)) i 0 ≡ f (get_or xs i 0)
+front_at : (f : ℕ → ℕ) (count : ℕ) (xs : List ℕ) (i : ℕ) → i < length (take count xs)
+    → get_or (map f (take count xs)) i 0 ≡ f (get_or xs i 0)
 front_at f count xs i h =
     map_at f (take count xs) i h ∙ ap f (get_or-take count xs i 0 (omega (arith, length-take count xs)))
 

@@ -1,5 +1,7 @@
 // The words of the translation's rules, told by their place: of a law's rule for one time, and of an atom's choice. All is by
 // value, and nothing is written.
+#![tactic(auto)]
+
 ghost use Rattle.std.specs.Prelude.{◌≡◌, ◌+◌, ◌*◌, ◌<◌, ◌≤◌, get_or};
 ghost use Rattle.logic_programs.specs.Literals.{complement};
 ghost use Rattle.logic_programs.specs.Words.{head_word};

@@ -76,7 +76,8 @@ counting-first T laws count rules words held =
 pub counting-next : {T : ℕ} {laws : List Law} {count rules₀ words₀ rules words i x y : ℕ}
     → Counting T laws count rules₀ words₀ rules words i
     → i < count → count ≤ 64 → (x ≡ by_kind (T + 1) T (get_or laws i past).kind) × (x ≤ 31)
-    → (y ≡ by_kind (T + 1) T (get_or laws i past).kind * (3 + length (if_list (get_or laws i past)) + length (plain_list (get_or laws i past))))
+    → (y ≡ by_kind (T + 1) T (get_or laws i past).kind
+    * (3 + length (if_list (get_or laws i past)) + length (plain_list (get_or laws i past))))
     × (y ≤ 465)
     → Counting T laws count rules₀ words₀ (rules + x) (words + y) (i + 1)
 counting-next {T} {laws} {count} {rules₀} {words₀} {rules} {words} {i} {x} {y} inv here few xs ys =

@@ -1,4 +1,6 @@
 // The published translation of action language C into rules (000, section 4), written as words into a lent table.
+#![tactic(auto)]
+
 ghost use Rattle.std.specs.Prelude.{◌≡◌, length};
 ghost use Rattle.basics.specs.Replies.{tested_of};
 ghost use Rattle.translation.specs.Answers.{outcome_of};
@@ -11,7 +13,7 @@ mod sizes;
 mod writers;
 
 // A refusal's number and place, or how many atoms, rules and words there are.
-#[derive(Drop)]
+#[derive(Clone, Copy)]
 pub enum Translated {
     Refused(u8, usize),
     Written(usize, usize, usize),

@@ -8,7 +8,7 @@ use action_language::{Description, Law};
 use rule_words::lists::{by_kind, rule_size};
 
 // How many rules and words.
-#[derive(Drop)]
+#[derive(Clone, Copy)]
 pub(crate) struct Sizes {
     pub(crate) rules: usize,
     pub(crate) words: usize,

@@ -117,7 +117,8 @@ module _ (n m T : ℕ) where
   start-below l f Static = (head_at_lem 0 (omega arith) l.head f.head, complements-at 0 (omega arith) (if_list l) f.if-list, tt)
   start-below l f Dynamic = tt
 
-  step-below : (t : ℕ) → t < T → (l : Law) → fits.Fits n m l → (k : Kind) → fits.AfterBelow (2 * N) k l → RuleBelow limit (step_rule N t k l)
+  step-below : (t : ℕ) → t < T → (l : Law) → fits.Fits n m l → (k : Kind) → fits.AfterBelow (2 * N) k l
+      → RuleBelow limit (step_rule N t k l)
   step-below t time l f Static after =
       (head_at_lem (suc t) time l.head f.head, complements-at (suc t) time (if_list l) f.if-list, tt)
   step-below t time l f Dynamic after = (

@@ -57,7 +57,8 @@ module _ (P : Rule → Type 0) where
     where
       steps : Each P (map (dynamic_rule N l) (range 0 T)) ↔ ((t : ℕ) → t < T → P (dynamic_rule N l t))
       steps =
-          Iff.trans (each-mapped P (dynamic_rule N l) (range 0 T)) (each-range (λ t. P (dynamic_rule N l t)) 0 T (λ t. t) (λ t. omega arith))
+          Iff.trans (each-mapped P (dynamic_rule N l) (range 0 T))
+          (each-range (λ t. P (dynamic_rule N l t)) 0 T (λ t. t) (λ t. omega arith))
 
   -- the rules of all laws
   each-laws : (N T : ℕ) (ls : List Law) → (Each P (per_law (static_rules N T) ls) × Each P (per_law (dynamic_rules N T) ls))
@@ -82,7 +83,8 @@ module _ (P : Rule → Type 0) where
       let now = each-range (AtChoice P) (action_atom n m t 0) m (action_atom n m t) (λ k. omega arith) in
       let later = each-actions n m (suc t) T (λ i. at (suc i)) (λ i. omega (arith, e (suc i))) in
       Iff.trans (each_append (AtChoice P) (range (action_atom n m t 0) m) (action_atoms n m (suc t) T)) (
-        λ h i. elim i [ zero ↦ λ b. rw here (now.0 h.0) | suc j ↦ λ b. later.0 h.1 j (omega arith) ],
+        λ h i. elim i as (λ i. i < suc T → (k : ℕ) → k < m → AtChoice P (action_atom n m (at i) k))
+            [ zero ↦ λ b. rw here (now.0 h.0) | suc j ↦ λ b. later.0 h.1 j (omega arith) ],
         λ h. (now.1 (rw here at (h 0 (omega arith))), later.1 (λ i b. h (suc i) (omega arith))),
       )
 

@@ -148,7 +148,8 @@ law_words T ls = sum_laws (law_words_of T) ls
 module _ (N T : ℕ) where
   pub static-size : (l : Law) (t : ℕ) → length (rule_words (static_rule N l t)) ≡ 3 + length (if_list l)
   static-size l t =
-      length-rule_words (static_rule N l t) ∙ rw (length-map (if_list l) (λ c. complement (at_time N t c))) (add-zero (3 + length (if_list l)))
+      length-rule_words (static_rule N l t)
+      ∙ rw (length-map (if_list l) (λ c. complement (at_time N t c))) (add-zero (3 + length (if_list l)))
 
   pub dynamic-size : (l : Law) (t : ℕ) → length (rule_words (dynamic_rule N l t)) ≡ 3 + length (if_list l) + length (after_list l)
   dynamic-size l t =

@@ -70,7 +70,8 @@ written-passed d ls lent room vs later {a} {r} {w} = go (outcome d ls lent room)
 
 -- what each answer leaves in the table
 module _ (d : Description) (ls : List Law) (lent : ℕ) (vs : List ℕ) (later : Reply Unit) (table : List ℕ) where
-  pub refused-left : {k p : ℕ} → outcome_for d ls lent vs later (length table) ≡ refused k p → table_after_for d ls lent vs later table ≡ table
+  pub refused-left : {k p : ℕ} → outcome_for d ls lent vs later (length table) ≡ refused k p
+      → table_after_for d ls lent vs later table ≡ table
   unfolding table_after_for
   refused-left e = rw e
 
