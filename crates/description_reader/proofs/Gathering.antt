@@ -24,7 +24,8 @@ module _ (cs : List ℕ) (n : ℕ) (six : length cs ≡ 6) where
   taken-size h = length-take-le n cs (omega arith)
 
   -- an item that is no literal: 5 where it is the seventh, before 6
-  pub item-unknown : (k : ℕ) → k ≡ cond (leb 6 n) 5 6 → listed_of (record { codes = cs; count = n; refused = k }) ≡ one_more (take n cs) none
+  pub item-unknown : (k : ℕ) → k ≡ cond (leb 6 n) 5 6 → listed_of (record { codes = cs; count = n; refused = k })
+      ≡ one_more (take n cs) none
   unfolding listed_of one_more
   item-unknown k e = go (leb 6 n) refl
     where

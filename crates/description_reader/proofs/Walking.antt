@@ -324,7 +324,8 @@ module _ (text : List ℕ) (s : ReaderState) (on : (ltb 0 s.refused || s.ended) 
   unfolding step_of
   goes_step = rw (eq-eqb s.refused 0 goes-refused, (or-false (ltb 0 s.refused) s.ended on).1)
 
-  pub goes-key : (lent : ℕ) (due : Due) (d : Draft) (key : ℕ) (value : List ℕ) → step_of text s ≡ line_step lent due d key value → key < no_key
+  pub goes-key : (lent : ℕ) (due : Due) (d : Draft) (key : ℕ) (value : List ℕ) → step_of text s ≡ line_step lent due d key value
+      → key < no_key
   goes-key lent due d key value e = go (ltb key no_key) refl
     where
       go : (b : Bool) → ltb key no_key ≡ b → key < no_key

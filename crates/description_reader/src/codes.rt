@@ -8,7 +8,7 @@ use basics::Found;
 use line_values::orders;
 
 // The codes of a list's first items, 0 behind them, or a refusal's number.
-#[derive(Drop)]
+#[derive(Clone, Copy)]
 pub(crate) struct Codes {
     pub codes: [u8; 6],
     pub count: usize,

@@ -14,7 +14,7 @@ use text::{lines, lists};
 use text_forms::Names;
 
 // Where the reader stopped: its state, the line, and the place behind the line.
-#[derive(Drop)]
+#[derive(Clone, Copy)]
 pub(crate) struct Ending {
     pub state: ReaderState,
     pub line: usize,
@@ -23,7 +23,7 @@ pub(crate) struct Ending {
 
 // What a text declares: the horizon, how many of the names are fluents, and the names, where each stands in the text. A text that is
 // refused declares nothing; `refused` is then the refusal's number (else 0) and `line` its place (else how many lines were read).
-#[derive(Drop)]
+#[derive(Clone, Copy)]
 pub struct Declarations {
     pub refused: u8,
     pub line: usize,

@@ -1,4 +1,6 @@
 // Reading a description from text.
+#![tactic(auto)]
+
 mod codes;
 pub mod descriptions;
 mod states;
@@ -12,21 +14,21 @@ ghost use Rattle.description_reader.specs.Answers.{reply_of};
 use action_language::{Description, Law};
 
 // The refusal's number and place, or where the description ends: behind how many bytes and lines.
-#[derive(Drop)]
+#[derive(Clone, Copy)]
 pub enum Answer {
     Refused(u8, usize),
     Read(usize, usize),
 }
 
 // A run of law records by value, of which some number is counted.
-#[derive(Drop)]
+#[derive(Clone, Copy)]
 pub struct Run {
     pub laws: [Law; 64],
     pub count: usize,
 }
 
 // What the description reader gives: on a refusal the run is the one that was handed in.
-#[derive(Drop)]
+#[derive(Clone, Copy)]
 pub struct Described {
     pub answer: Answer,
     pub description: Description,

@@ -10,7 +10,7 @@ use text::lines;
 use text_forms::Names;
 
 // What is due.
-#[derive(Drop)]
+#[derive(Clone, Copy)]
 pub(crate) enum Due {
     Horizon,
     FirstFluent,
@@ -23,7 +23,7 @@ pub(crate) enum Due {
 }
 
 // What has been read: the horizon, how many of the names are fluents, the names, and the laws.
-#[derive(Drop)]
+#[derive(Clone, Copy)]
 pub(crate) struct HeldDraft {
     pub horizon: usize,
     pub fluents: usize,
@@ -33,7 +33,7 @@ pub(crate) struct HeldDraft {
 
 // Where the reader is: a refusal's number (0: none), whether the end line is read, what is due, the law whose lists are due, and
 // what has been read.
-#[derive(Drop)]
+#[derive(Clone, Copy)]
 pub(crate) struct ReaderState {
     pub refused: u8,
     pub ended: bool,

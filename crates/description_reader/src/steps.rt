@@ -129,7 +129,7 @@ fn name_line(
 }
 
 // What a law's first line comes to: a refusal's number, or the head.
-#[derive(Drop)]
+#[derive(Clone, Copy)]
 pub(crate) enum HeadAt {
     Refused(u8),
     Read(Head),

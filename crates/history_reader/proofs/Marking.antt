@@ -96,7 +96,8 @@ module _ (line : ℕ) (vs : List ℕ) where
   end_more [] (b ∷ bs) h g = refl
   end_more (b ∷ bs) rest h g = absurd (omega arith)
 
-  pub end_whole : (value rest : List ℕ) → length value ≤ 0 → length rest ≤ 0 → answered vs ≡ history_end (keyed (key_in 9) value rest) line vs
+  pub end_whole : (value rest : List ℕ) → length value ≤ 0 → length rest ≤ 0 → answered vs
+      ≡ history_end (keyed (key_in 9) value rest) line vs
   end_whole [] [] h g = refl
   end_whole [] (b ∷ bs) h g = absurd (omega arith)
   end_whole (b ∷ bs) rest h g = absurd (omega arith)

@@ -11,7 +11,7 @@ use description_reader::descriptions::Declarations;
 use text::{lines, lists};
 
 // How the end line is: a refusal's number (0: none) and place.
-#[derive(Drop)]
+#[derive(Clone, Copy)]
 struct EndAt {
     refused: u8,
     line: usize,
@@ -45,7 +45,7 @@ fn no_values() -> [u8; 1024]
 }
 
 // What a line of literals must be: its key, the places of the names of its sort, and where the values of its time begin.
-#[derive(Drop)]
+#[derive(Clone, Copy)]
 struct Wanted {
     key: usize,
     low: usize,
@@ -88,7 +88,7 @@ fn first_place(size: usize) -> usize
 }
 
 // Where the lines of literals ended: the values, a refusal's number (0: none), the line and its place.
-#[derive(Drop)]
+#[derive(Clone, Copy)]
 struct Lines {
     values: [u8; 1024],
     refused: u8,
@@ -147,7 +147,7 @@ fn read_lines(description: &[u8], text: &[u8], draft: Declarations) -> Lines
 }
 
 // A history that was read: its values, or a refusal's number and line.
-#[derive(Drop)]
+#[derive(Clone, Copy)]
 pub(crate) struct Record {
     pub values: [u8; 1024],
     pub refused: u8,

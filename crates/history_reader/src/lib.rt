@@ -1,4 +1,6 @@
 // Reading a history from text, by the names of its description's text.
+#![tactic(auto)]
+
 mod histories;
 
 ghost use Rattle.std.specs.Prelude.{◌≡◌, length};
@@ -7,7 +9,7 @@ ghost use Rattle.history_reader.specs.Histories.{read_history, values_left, hist
 use description_reader::descriptions;
 
 // The refusal's number and place, or that the whole history is read.
-#[derive(Drop)]
+#[derive(Clone, Copy)]
 pub enum HistoryAnswer {
     Refused(u8, usize),
     Complete,

@@ -67,7 +67,8 @@ filled-middle at p (x ∷ xs) zs there =
 -- as many values as before
 pub length_marked : (base : ℕ) (vs cs : List ℕ) → length (with_literals base vs cs) ≡ length vs
 length_marked base vs [] = refl
-length_marked base vs (c ∷ cs) = length_marked base _ cs ∙ length-set vs (base + c / 2) _
+length_marked base vs (c ∷ cs) =
+    length_marked base (set vs (base + c / 2) (with_sign c (get_or vs (base + c / 2) 0))) cs ∙ length-set vs (base + c / 2) _
 
 pub length-filled : (at k : ℕ) (vs : List ℕ) → length (filled at k vs) ≡ length vs
 length-filled at zero vs = refl
@@ -93,7 +94,8 @@ sign_zero c v = go (eqb (c % 2) 0) (eqb (v % 2) 0) (ltb v 2)
 
 pub marked-zero : (base : ℕ) (vs cs : List ℕ) (i : ℕ) → get_or (with_literals base vs cs) i 0 ≡ 0 → get_or vs i 0 ≡ 0
 marked-zero base vs [] i e = e
-marked-zero base vs (c ∷ cs) i e = changed-zero (with_sign c) (sign_zero c) vs (base + c / 2) i (marked-zero base _ cs i e)
+marked-zero base vs (c ∷ cs) i e = changed-zero (with_sign c) (sign_zero c) vs (base + c / 2) i
+    (marked-zero base (set vs (base + c / 2) (with_sign c (get_or vs (base + c / 2) 0))) cs i e)
 
 -- what is filled is not left at 0
 or-false : (v : ℕ) → or_false v ≡ 0 → ⊥

@@ -1,5 +1,7 @@
 // What a line of a history does to the values of its time: the literals that it lists are marked, and the actions that an act line
 // does not list are false.
+#![tactic(auto)]
+
 ghost use Rattle.std.specs.Prelude.{◌≡◌, cond, [], ◌∷◌, ◌+◌, ◌-◌, eqb};
 ghost use Rattle.history_values.specs.Values.{with_true, with_false, with_literals, or_false, filled};
 

@@ -9,7 +9,7 @@ ghost use Rattle.line_values.specs.Internal.{no_places, one_place, law_with};
 use action_language::{Head, Kind, Law};
 
 // A law's list: how many codes it has, and its six places.
-#[derive(Drop)]
+#[derive(Clone, Copy)]
 pub struct Places {
     pub count: u8,
     pub codes: [u8; 6],

@@ -146,7 +146,8 @@ module _ (base : ℕ) (has : ℕ → Bool) (c : ℕ) where
           (cond (eqb (c % 2) 0) (with_true (get_or (p ++ v ∷ behind) (base + i) 0)) (with_false (get_or (p ++ v ∷ behind) (base + i) 0)))
           ≡ p ++ cond (eqb (c % 2) 0) (with_true v) (with_false v) ∷ behind
       at_place v behind =
-          rw (get_or_at p v behind 0 (base + i) there) (set_at p v behind (cond (eqb (c % 2) 0) (with_true v) (with_false v)) (base + i) there)
+          rw (get_or_at p v behind 0 (base + i) there)
+          (set_at p v behind (cond (eqb (c % 2) 0) (with_true v) (with_false v)) (base + i) there)
 
   mark-later : (i k : ℕ) (p zs : List ℕ) → (c / 2 ≡ i → ⊥) → let v = fluent_value (has (2 * i)) (has (2 * i + 1)) in
       with_literals base (p ++ (v ∷ []) ++ (values_by fluent_value has (suc i) k ++ zs)) (c ∷ [])
@@ -172,7 +173,8 @@ module _ (base : ℕ) (has : ℕ → Bool) (c : ℕ) where
           (suc i ≤ c / 2
           → with_literals base (p ++ (v ∷ []) ++ (values_by fluent_value has (suc i) k ++ zs)) (c ∷ [])
           ≡ p ++ (v ∷ []) ++ (values_by fluent_value more (suc i) k ++ zs))
-          → with_literals base (p ++ (values_by fluent_value has i (suc k) ++ zs)) (c ∷ []) ≡ p ++ (values_by fluent_value more i (suc k) ++ zs)
+          → with_literals base (p ++ (values_by fluent_value has i (suc k) ++ zs)) (c ∷ [])
+          ≡ p ++ (values_by fluent_value more i (suc k) ++ zs)
       by true e next = mark-here i k p zs there (eqb-true (c / 2) i e)
       by false e next =
           let differs = eqb-false (c / 2) i e in
@@ -185,7 +187,8 @@ or_turned false true d = refl
 or_turned false false d = refl
 
 mark-all : (base : ℕ) (has : ℕ → Bool) (i k : ℕ) (p zs cs : List ℕ) → length p ≡ base + i → Each (InSort i (i + k)) cs
-    → with_literals base (p ++ (values_by fluent_value has i k ++ zs)) cs ≡ p ++ (values_by fluent_value (λ x. lists cs x || has x) i k ++ zs)
+    → with_literals base (p ++ (values_by fluent_value has i k ++ zs)) cs
+    ≡ p ++ (values_by fluent_value (λ x. lists cs x || has x) i k ++ zs)
 mark-all base has i k p zs [] there inside = refl
 mark-all base has i k p zs (c ∷ cs) there inside =
     ap (λ vs. with_literals base vs cs) (mark-one base has c i k p zs there inside.0)

@@ -235,7 +235,8 @@ module _ (lent : ℕ) (d : Draft) (value : List ℕ) (At : Due → Type 0) (P : 
         let law = k.no-action behind in
         one_of _ (eqb key end_key)
         (one_of _ (starts_law key)
-        (one_of (eqb key fluent_key) (eqb key action_key) (is fluentDue fluent_key (fluent-line (k.further a))) (new-action fluentDue behind))
+        (one_of (eqb key fluent_key) (eqb key action_key) (is fluentDue fluent_key (fluent-line (k.further a)))
+        (new-action fluentDue behind))
         (begun-law fluentDue law))
         (end-of-laws fluentDue law)
     by-due actionDue a =

@@ -1,4 +1,6 @@
 // The names of fluents and actions as they are shown to an editor: parts of the description text.
+#![tactic(auto)]
+
 mod shown;
 
 ghost use Rattle.std.specs.Prelude.{◌≡◌};

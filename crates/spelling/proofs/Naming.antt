@@ -33,7 +33,8 @@ pub record Named (bs : List ℕ) : Type 0 where
 pub named : (bs : List ℕ) → is_name bs ≡ true → Named bs
 unfolding is_name
 named bs e =
-    let (front, other) = (and-iff (starts_with_letter bs && leb (length bs) 16 && all is_name_byte bs) (not (same_name bs false_bytes))).0 e in
+    let (front, other) =
+    (and-iff (starts_with_letter bs && leb (length bs) 16 && all is_name_byte bs) (not (same_name bs false_bytes))).0 e in
     let (counted, bytes) = (and-iff (starts_with_letter bs && leb (length bs) 16) (all is_name_byte bs)).0 front in
     let (starts, short) = (and-iff (starts_with_letter bs) (leb (length bs) 16)).0 counted in
     record {

@@ -1,4 +1,6 @@
 // How names are spelled: which bytes they may have, which runs of bytes are names, and which of them are the same name.
+#![tactic(auto)]
+
 ghost use Rattle.std.specs.Prelude.{◌≡◌, map, eqb};
 ghost use Rattle.basics.specs.Search.{all};
 ghost use Rattle.spelling.specs.Letters.{is_letter, is_digit, is_name_byte, lowered, same};

@@ -9,7 +9,7 @@ use basics::Found;
 use text_forms::Names;
 
 // An item: its literal's code, if it is one of the allowed sort, and where the next item begins (behind the end: there is none).
-#[derive(Drop)]
+#[derive(Clone, Copy)]
 pub struct Item {
     pub code: Found,
     pub next: usize,

@@ -18,7 +18,8 @@ use Rattle.text_forms.specs.Lists.{refused, codes, items, list_of}
 
 -- horizon, fluent, action, static, dynamic, if, after, state, act, end, default, inertial, causes, by, nonexecutable
 pub keys-numbered : map key_number keys
-    ≡ map {B = Option ℕ} some (horizon_key ∷ fluent_key ∷ action_key ∷ static_key ∷ dynamic_key ∷ if_key ∷ after_key ∷ state_key ∷ act_key ∷ end_key
+    ≡ map {B = Option ℕ} some (horizon_key ∷ fluent_key ∷ action_key ∷ static_key ∷ dynamic_key
+    ∷ if_key ∷ after_key ∷ state_key ∷ act_key ∷ end_key
     ∷ default_key ∷ inertial_key ∷ causes_key ∷ by_key ∷ nonexecutable_key ∷ [])
 unfolding key_number
 keys-numbered = refl

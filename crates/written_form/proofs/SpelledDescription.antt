@@ -146,7 +146,8 @@ read-too o o' (both_read d₁ rest rest' lines₁ q) d more lines e =
 
 module _ (T : ℕ) (fluents actions : List (List ℕ)) (forms : ℕ → Form) (spell : Spelling) (any : InCapitals spell) (ls : List Law) where
   pub description-respelled : AreNames (fluents ++ actions) → (more : List ℕ)
-      → Respelled (description_text T fluents actions forms as_declared ls ++ more) (description_text T fluents actions forms spell ls ++ more)
+      → Respelled (description_text T fluents actions forms as_declared ls ++ more)
+      (description_text T fluents actions forms spell ls ++ more)
   unfolding description_text
   description-respelled are more =
       let (are-fluents, are-actions) = (each_append (λ x. is_name x ≡ true) fluents actions).0 are in

@@ -15,7 +15,8 @@ use Rattle.action_language.specs.declared.Law.{Law}
 use Rattle.action_language.specs.Laws.{if_list, after_list, law_of}
 use Rattle.action_language.proofs.Fits.{CodesBelow, HeadBelow}
 use Rattle.reader_bounds.specs.Accepts.{afters_of, Tidy}
-use Rattle.text_forms.specs.Lines.{static_key, dynamic_key, if_key, after_key, default_key, inertial_key, causes_key, by_key, nonexecutable_key, no_key}
+use Rattle.text_forms.specs.Lines.{static_key, dynamic_key, if_key, after_key, default_key, inertial_key, causes_key}
+use Rattle.text_forms.specs.Lines.{by_key, nonexecutable_key, no_key}
 use Rattle.text_forms.specs.Names.{literal}
 use Rattle.text_forms.specs.Lists.{codes}
 use Rattle.line_values.specs.ShortLaws.{default_law, inertial_law}
@@ -117,7 +118,8 @@ module _ (lent T n : ℕ) (names : List (List ℕ)) (are : AreNames names) (dist
         let begun = law_of Dynamic l.head [] [] in
         subst (Leaves 2 (form_text names plain_lines asCauses l)) (sym (causes-is l tidy has))
         (then (head-passes causes_key (omega arith) (causes-step lent due at head l.head (may-start causes_key refl) few is-head))
-        (line-passes (byDue begun) at by_key (list_text names plains (after_list l)) (omega arith) (list-lacks-newline names are (after_list l))
+        (line-passes (byDue begun) at by_key (list_text names plains (after_list l)) (omega arith)
+        (list-lacks-newline names are (after_list l))
         (by-step lent at begun (list_text names plains (after_list l)) (after_list l) (any-read (after_list l) below small)))
         2 refl)
     form-passes asNonexecutable has =

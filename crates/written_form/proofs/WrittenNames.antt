@@ -149,7 +149,8 @@ module _ (names : List (List ℕ)) (are : AreNames names) where
         i : ℕ
         i = c / 2
 
-        go : (even : Bool) → eqb (c % 2) 0 ≡ even → literal names low high (cond even (get_or names i []) (hyphen ∷ get_or names i [])) ≡ some c
+        go : (even : Bool) → eqb (c % 2) 0 ≡ even → literal names low high (cond even (get_or names i []) (hyphen ∷ get_or names i []))
+            ≡ some c
         go true e =
             positive names low high (get_or names i []) (name-at i (omega arith))
             ∙ sorted low high 0 i from (omega arith) held

@@ -42,7 +42,8 @@ decimals = refl
 
 pub horizon-read : (T : ℕ) → 1 ≤ T → T ≤ 30 → horizon_of (horizon_text T) ≡ some T
 horizon-read T one few =
-    answers-some T (horizon_of (horizon_text T)) (passed-by (λ t. answers t (horizon_of (horizon_text t))) 1 30 decimals T one (omega arith))
+    answers-some T (horizon_of (horizon_text T))
+    (passed-by (λ t. answers t (horizon_of (horizon_text t))) 1 30 decimals T one (omega arith))
 
 pub horizon-clean : (k : ℕ) → Lacks newline (horizon_text k)
 horizon-clean k = go (ltb k 10)

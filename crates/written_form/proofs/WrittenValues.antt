@@ -39,7 +39,7 @@ marked_from listed i (v ∷ vs) = marked_at (listed i) v ∷ marked_from listed 
 
 marked_append : (base : ℕ) (vs xs ys : List ℕ) → with_literals base vs (xs ++ ys) ≡ with_literals base (with_literals base vs xs) ys
 marked_append base vs [] ys = refl
-marked_append base vs (x ∷ xs) ys = marked_append base _ xs ys
+marked_append base vs (x ∷ xs) ys = marked_append base (with_literals base vs (x ∷ [])) xs ys
 
 -- one code of the place behind p
 module _ (base i : ℕ) (p : List ℕ) (there : length p ≡ base + i) (v : ℕ) (q : List ℕ) where
@@ -128,7 +128,8 @@ actions-valued n m (suc k) vs h =
     let behind : ActionsValued n m k zs =
     λ t i early inside.
     let atom : n + (m + (t * (n + m) + n + i)) ≡ suc t * (n + m) + n + i = omega arith in
-    rw (get_or-drop m ys (t * (n + m) + n + i) 0, get_or-drop n vs (m + (t * (n + m) + n + i)) 0, atom) (h (suc t) i (omega arith) inside) in
+    rw (get_or-drop m ys (t * (n + m) + n + i) 0, get_or-drop n vs (m + (t * (n + m) + n + i)) 0, atom)
+    (h (suc t) i (omega arith) inside) in
     rw (or-false-same acts here, actions-valued n m k zs behind, take-append-drop m ys) (take-append-drop n vs)
 
 -- the codes are of the values' places, at most two each

@@ -1,7 +1,8 @@
 -- Writing a history: each line lists the literals that a run of values holds, in atom order, positive before negative. An action that
 -- is false need not be listed (02, §2): a choice tells of each time and action whether it is. Each use of a name has a spelling (02, §3).
 -- Assumes nothing.
-use Rattle.std.specs.Prelude.{Bool, true, false, cond, not, ◌&&◌, List, [], ◌∷◌, ◌++◌, map, ℕ, zero, suc, ◌+◌, ◌*◌, ◌%◌, eqb, ltb, length, take, drop}
+use Rattle.std.specs.Prelude.{Bool, true, false, cond, not, ◌&&◌, List, [], ◌∷◌, ◌++◌, map, ℕ, zero, suc, ◌+◌, ◌*◌, ◌%◌}
+use Rattle.std.specs.Prelude.{eqb, ltb, length, take, drop}
 use Rattle.text_forms.specs.Lines.{state_key, act_key, end_key}
 use Rattle.history_values.specs.Values.{or_false}
 use Rattle.written_form.specs.Writing.{Spelling, line_text, list_text}

@@ -4,7 +4,8 @@ use Rattle.std.specs.Prelude.{◌≡◌, List, [], ℕ}
 use Rattle.std.proofs.Math.Option.{Option, none, some}
 use Rattle.basics.specs.Replies as replies
 use Rattle.basics.specs.Replies.{Reply, answered}
-use Rattle.text_forms.specs.Lines.{static_key, dynamic_key, if_key, after_key, default_key, inertial_key, causes_key, by_key, nonexecutable_key}
+use Rattle.text_forms.specs.Lines.{static_key, dynamic_key, if_key, after_key, default_key, inertial_key, causes_key}
+use Rattle.text_forms.specs.Lines.{by_key, nonexecutable_key}
 use Rattle.spelling.specs.Spelling.{false_bytes}
 use Rattle.description_lines.specs.LineSteps.{Due, Draft, Step, refused, next, finish, line_step}
 use Rattle.description_lines.specs.Descriptions.{Taken, read, blank}
