@@ -1,5 +1,7 @@
 // The same functions for programs: each takes 64 law records by value, lends them to the function over a lent run, and hands back
 // what that says. Covered code can't lend a local array of records.
+#![tactic(auto)]
+
 ghost use Rattle.std.specs.Prelude.{◌≡◌, length};
 ghost use Rattle.translation.specs.Answers.{outcome_of};
 ghost use Rattle.translation_rules.specs.Translated.{outcome, table_after};
@@ -19,7 +21,7 @@ use lent_laws::Read;
 use translation::Translated;
 
 // What the description reader answers, and the run that it was lent.
-#[derive(Drop)]
+#[derive(Clone, Copy)]
 pub struct ReadRun {
     pub read: Read,
     pub laws: [Law; 64],
@@ -47,7 +49,7 @@ pub fn translate_run(d: Description, laws: [Law; 64], table: &mut [u16]) -> Tran
 }
 
 // What the check of a history and the reading of it say.
-#[derive(Drop)]
+#[derive(Clone, Copy)]
 pub struct Judged {
     pub checked: Checked,
     pub reading: Reading,

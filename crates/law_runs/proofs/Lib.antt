@@ -1,4 +1,1 @@
 pub mod Stored
-pub mod Walking
-pub mod Answers
-pub mod Records

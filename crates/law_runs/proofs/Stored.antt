@@ -41,7 +41,8 @@ stored-front (suc k) run ls held room =
 stored-rest : (k n : ℕ) (run ls : List Law) → k ≤ n → drop n (stored k run ls) ≡ drop n ls
 unfolding stored
 stored-rest zero n run ls low = refl
-stored-rest (suc k) n run ls low = drop-set-lt n (stored k run ls) k (get_or run k no_law) (omega arith) ∙ stored-rest k n run ls (omega arith)
+stored-rest (suc k) n run ls low = drop-set-lt n (stored k run ls) k (get_or run k no_law) (omega arith)
+    ∙ stored-rest k n run ls (omega arith)
 
 -- later records leave them
 stored-later : (j k : ℕ) (run ls : List Law) → take k (stored (k + j) run ls) ≡ take k (stored k run ls)

@@ -1,5 +1,7 @@
 // Runs of law records of any length, and 64 of them by value: one record copied out, a run gathered, and a run stored back. What
 // doesn't fit is left out and a place that isn't there reads as the empty record, so that no caller owes these functions anything.
+#![tactic(auto)]
+
 ghost use Rattle.std.specs.Prelude.{◌≡◌, get_or, set};
 ghost use Rattle.action_language.specs.Laws.{no_law};
 ghost use Rattle.law_runs.specs.Runs.{no_laws};
@@ -58,7 +60,8 @@ pub fn gather(laws: &[Law]) -> [Law; 64]
     let mut i = 0;
     while i < 64 {
         let law = copy_law(laws, i);
-        run = placed(run, i, law);
+        let next = placed(run, i, law);
+        run = next;
         i += 1;
     }
     run

@@ -31,7 +31,8 @@ module _ (d : Description) (ls : List Law) where
   unfolding translated.outcome bad_record
   same_outcome room = agreeing (λ e. rw e refl) (λ e. rw e refl)
 
-  pub same-table : (table : List ℕ) → translated.table_after d (gathered ls) (length ls) table ≡ translated.table_after d ls (length ls) table
+  pub same-table : (table : List ℕ)
+      → translated.table_after d (gathered ls) (length ls) table ≡ translated.table_after d ls (length ls) table
   unfolding translated.table_after translated.outcome bad_record
   same-table table = agreeing (λ e. rw e refl) (λ e. rw e refl)
 

@@ -1,4 +1,2 @@
 pub mod Agreement
 pub mod Reading
-pub mod Gathering
-pub mod Lending

@@ -1,4 +1,6 @@
 // The library's face over a lent run of law records: each function gathers the run and leaves the rest to code by value.
+#![tactic(auto)]
+
 ghost use Rattle.std.specs.Prelude.{◌≡◌, length};
 ghost use Rattle.translation.specs.Answers.{outcome_of};
 ghost use Rattle.translation_rules.specs.Translated.{outcome, table_after};
@@ -18,7 +20,7 @@ use history_check::Checked;
 use translation::Translated;
 
 // What the description reader answers: a refusal or where the description ends, and the description's record, all 0 on a refusal.
-#[derive(Drop)]
+#[derive(Clone, Copy)]
 pub struct Read {
     pub answer: Answer,
     pub description: Description,
