@@ -1,4 +1,6 @@
 // Answers as numbers. Codes 1 to 63 are the refusals of that number; every other answer has a code above them.
+#![tactic(auto)]
+
 ghost use Rattle.std.specs.Prelude.{◌≡◌, ◌<◌};
 ghost use Rattle.answer_sets.specs.Answers;
 ghost use Rattle.completion.specs.Answers as completed;

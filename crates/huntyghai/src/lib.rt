@@ -1,5 +1,7 @@
 // The library for C and Rust (include/huntyghai.h): functions on numbers and slices of numbers. An answer is one number, its
 // code and 256 times its value.
+#![tactic(auto)]
+
 ghost use Rattle.std.specs.Prelude.{◌≡◌, [], ◌∷◌, ◌≤◌, length};
 ghost use Rattle.std.proofs.lemmas.List.Edits.{sets};
 ghost use Rattle.answer_set_theory.specs.Answers.{answer};

@@ -137,7 +137,8 @@ module _ (vs ws : List ℕ) (accepted : Accepted vs ws) where
       go (some k) e = (omega arith, omega (arith, completed.place-below vs ws levels accepted k e))
       go none e = found
 
-pub completion-numbered : (vs ws : List ℕ) (number : ℕ) → number ≡ reply_code formula_code (answer vs ws) → SaysFormulas vs ws (answer vs ws)
+pub completion-numbered : (vs ws : List ℕ) (number : ℕ) → number ≡ reply_code formula_code (answer vs ws)
+    → SaysFormulas vs ws (answer vs ws)
     → CompletionNumbered vs ws number
 unfolding CompletionNumbered SaysFormulas
 completion-numbered vs ws number is promised accepted =

@@ -1,4 +1,6 @@
 // The reader of a whole input: a description, and behind its end line the history of it. Lines count over the whole input.
+#![tactic(auto)]
+
 ghost use Rattle.std.specs.Prelude.{◌≡◌, ◌-◌, ◌≤◌, length, take, drop, replicate};
 ghost use Rattle.action_language.specs.Atoms.{atom_count};
 ghost use Rattle.description_lines.specs.Descriptions.{described};
@@ -40,7 +42,7 @@ fn moved_up(lines: usize, said: HistoryAnswer) -> HistoryAnswer
 
 // What the readers give: a refusal or that all was read, the description with its laws, and the values of the history, one
 // for each atom. On a refusal by the description every count is 0 and nothing stands in the laws; on any refusal the values are 0.
-#[derive(Drop)]
+#[derive(Clone, Copy)]
 pub struct Input {
     pub answer: HistoryAnswer,
     pub description: Description,

@@ -18,7 +18,8 @@ table = table_of 13 words
 
 -- a word's length, and the bytes behind it
 abbrev RowAt : ℕ → Type 0
-RowAt k = (get_or table (13 * k) 0 ≤ 12) × (take (13 * k + 1 + get_or table (13 * k) 0 - (13 * k + 1)) (drop (13 * k + 1) table) ≡ word_at k)
+RowAt k = (get_or table (13 * k) 0 ≤ 12)
+    × (take (13 * k + 1 + get_or table (13 * k) 0 - (13 * k + 1)) (drop (13 * k + 1) table) ≡ word_at k)
 
 pub row : (k : ℕ) → k < 21 → RowAt k
 unfolding word_at

@@ -18,8 +18,9 @@ use Rattle.printed_lines.specs.Writing.{path_word, contradicted_word, uncaused_w
 -- the words by their numbers; a number that is no word's has no bytes
 abbrev pub words : List (List ℕ)
 words =
-    horizon_word ∷ atoms_word ∷ rules_word ∷ words_word ∷ answer_word ∷ at_word ∷ causal_word ∷ time_word ∷ item_word ∷ refused_word ∷ place_word
-    ∷ passes_word ∷ missing_word ∷ clash_word ∷ broken_word ∷ unfounded_word ∷ none_word ∷ path_word ∷ contradicted_word ∷ uncaused_word ∷ [] ∷ []
+    horizon_word ∷ atoms_word ∷ rules_word ∷ words_word ∷ answer_word ∷ at_word ∷ causal_word ∷ time_word ∷ item_word
+    ∷ refused_word ∷ place_word ∷ passes_word ∷ missing_word ∷ clash_word ∷ broken_word ∷ unfounded_word
+    ∷ none_word ∷ path_word ∷ contradicted_word ∷ uncaused_word ∷ [] ∷ []
 
 unfoldable pub word_at : ℕ → List ℕ
 word_at k = get_or words k []

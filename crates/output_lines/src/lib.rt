@@ -1,5 +1,7 @@
 // The lines that are printed for an answer: the nine lines of a history check, or a refusal. Each function stores its bytes as far as
 // the buffer goes, and returns the place behind them.
+#![tactic(auto)]
+
 mod bytes;
 mod shown;
 
@@ -19,7 +21,7 @@ use history_check::Checked;
 use shown::{Causal, Value, Verdict};
 
 // What the output says of a translation.
-#[derive(Drop)]
+#[derive(Clone, Copy)]
 pub struct Counts {
     pub horizon: usize,
     pub atoms: usize,

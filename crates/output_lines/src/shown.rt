@@ -11,7 +11,7 @@ use causal_reading::Reading;
 use history_check::Checked;
 
 // What stands behind an equals sign: a word of the table, a number, or the name of a fluent.
-#[derive(Drop)]
+#[derive(Clone, Copy)]
 pub(crate) enum Value {
     Word(usize),
     Number(usize),
@@ -19,14 +19,14 @@ pub(crate) enum Value {
 }
 
 // A verdict, and what it names.
-#[derive(Drop)]
+#[derive(Clone, Copy)]
 pub(crate) struct Verdict {
     pub answer: Value,
     pub at: Value,
 }
 
 // A causal verdict, its time and its item.
-#[derive(Drop)]
+#[derive(Clone, Copy)]
 pub(crate) struct Causal {
     pub causal: Value,
     pub time: Value,

@@ -1,1 +1,2 @@
 // Theorems alone: which refusals can come.
+#![tactic(auto)]

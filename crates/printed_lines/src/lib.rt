@@ -1,1 +1,2 @@
 // What is printed for an answer: words, decimal numbers and lines: no function.
+#![tactic(auto)]

@@ -1,4 +1,6 @@
 // What the program check prints: the nine lines of a history check, or a refusal.
+#![tactic(auto)]
+
 ghost use Rattle.std.specs.Prelude.{◌≡◌, ◌+◌, ◌≤◌, min, length, take};
 ghost use Rattle.std.proofs.lemmas.List.Edits.{sets};
 ghost use Rattle.translation_rules.specs.Translated.{outcome};
