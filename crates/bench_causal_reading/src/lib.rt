@@ -1,5 +1,7 @@
 // The causal reading by itself, for the benchmark (tests/benchmark): the C library reads the text at each call, and here only
 // the reading of the values is made again.
+#![tactic(auto)]
+
 ghost use Rattle.std.specs.Prelude.{◌≡◌};
 ghost use Rattle.causal_reading.specs.Readings.{reply_of, reading};
 ghost use Rattle.huntyghai_theory.specs.Texts.{reading_of_input};

@@ -1,12 +1,15 @@
 // The functions over a lent run of law records, one after the other: reads a description and its history from standard input, and
 // prints what each of them answers, the words that are left in the table, and names as they are shown.
+#![tactic(auto)]
+
 ghost use Rattle.std.specs.Prelude.{◌≡◌, ◌≤◌, length};
 
 use action_language::{Description, Law};
 use causal_reading::Reading;
 use history_check::Checked;
 use history_reader::HistoryAnswer;
-use libc::{STDIN_FILENO, STDOUT_FILENO};
+use std::io;
+use std::io::Read;
 use translation::Translated;
 
 fn no_table() -> [u16; 30912]
@@ -29,112 +32,111 @@ fn wide_word(n: u16) -> u64 {
     n as u64
 }
 
-fn print_number(key: &[u8], n: usize) {
-    io::write_all(STDOUT_FILENO, key);
-    io::print_decimal(STDOUT_FILENO, wide(n));
-    io::write_all(STDOUT_FILENO, b"\n");
+fn print_number(rt: &impl Print, key: &[u8], n: usize) -> io::Result<()> {
+    rt.write_all(key)?;
+    rt.println(wide(n))
 }
 
-fn print_word(key: &[u8], word: &[u8]) {
-    io::write_all(STDOUT_FILENO, key);
-    io::write_all(STDOUT_FILENO, word);
-    io::write_all(STDOUT_FILENO, b"\n");
+fn print_word(rt: &impl Print, key: &[u8], word: &[u8]) -> io::Result<()> {
+    rt.write_all(key)?;
+    rt.write_all(word)?;
+    rt.write_all(b"\n")
 }
 
-fn print_refusal(number: u8, place: usize) {
-    print_number(b"refused=", number as usize);
-    print_number(b"place=", place);
+fn print_refusal(rt: &impl Print, number: u8, place: usize) -> io::Result<()> {
+    print_number(rt, b"refused=", number as usize)?;
+    print_number(rt, b"place=", place)
 }
 
 // The first words of a table, each behind a space.
-fn print_table(table: &[u16], words: usize) {
+fn print_table(rt: &impl Print, table: &[u16], words: usize) -> io::Result<()> {
     let count = at_most(words, table.len());
-    io::write_all(STDOUT_FILENO, b"table=");
+    rt.write_all(b"table=")?;
     for i in 0..count {
-        io::write_all(STDOUT_FILENO, b" ");
-        io::print_decimal(STDOUT_FILENO, wide_word(table[i]));
+        rt.write_all(b" ")?;
+        rt.print(wide_word(table[i]))?;
     }
-    io::write_all(STDOUT_FILENO, b"\n");
+    rt.write_all(b"\n")
 }
 
-fn print_checked(checked: Checked) {
+fn print_checked(rt: &impl Print, checked: Checked) -> io::Result<()> {
     match checked {
-        Checked::Refused(number, place) => print_refusal(number, place),
-        Checked::Missing(atom) => print_number(b"missing=", atom),
-        Checked::Clash(atom) => print_number(b"clash=", atom),
-        Checked::Broken(rule) => print_number(b"broken=", rule),
-        Checked::Unfounded(code) => print_number(b"unfounded=", code),
-        Checked::Passes => print_word(b"answer=", b"passes"),
+        Checked::Refused(number, place) => print_refusal(rt, number, place),
+        Checked::Missing(atom) => print_number(rt, b"missing=", atom),
+        Checked::Clash(atom) => print_number(rt, b"clash=", atom),
+        Checked::Broken(rule) => print_number(rt, b"broken=", rule),
+        Checked::Unfounded(code) => print_number(rt, b"unfounded=", code),
+        Checked::Passes => print_word(rt, b"answer=", b"passes"),
     }
 }
 
-fn print_reading(reading: Reading) {
+fn print_reading(rt: &impl Print, reading: Reading) -> io::Result<()> {
     match reading {
-        Reading::Refused(number, place) => print_refusal(number, place),
+        Reading::Refused(number, place) => print_refusal(rt, number, place),
         Reading::Contradicted(time, law) => {
-            print_number(b"contradicted=", time);
-            print_number(b"law=", law);
+            print_number(rt, b"contradicted=", time)?;
+            print_number(rt, b"law=", law)
         }
         Reading::Uncaused(time, fluent) => {
-            print_number(b"uncaused=", time);
-            print_number(b"fluent=", fluent);
+            print_number(rt, b"uncaused=", time)?;
+            print_number(rt, b"fluent=", fluent)
         }
-        Reading::Path => print_word(b"causal=", b"path"),
+        Reading::Path => print_word(rt, b"causal=", b"path"),
     }
 }
 
-fn show_judged(d: Description, laws: [Law; 64], values: &[u8]) {
+fn show_judged(rt: &impl Print, d: Description, laws: [Law; 64], values: &[u8]) -> io::Result<()> {
     let mut table = no_table();
     let judged = held_laws::judge(d, laws, values, &mut table);
     let checked = judged.checked;
     let reading = judged.reading;
-    print_checked(checked);
-    print_reading(reading);
+    print_checked(rt, checked)?;
+    print_reading(rt, reading)
 }
 
-fn show_laws(d: Description, laws: [Law; 64], values: &[u8]) {
+fn show_laws(rt: &impl Print, d: Description, laws: [Law; 64], values: &[u8]) -> io::Result<()> {
     let mut table = no_table();
     let translated = held_laws::translate_run(d, laws, &mut table);
     match translated {
-        Translated::Refused(number, place) => print_refusal(number, place),
+        Translated::Refused(number, place) => print_refusal(rt, number, place),
         Translated::Written(atoms, rules, words) => {
-            print_number(b"atoms=", atoms);
-            print_number(b"rules=", rules);
-            print_number(b"words=", words);
-            print_table(&table, words);
-            show_judged(d, laws, values)
+            print_number(rt, b"atoms=", atoms)?;
+            print_number(rt, b"rules=", rules)?;
+            print_number(rt, b"words=", words)?;
+            print_table(rt, &table, words)?;
+            show_judged(rt, d, laws, values)
         }
     }
 }
 
 // Names as they were declared; a number that nothing declares shows an empty part.
-fn show_names(text: &[u8]) {
-    print_word(b"fluent=", shown_names::fluent_name(text, 0));
-    print_word(b"fluent=", shown_names::fluent_name(text, 2));
-    print_word(b"action=", shown_names::action_name(text, 0));
-    print_word(b"action=", shown_names::action_name(text, 1));
+fn show_names(rt: &impl Print, text: &[u8]) -> io::Result<()> {
+    print_word(rt, b"fluent=", shown_names::fluent_name(text, 0))?;
+    print_word(rt, b"fluent=", shown_names::fluent_name(text, 2))?;
+    print_word(rt, b"action=", shown_names::action_name(text, 0))?;
+    print_word(rt, b"action=", shown_names::action_name(text, 1))
 }
 
 // The whole input is read through a lent run, as check does it.
-fn show(input: &[u8]) {
+fn show(rt: &impl Print, input: &[u8]) -> io::Result<()> {
     let whole = inputs::read_input(input);
     let answer = whole.answer;
     match answer {
-        HistoryAnswer::Refused(number, place) => print_refusal(number, place),
+        HistoryAnswer::Refused(number, place) => print_refusal(rt, number, place),
         HistoryAnswer::Complete => {
             let d = whole.description;
             let laws = whole.laws;
             let values = whole.values;
             let atoms = whole.atoms;
-            print_number(b"laws=", d.laws);
-            show_laws(d, laws, &values[..atoms])
+            print_number(rt, b"laws=", d.laws)?;
+            show_laws(rt, d, laws, &values[..atoms])
         }
     }
 }
 
-fn main() {
-    let mut input = io::large_buffer();
-    let got = io::read_full(STDIN_FILENO, &mut input);
-    show(&input[..got]);
-    show_names(&input[..got]);
+fn main(rt: HostRuntime) -> io::Result<()> {
+    let mut input = Vec::new(rt.alloc());
+    rt.reader().take(65536).read_to_end(&mut input)?;
+    show(&rt, &input)?;
+    show_names(&rt, &input)
 }

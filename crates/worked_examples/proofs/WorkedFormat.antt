@@ -17,18 +17,21 @@ use Rattle.worked_examples.specs.Examples.{Holds}
 use Rattle.worked_examples.specs.Format.{reader_examples, line_examples, history_examples}
 
 pub reader-examples : Each Holds reader_examples
-unfolding cut key_number first_line is_name literal items list_of horizon_of read_head line_step described read_history shown_fluent shown_action
+unfolding cut key_number first_line is_name literal items list_of horizon_of read_head line_step described read_history
+    shown_fluent shown_action
 reader-examples =
     refl & refl & refl & refl & refl & refl & refl & refl & refl & refl & refl & refl & refl & refl & refl & refl & refl
     & refl & refl & refl & refl & refl & refl & refl & refl & refl & refl & refl & refl & refl & refl & refl & refl
     & refl & refl & refl & refl & refl & refl & tt
 
 pub line-examples : Each Holds line_examples
-unfolding cut key_number first_line is_name literal items list_of horizon_of read_head line_step described read_history shown_fluent shown_action
+unfolding cut key_number first_line is_name literal items list_of horizon_of read_head line_step described read_history
+    shown_fluent shown_action
 line-examples =
     refl & refl & refl & refl & refl & refl & refl & refl & refl & refl & refl & refl & refl & refl & refl & refl & refl
     & refl & refl & refl & refl & refl & refl & refl & tt
 
 pub history-examples : Each Holds history_examples
-unfolding cut key_number first_line is_name literal items list_of horizon_of read_head line_step described read_history shown_fluent shown_action
+unfolding cut key_number first_line is_name literal items list_of horizon_of read_head line_step described read_history
+    shown_fluent shown_action
 history-examples = refl & refl & refl & refl & refl & refl & refl & refl & refl & refl & refl & refl & refl & refl & refl & refl & refl & tt

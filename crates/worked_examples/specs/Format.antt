@@ -45,7 +45,8 @@ each_letter text = map (λ b. b ∷ []) text
 abbrev pub reader_examples : List Example
 reader_examples =
     -- 000's (3) as text has every key, a static law, and a name with a digit and an underscore
-    reads 64 (door_text ++ door_history_text) (answered (read (drafted 1 (bytes "closed" ∷ bytes "open_1" ∷ []) door_laws) door_history_text 9))
+    reads 64 (door_text ++ door_history_text)
+    (answered (read (drafted 1 (bytes "closed" ∷ bytes "open_1" ∷ []) door_laws) door_history_text 9))
     ∷ reads_history door_text door_history_text 3 (answered (1 ∷ 1 ∷ 2 ∷ []))
     -- the description reader stops behind its end line and says where
     ∷ reads 64 (small_text ++ bytes "\nx") (answered (read (small_draft []) (bytes "\nx") 4))

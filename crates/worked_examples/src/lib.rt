@@ -1,1 +1,2 @@
 // Worked examples of all layers, as theorems about the definitions; no code.
+#![tactic(auto)]
