@@ -12,6 +12,7 @@ import re
 import sys
 
 DECLARED = re.compile(r"^[ \t]*(?:(?:abbrev|unfoldable|pub) )*(?:data |record )?([A-Za-z][A-Za-z0-9_'₀-₉-]*)(?= *(?:\{|\(|:))", re.M)
+SEVERAL = re.compile(r"^ +([a-z]\w*(?: [a-z]\w*)+) : ", re.M)  # constructors that one line declares
 CAMEL = re.compile(r"[a-z][a-z0-9]*(?:[A-Z][a-z0-9]*)+")
 WORD = re.compile(r"(?<![A-Za-z0-9_.])[A-Za-z][A-Za-z0-9_]*|(?<=\.)[A-Za-z][A-Za-z0-9_]*")
 BEFORE = re.compile(r"[a-z0-9](?=[A-Z])|[A-Z](?=[A-Z][a-z])")
@@ -48,6 +49,8 @@ def main():
         if path.endswith(".antt"):
             for m in DECLARED.finditer(text):
                 declared |= {w for w in (p.rstrip("'₀₁₂₃₄₅₆₇₈₉") for p in m[1].split("-")) if CAMEL.fullmatch(w)}
+            for m in SEVERAL.finditer(text):
+                declared |= {w for w in m[1].split() if CAMEL.fullmatch(w)}
     table = {w: snake(w) for w in declared}
     if len(set(table.values())) < len(table):
         sys.exit("spelling: two words fall together")

@@ -1,6 +1,7 @@
-// The place of something searched for: what the searches of the crates above answer.
+// Words that the crates above share: what a search and what tests answer.
 #![tactic(auto)]
 
+// The place of something searched for: what the searches of the crates above answer.
 #[derive(Clone, Copy)]
 pub enum Found {
     At(usize),

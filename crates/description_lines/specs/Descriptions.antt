@@ -6,7 +6,7 @@ use Rattle.basics.specs.Replies.{Reply, refused, answered}
 use Rattle.action_language.specs.declared.Description.{Description}
 use Rattle.text_forms.specs.Lines.{Line, first_line}
 use Rattle.description_lines.specs.LineSteps as step
-use Rattle.description_lines.specs.LineSteps.{Due, horizonDue, Draft, Step, next, finish, line_step}
+use Rattle.description_lines.specs.LineSteps.{Due, horizon_due, Draft, Step, next, finish, line_step}
 
 -- a description that was read: the draft, the text behind the end line and the number of lines
 pub data Taken : Type 0 where
@@ -33,7 +33,7 @@ blank = record { horizon = 0; fluents = 0; names = []; laws = [] }
 -- refusal 1: over 65,535 bytes, place 0
 unfoldable pub described : ℕ → List ℕ → Reply Taken
 described lent text =
-    cond (ltb 65535 (length text)) (refused 1 0) (lines_from (suc (length text)) lent 1 horizonDue blank text)
+    cond (ltb 65535 (length text)) (refused 1 0) (lines_from (suc (length text)) lent 1 horizon_due blank text)
 
 abbrev pub description_of : Draft → Description
 description_of d =

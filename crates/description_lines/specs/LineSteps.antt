@@ -20,8 +20,8 @@ use Rattle.line_values.specs.ShortLaws.{default_law, inertial_law, causes_law, n
 -- what is due: the horizon, the first fluent, a further fluent or what follows, an action or what follows, a law or the end,
 -- the if-list of a law that has begun, its after-list, the list of what causes its head
 pub data Due : Type 0 where
-  horizonDue firstFluentDue fluentDue actionDue lawDue : Due
-  ifDue afterDue byDue : Law → Due
+  horizon_due first_fluent_due fluent_due action_due law_due : Due
+  if_due after_due by_due : Law → Due
 
 -- what has been read: the horizon, how many of the names are fluents, the names (fluents first), and the laws
 pub record Draft : Type 0 where
@@ -37,14 +37,14 @@ starts_law k =
 
 -- the keys that may stand where something is due
 abbrev pub allowed : Due → ℕ → Bool
-allowed horizonDue k = eqb k horizon_key
-allowed firstFluentDue k = eqb k fluent_key
-allowed fluentDue k = eqb k fluent_key || eqb k action_key || starts_law k || eqb k end_key
-allowed actionDue k = eqb k action_key || starts_law k || eqb k end_key
-allowed lawDue k = starts_law k || eqb k end_key
-allowed (ifDue l) k = eqb k if_key
-allowed (afterDue l) k = eqb k after_key
-allowed (byDue l) k = eqb k by_key
+allowed horizon_due k = eqb k horizon_key
+allowed first_fluent_due k = eqb k fluent_key
+allowed fluent_due k = eqb k fluent_key || eqb k action_key || starts_law k || eqb k end_key
+allowed action_due k = eqb k action_key || starts_law k || eqb k end_key
+allowed law_due k = starts_law k || eqb k end_key
+allowed (if_due l) k = eqb k if_key
+allowed (after_due l) k = eqb k after_key
+allowed (by_due l) k = eqb k by_key
 
 -- what a line comes to: a refusal's number, what is due next, or the end of the description
 pub data Step : Type 0 where
@@ -55,7 +55,7 @@ pub data Step : Type 0 where
 abbrev pub horizon_line : Draft → Option ℕ → Step
 horizon_line d none = refused 3
 horizon_line d (some T) =
-    next firstFluentDue (record { horizon = T; fluents = d.fluents; names = d.names; laws = d.laws })
+    next first_fluent_due (record { horizon = T; fluents = d.fluents; names = d.names; laws = d.laws })
 
 -- a new name: 5 before its spelling, then 4. `fits`: there is a place for it; `fluents`: how many there are behind it
 abbrev pub name_line : Bool → Due → ℕ → Draft → List ℕ → Step
@@ -67,10 +67,10 @@ name_line fits due fluents d value =
     (refused 5)
 
 abbrev pub fluent_line : Draft → List ℕ → Step
-fluent_line d value = name_line (ltb d.fluents 24) fluentDue (suc d.fluents) d value
+fluent_line d value = name_line (ltb d.fluents 24) fluent_due (suc d.fluents) d value
 
 abbrev pub action_line : Draft → List ℕ → Step
-action_line d value = name_line (ltb (length d.names) (d.fluents + 8)) actionDue d.fluents d value
+action_line d value = name_line (ltb (length d.names) (d.fluents + 8)) action_due d.fluents d value
 
 -- a law's head: false, in any mix of capitals, or a fluent literal
 abbrev pub lit_head : Option ℕ → Option Head
@@ -98,8 +98,8 @@ abbrev pub whole : Draft → Law → Draft
 whole d l = record { horizon = d.horizon; fluents = d.fluents; names = d.names; laws = d.laws ++ (l ∷ []) }
 
 abbrev pub with_if : Draft → Kind → Head → List ℕ → Step
-with_if d Static head cs = next lawDue (whole d (law_of Static head cs []))
-with_if d Dynamic head cs = next (afterDue (law_of Dynamic head cs [])) d
+with_if d Static head cs = next law_due (whole d (law_of Static head cs []))
+with_if d Dynamic head cs = next (after_due (law_of Dynamic head cs [])) d
 
 abbrev pub if_line : Draft → Law → Listed → Step
 if_line d l (lists.refused k) = refused k
@@ -118,16 +118,16 @@ with_after l cs =
 
 abbrev pub after_line : Draft → Law → Listed → Step
 after_line d l (lists.refused k) = refused k
-after_line d l (codes cs) = next lawDue (whole d (with_after l cs))
+after_line d l (codes cs) = next law_due (whole d (with_after l cs))
 
 -- the short laws, each whole behind its last line: of a fluent literal, or of a list
 abbrev pub whole_by_literal : Draft → (ℕ → Law) → Option ℕ → Step
 whole_by_literal d law none = refused 6
-whole_by_literal d law (some c) = next lawDue (whole d (law c))
+whole_by_literal d law (some c) = next law_due (whole d (law c))
 
 abbrev pub whole_by_list : Draft → (List ℕ → Law) → Listed → Step
 whole_by_list d law (lists.refused k) = refused k
-whole_by_list d law (codes cs) = next lawDue (whole d (law cs))
+whole_by_list d law (codes cs) = next law_due (whole d (law cs))
 
 -- a new law of a fluent literal: 5 before its spelling
 abbrev pub literal_line : ℕ → Draft → (ℕ → Law) → List ℕ → Step
@@ -143,14 +143,14 @@ end_line d (b ∷ bs) = refused 2
 
 -- the law that has begun; no list is allowed where none has
 abbrev pub law_in : Due → Law
-law_in horizonDue = no_law
-law_in firstFluentDue = no_law
-law_in fluentDue = no_law
-law_in actionDue = no_law
-law_in lawDue = no_law
-law_in (ifDue l) = l
-law_in (afterDue l) = l
-law_in (byDue l) = l
+law_in horizon_due = no_law
+law_in first_fluent_due = no_law
+law_in fluent_due = no_law
+law_in action_due = no_law
+law_in law_due = no_law
+law_in (if_due l) = l
+law_in (after_due l) = l
+law_in (by_due l) = l
 
 -- a list of fluent literals, and one of literals of either sort: a fluent literal's place is below the number of fluents
 abbrev pub fluent_list : Draft → List ℕ → Listed
@@ -165,13 +165,13 @@ key_line lent due d key value =
     cond (eqb key horizon_key) (horizon_line d (horizon_of value))
     (cond (eqb key fluent_key) (fluent_line d value)
     (cond (eqb key action_key) (action_line d value)
-    (cond (eqb key static_key) (law_line lent ifDue d Static value)
-    (cond (eqb key dynamic_key) (law_line lent ifDue d Dynamic value)
+    (cond (eqb key static_key) (law_line lent if_due d Static value)
+    (cond (eqb key dynamic_key) (law_line lent if_due d Dynamic value)
     (cond (eqb key if_key) (if_line d (law_in due) (fluent_list d value))
     (cond (eqb key after_key) (after_line d (law_in due) (any_list d value))
     (cond (eqb key default_key) (literal_line lent d default_law value)
     (cond (eqb key inertial_key) (literal_line lent d inertial_law value)
-    (cond (eqb key causes_key) (law_line lent byDue d Dynamic value)
+    (cond (eqb key causes_key) (law_line lent by_due d Dynamic value)
     (cond (eqb key by_key) (whole_by_list d (causes_law (law_in due).head) (any_list d value))
     (cond (eqb key nonexecutable_key) (nonexecutable_line lent d (any_list d value)) (end_line d value))))))))))))
 

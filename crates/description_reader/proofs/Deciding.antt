@@ -8,13 +8,13 @@ use native.Mathlib.Omega.{arith}
 use lib.Dec.{eqb}
 use lib.ListN.{length}
 use Rattle.description_lines.specs.LineSteps as step
-use Rattle.description_lines.specs.LineSteps.{fluentDue, actionDue, lawDue, allowed, Draft, finish, end_line}
+use Rattle.description_lines.specs.LineSteps.{fluent_due, action_due, law_due, allowed, Draft, finish, end_line}
 
 -- an action or what follows the actions; a fluent or what follows the fluents
-pub allowed-action : (k : ℕ) → allowed actionDue k ≡ (eqb k 2 || allowed lawDue k)
+pub allowed-action : (k : ℕ) → allowed action_due k ≡ (eqb k 2 || allowed law_due k)
 allowed-action k = simp or_assoc
 
-pub allowed-fluent : (k : ℕ) → allowed fluentDue k ≡ (eqb k 1 || (eqb k 2 || allowed lawDue k))
+pub allowed-fluent : (k : ℕ) → allowed fluent_due k ≡ (eqb k 1 || (eqb k 2 || allowed law_due k))
 allowed-fluent k = simp or_assoc
 
 pub end-bytes : (d : Draft) (xs : List ℕ) → 0 < length xs → step.refused 2 ≡ end_line d xs

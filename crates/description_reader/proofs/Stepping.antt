@@ -20,8 +20,8 @@ use Rattle.description_reader.specs.declared.Run.{Run}
 use Rattle.description_reader.specs.declared.states.Due as code
 use Rattle.description_reader.specs.declared.states.Due.TheVariants as code-due
 use Rattle.description_reader.specs.declared.states.HeldDraft.{HeldDraft}
-use Rattle.description_lines.specs.LineSteps.{Due, horizonDue, firstFluentDue, fluentDue, actionDue, lawDue}
-use Rattle.description_lines.specs.LineSteps.{ifDue, afterDue, byDue, allowed, with_after}
+use Rattle.description_lines.specs.LineSteps.{Due, horizon_due, first_fluent_due, fluent_due, action_due, law_due}
+use Rattle.description_lines.specs.LineSteps.{if_due, after_due, by_due, allowed, with_after}
 use Rattle.action_language.specs.Laws.{law_of}
 use Rattle.text_forms.specs.Lines.{if_key, after_key, by_key}
 use Rattle.text_forms.specs.Names.{literal}
@@ -35,25 +35,25 @@ use Rattle.line_values.specs.Internal.{places_of}
 use Rattle.description_reader.specs.Internal.{due_of, draft_of, HasRoom, Sound, Padded, Pushed, Follows}
 
 at-most-64 : (due : Due) (n : ℕ) → HasRoom due n → n ≤ 64
-at-most-64 horizonDue n h = h
-at-most-64 firstFluentDue n h = h
-at-most-64 fluentDue n h = h
-at-most-64 actionDue n h = h
-at-most-64 lawDue n h = h
-at-most-64 (ifDue l) n h = omega arith
-at-most-64 (afterDue l) n h = omega arith
-at-most-64 (byDue l) n h = omega arith
+at-most-64 horizon_due n h = h
+at-most-64 first_fluent_due n h = h
+at-most-64 fluent_due n h = h
+at-most-64 action_due n h = h
+at-most-64 law_due n h = h
+at-most-64 (if_due l) n h = omega arith
+at-most-64 (after_due l) n h = omega arith
+at-most-64 (by_due l) n h = omega arith
 
 -- a place in the run serves whatever is due
 pub room-any : (due : Due) (n : ℕ) → n < 64 → HasRoom due n
-room-any horizonDue n h = omega arith
-room-any firstFluentDue n h = omega arith
-room-any fluentDue n h = omega arith
-room-any actionDue n h = omega arith
-room-any lawDue n h = omega arith
-room-any (ifDue l) n h = h
-room-any (afterDue l) n h = h
-room-any (byDue l) n h = h
+room-any horizon_due n h = omega arith
+room-any first_fluent_due n h = omega arith
+room-any fluent_due n h = omega arith
+room-any action_due n h = omega arith
+room-any law_due n h = omega arith
+room-any (if_due l) n h = h
+room-any (after_due l) n h = h
+room-any (by_due l) n h = h
 
 pub sound-64 : {due : Due} {r : HeldDraft} → Sound due r → r.run.count ≤ 64
 sound-64 {due} {r} s = at-most-64 due r.run.count s.room
@@ -143,7 +143,7 @@ module _ (l : Codes) (fits : Padded l) where
   list-places = rw (← fits.padding, gathered-length)
 
 -- where a law is whole, a law or the end is due
-pub pushed-sound : {due : Due} (s r : HeldDraft) → Sound due s → s.run.count < 64 → Pushed s r → Sound lawDue r
+pub pushed-sound : {due : Due} (s r : HeldDraft) → Sound due s → s.run.count < 64 → Pushed s r → Sound law_due r
 pushed-sound s r h few p =
     let names = ap (λ n. n.count) p.names in
     record {
@@ -156,11 +156,11 @@ pushed-sound s r h few p =
     }
 
 pub if-static : (d : Draft) (l : Law) (cs : List ℕ) → l.kind ≡ Static
-    → next lawDue (whole d (law_of Static l.head cs [])) ≡ with_if d l.kind l.head cs
+    → next law_due (whole d (law_of Static l.head cs [])) ≡ with_if d l.kind l.head cs
 if-static d l cs e = rw e
 
 pub if-dynamic : (d : Draft) (l : Law) (cs : List ℕ) → l.kind ≡ Dynamic
-    → next (afterDue (law_of Dynamic l.head cs [])) d ≡ with_if d l.kind l.head cs
+    → next (after_due (law_of Dynamic l.head cs [])) d ≡ with_if d l.kind l.head cs
 if-dynamic d l cs e = rw e
 
 -- the run has room where the draft has
@@ -214,12 +214,12 @@ module _ (d : Draft) (lent : ℕ) (room : Bool) (is : room ≡ room_for lent d) 
 
   pub literal-whole : (law : ℕ → Law) (value : List ℕ) (l : Law) (c : ℕ) → room ≡ true
       → literal d.names 0 d.fluents value ≡ some c → l ≡ law c
-      → next lawDue (whole d l) ≡ literal_line lent d law value
+      → next law_due (whole d l) ≡ literal_line lent d law value
   literal-whole law value l c r o e = rw (← is, r, o, e)
 
   pub list_full : (list : Listed) → room ≡ false → step.refused 5 ≡ nonexecutable_line lent d list
   list_full list r = rw (← is, r)
 
   pub list-whole : (cs : List ℕ) (l : Law) → room ≡ true → l ≡ nonexecutable_law cs
-      → next lawDue (whole d l) ≡ nonexecutable_line lent d (codes cs)
+      → next law_due (whole d l) ≡ nonexecutable_line lent d (codes cs)
   list-whole cs l r e = rw (← is, r, e)

@@ -15,8 +15,8 @@ use Rattle.basics.proofs.Tests.{and-iff, not-both}
 use Rattle.action_language.specs.declared.Law.{Law}
 use Rattle.text_forms.specs.Bytes.{newline, equals_sign, Cut, cut_at, cut}
 use Rattle.text_forms.specs.Lines.{no_key, Line, keyed, valued, ended, key_number, first_line}
-use Rattle.description_lines.specs.LineSteps.{Due, horizonDue, firstFluentDue, fluentDue, actionDue, lawDue}
-use Rattle.description_lines.specs.LineSteps.{ifDue, afterDue, byDue, Draft, starts_law, allowed, room_for}
+use Rattle.description_lines.specs.LineSteps.{Due, horizon_due, first_fluent_due, fluent_due, action_due, law_due}
+use Rattle.description_lines.specs.LineSteps.{if_due, after_due, by_due, Draft, starts_law, allowed, room_for}
 use Rattle.description_lines.specs.LineSteps.{any_list}
 use Rattle.description_lines.specs.LineSteps as step
 use Rattle.description_lines.specs.LineSteps.{Step, next, finish, line_step}
@@ -105,14 +105,14 @@ module _ (k : ℕ) (h : no_key ≤ k) where
       )
 
   allowed-none : (due : Due) → allowed due k ≡ false
-  allowed-none horizonDue = not_key 0 (omega arith)
-  allowed-none firstFluentDue = not_key 1 (omega arith)
-  allowed-none fluentDue = rw (starts_none, not_key 1 (omega arith), not_key 2 (omega arith), not_key 9 (omega arith))
-  allowed-none actionDue = rw (starts_none, not_key 2 (omega arith), not_key 9 (omega arith))
-  allowed-none lawDue = rw (starts_none, not_key 9 (omega arith))
-  allowed-none (ifDue l) = not_key 5 (omega arith)
-  allowed-none (afterDue l) = not_key 6 (omega arith)
-  allowed-none (byDue l) = not_key 13 (omega arith)
+  allowed-none horizon_due = not_key 0 (omega arith)
+  allowed-none first_fluent_due = not_key 1 (omega arith)
+  allowed-none fluent_due = rw (starts_none, not_key 1 (omega arith), not_key 2 (omega arith), not_key 9 (omega arith))
+  allowed-none action_due = rw (starts_none, not_key 2 (omega arith), not_key 9 (omega arith))
+  allowed-none law_due = rw (starts_none, not_key 9 (omega arith))
+  allowed-none (if_due l) = not_key 5 (omega arith)
+  allowed-none (after_due l) = not_key 6 (omega arith)
+  allowed-none (by_due l) = not_key 13 (omega arith)
 
   none-step : (lent : ℕ) (due : Due) (d : Draft) (value : List ℕ) → line_step lent due d k value ≡ step.refused 2
   unfolding line_step
@@ -397,7 +397,7 @@ from-bound due key room size = go (ltb 0 size && (allowed due key && is_list_key
     go true = omega arith
     go false = omega arith
 
-pub blank-sound : (laws : List Law) → length laws ≡ 64 → Sound horizonDue (blank_state laws).draft
+pub blank-sound : (laws : List Law) → length laws ≡ 64 → Sound horizon_due (blank_state laws).draft
 blank-sound laws h =
     record { time = omega arith; few = omega arith; declared = omega arith; actions = omega arith; room = omega arith; held = h }
 

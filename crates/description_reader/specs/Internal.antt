@@ -18,8 +18,8 @@ use Rattle.text_forms.specs.Lists as lists
 use Rattle.text_forms.specs.Lists.{Listed, codes, added}
 use Rattle.text.specs.Internal.{spelled}
 use Rattle.text_forms.specs.NamePlaces.{no_names, joined, names_in}
-use Rattle.description_lines.specs.LineSteps.{Due, horizonDue, firstFluentDue, fluentDue, actionDue, lawDue}
-use Rattle.description_lines.specs.LineSteps.{ifDue, afterDue, byDue, Draft, allowed}
+use Rattle.description_lines.specs.LineSteps.{Due, horizon_due, first_fluent_due, fluent_due, action_due, law_due}
+use Rattle.description_lines.specs.LineSteps.{if_due, after_due, by_due, Draft, allowed}
 use Rattle.description_lines.specs.LineSteps as step
 use Rattle.description_lines.specs.LineSteps.{Step, next, finish, horizon_line, fluent_line, action_line, law_line}
 use Rattle.description_lines.specs.LineSteps.{if_line, after_line, literal_line, whole_by_list, nonexecutable_line}
@@ -51,14 +51,14 @@ one_more done code = cond (ltb (length done) 6) (added done code codes) (lists.r
 
 -- what is due, where the law is the one that has begun
 abbrev pub due_of : code.Due → Law → Due
-due_of code-due.Horizon l = horizonDue
-due_of code-due.FirstFluent l = firstFluentDue
-due_of code-due.Fluent l = fluentDue
-due_of code-due.Action l = actionDue
-due_of code-due.NewLaw l = lawDue
-due_of code-due.If l = ifDue l
-due_of code-due.After l = afterDue l
-due_of code-due.By l = byDue l
+due_of code-due.Horizon l = horizon_due
+due_of code-due.FirstFluent l = first_fluent_due
+due_of code-due.Fluent l = fluent_due
+due_of code-due.Action l = action_due
+due_of code-due.NewLaw l = law_due
+due_of code-due.If l = if_due l
+due_of code-due.After l = after_due l
+due_of code-due.By l = by_due l
 
 abbrev pub due_at : ReaderState → Due
 due_at s = due_of s.due s.law
@@ -81,14 +81,14 @@ step_of text s =
 
 -- a law that is being read has a place in the run
 abbrev pub HasRoom : Due → ℕ → Type 0
-HasRoom horizonDue n = n ≤ 64
-HasRoom firstFluentDue n = n ≤ 64
-HasRoom fluentDue n = n ≤ 64
-HasRoom actionDue n = n ≤ 64
-HasRoom lawDue n = n ≤ 64
-HasRoom (ifDue l) n = n < 64
-HasRoom (afterDue l) n = n < 64
-HasRoom (byDue l) n = n < 64
+HasRoom horizon_due n = n ≤ 64
+HasRoom first_fluent_due n = n ≤ 64
+HasRoom fluent_due n = n ≤ 64
+HasRoom action_due n = n ≤ 64
+HasRoom law_due n = n ≤ 64
+HasRoom (if_due l) n = n < 64
+HasRoom (after_due l) n = n < 64
+HasRoom (by_due l) n = n < 64
 
 -- the counts that a draft keeps to
 pub record Sound (due : Due) (r : HeldDraft) : Type 0 where
@@ -124,15 +124,15 @@ abbrev pub short_line : ℕ → Draft → ℕ → List ℕ → Step
 short_line lent d key value =
     cond (eqb key default_key) (literal_line lent d default_law value)
     (cond (eqb key inertial_key) (literal_line lent d inertial_law value)
-    (cond (eqb key causes_key) (law_line lent byDue d Dynamic value) (end_line d value)))
+    (cond (eqb key causes_key) (law_line lent by_due d Dynamic value) (end_line d value)))
 
 abbrev pub other_line : ℕ → Draft → ℕ → List ℕ → Step
 other_line lent d key value =
     cond (eqb key horizon_key) (horizon_line d (horizon_of value))
     (cond (eqb key fluent_key) (fluent_line d value)
     (cond (eqb key action_key) (action_line d value)
-    (cond (eqb key static_key) (law_line lent ifDue d Static value)
-    (cond (eqb key dynamic_key) (law_line lent ifDue d Dynamic value) (short_line lent d key value)))))
+    (cond (eqb key static_key) (law_line lent if_due d Static value)
+    (cond (eqb key dynamic_key) (law_line lent if_due d Dynamic value) (short_line lent d key value)))))
 
 -- a line's step where its list, if it has one, is read already
 unfoldable pub step_with : ℕ → Due → Draft → ℕ → List ℕ → Listed → Step

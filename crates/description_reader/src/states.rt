@@ -1,7 +1,7 @@
 // What the description reader knows as it goes, which keys are allowed where, and whether there is room for a law.
 ghost use Rattle.std.specs.Prelude.{◌≡◌, min, ltb};
 ghost use Rattle.action_language.specs.declared.Law.{Law};
-ghost use Rattle.description_lines.specs.LineSteps.{lawDue, starts_law, allowed};
+ghost use Rattle.description_lines.specs.LineSteps.{law_due, starts_law, allowed};
 ghost use Rattle.description_reader.specs.Internal.{due_of};
 
 use crate::Run;
@@ -76,7 +76,7 @@ fn starts_law(key: usize) -> bool
 
 // A law or the end line.
 fn is_law_or_end(key: usize) -> bool
-    ensures { result ≡ allowed lawDue key }
+    ensures { result ≡ allowed law_due key }
 {
     if starts_law(key) {
         return true;

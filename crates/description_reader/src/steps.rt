@@ -9,7 +9,7 @@ ghost use Rattle.line_values.specs.HorizonText.{horizon_of};
 ghost use Rattle.line_values.specs.ShortLaws.{default_law, inertial_law, causes_law};
 ghost use Rattle.line_values.specs.Internal.{places_of};
 ghost use Rattle.description_lines.specs.LineSteps as step;
-ghost use Rattle.description_lines.specs.LineSteps.{actionDue, fluentDue, lawDue, ifDue, byDue, next};
+ghost use Rattle.description_lines.specs.LineSteps.{action_due, fluent_due, law_due, if_due, by_due, next};
 ghost use Rattle.description_lines.specs.LineSteps.{horizon_line, name_line, law_line};
 ghost use Rattle.description_lines.specs.LineSteps.{Draft, begun, read_head, whole, if_line, after_line};
 ghost use Rattle.description_lines.specs.LineSteps.{whole_by_list, literal_line, nonexecutable_line, end_line};
@@ -98,7 +98,7 @@ fn name_line(
 ) -> ReaderState
     requires { StandsAt text.now from value.now × Sound (due_at state) state.draft }
     ensures result_value { step_of text.now result ≡ name_line
-        (has_place action state.draft.fluents state.draft.names.count) (cond action actionDue fluentDue)
+        (has_place action state.draft.fluents state.draft.names.count) (cond action action_due fluent_due)
         (cond action state.draft.fluents (suc state.draft.fluents))
         (draft_of text.now state.draft) value.now }
     ensures joins { Joins true from (length value.now) state result }
@@ -175,7 +175,7 @@ fn law_line(
 ) -> ReaderState
     requires { Sound (due_at state) state.draft }
     ensures result_value { step_of text.now result
-        ≡ law_line lent (cond short byDue ifDue) (draft_of text.now state.draft) kind
+        ≡ law_line lent (cond short by_due if_due) (draft_of text.now state.draft) kind
         value.now }
     ensures goes { Goes state result }
 {
@@ -197,7 +197,7 @@ fn law_line(
 
 // Which list follows a head.
 fn list_due(short: bool) -> Due
-    ensures { (law : Law) → due_of result law ≡ cond short byDue ifDue law }
+    ensures { (law : Law) → due_of result law ≡ cond short by_due if_due law }
 {
     if short {
         return Due::By;
@@ -227,7 +227,7 @@ fn with_law(draft: HeldDraft, law: Law) -> HeldDraft
 // A law is whole: it joins those read, and a law or the end is due.
 fn whole_law(state: ReaderState, law: Law) -> ReaderState
     requires { (state.draft.run.count < 64) × Sound (due_at state) state.draft }
-    ensures by_index { (text : List ℕ) → step_of text result ≡ next lawDue (whole (draft_of text state.draft) law) }
+    ensures by_index { (text : List ℕ) → step_of text result ≡ next law_due (whole (draft_of text state.draft) law) }
     ensures goes { Goes state result }
 {
     let draft = state.draft;

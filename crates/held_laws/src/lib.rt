@@ -1,5 +1,5 @@
 // The same functions for programs: each takes 64 law records by value, lends them to the function over a lent run, and hands back
-// what that says. Covered code can't lend a local array of records.
+// what that says.
 #![tactic(auto)]
 
 ghost use Rattle.std.specs.Prelude.{◌≡◌, length};

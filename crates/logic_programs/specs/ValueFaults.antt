@@ -17,6 +17,6 @@ value_fault vs = or_else (first none_or_both 0 vs) (λ atom. cond (eqb (get_or v
 
 -- what is said of a missing atom or of a clash, else what comes next
 abbrev pub or_fault : {A : Type 0} → ValueFault → (ℕ → A) → (ℕ → A) → A → A
-or_fault (missing atom) ofMissing ofClash next = ofMissing atom
-or_fault (clash atom) ofMissing ofClash next = ofClash atom
-or_fault neither ofMissing ofClash next = next
+or_fault (missing atom) of_missing of_clash next = of_missing atom
+or_fault (clash atom) of_missing of_clash next = of_clash atom
+or_fault neither of_missing of_clash next = next

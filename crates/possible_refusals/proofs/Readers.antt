@@ -23,7 +23,7 @@ use Rattle.text_forms.specs.Lists as lists
 use Rattle.text_forms.specs.Lists.{Listed, codes, items_in, items, added, list_from, list_of}
 use Rattle.text.proofs.Cutting.{first-inside}
 use Rattle.description_lines.specs.LineSteps as step
-use Rattle.description_lines.specs.LineSteps.{Due, horizonDue, Draft, Step, next, finish, with_if, line_step}
+use Rattle.description_lines.specs.LineSteps.{Due, horizon_due, Draft, Step, next, finish, with_if, line_step}
 use Rattle.description_lines.specs.Descriptions.{Taken, read, after_step, after_first, blank, lines_from, described}
 use Rattle.history_reader.specs.Histories as histories
 use Rattle.history_reader.specs.Histories.{at_end, history_end, listed, list_line, undone_false, states_from, atoms}
@@ -150,7 +150,7 @@ module _ (lent : ℕ) where
   pub described-by : (text : List ℕ) → RefusedBy six (described lent text)
   unfolding described
   described-by text =
-      chosen (RefusedBy six) (ltb 65535 (length text)) (λ _. refl) (λ _. lines-by (suc (length text)) 1 horizonDue blank text)
+      chosen (RefusedBy six) (ltb 65535 (length text)) (λ _. refl) (λ _. lines-by (suc (length text)) 1 horizon_due blank text)
 
 -- Histories
 
@@ -249,7 +249,7 @@ module _ (description : List ℕ) (d : Draft) (rest : List ℕ) (lines : ℕ) (i
   text-short = by_length (ltb 65535 (length description)) refl is
     where
       by_length : (b : Bool) → ltb 65535 (length description) ≡ b
-          → cond b (refused 1 0) (lines_from (suc (length description)) 64 1 horizonDue blank description) ≡ answered (read d rest lines)
+          → cond b (refused 1 0) (lines_from (suc (length description)) 64 1 horizon_due blank description) ≡ answered (read d rest lines)
           → length description ≤ 65535
       by_length true q e = absurd (let z : ◌≡◌ {A = ℕ} 0 1 = cc in omega arith)
       by_length false q e = ltb-false 65535 (length description) q

@@ -25,8 +25,8 @@ use Rattle.action_language.specs.Acceptance.{codes_below, head_fits, law_fits, b
 use Rattle.text_forms.specs.Lines.{Line, first_line}
 use Rattle.line_values.specs.ShortLaws.{default_law, inertial_law, causes_law, nonexecutable_law}
 use Rattle.description_lines.specs.LineSteps as step
-use Rattle.description_lines.specs.LineSteps.{Due, horizonDue, firstFluentDue, fluentDue, actionDue, lawDue, ifDue}
-use Rattle.description_lines.specs.LineSteps.{afterDue, byDue, Draft, Step, next, finish, with_if, with_after, line_step}
+use Rattle.description_lines.specs.LineSteps.{Due, horizon_due, first_fluent_due, fluent_due, action_due, law_due, if_due}
+use Rattle.description_lines.specs.LineSteps.{after_due, by_due, Draft, Step, next, finish, with_if, with_after, line_step}
 use Rattle.description_lines.specs.Descriptions.{Taken, read, after_step, after_first, blank, lines_from, described, description_of}
 use Rattle.reader_bounds.specs.Accepts.{Tidy, Accepted, TakenAccepted, LeftAccepted}
 use Rattle.reader_bounds.proofs.LineCases.{chosen, Below, Held, Cases, line-cases}
@@ -91,14 +91,14 @@ pub record Half (n : ℕ) (l : Law) : Type 0 where
 
 -- what is known where something is due
 abbrev AtDue : Due → Draft → Type 0
-AtDue horizonDue d = d.laws ≡ []
-AtDue firstFluentDue d = (d.laws ≡ []) × (1 ≤ d.horizon)
-AtDue fluentDue d = (d.laws ≡ []) × (1 ≤ d.horizon) × (1 ≤ d.fluents)
-AtDue actionDue d = (d.laws ≡ []) × (1 ≤ d.horizon) × (1 ≤ d.fluents)
-AtDue lawDue d = (1 ≤ d.horizon) × (1 ≤ d.fluents)
-AtDue (ifDue l) d = (1 ≤ d.horizon) × (1 ≤ d.fluents) × (head_fits d.fluents l.head ≡ true)
-AtDue (afterDue l) d = (1 ≤ d.horizon) × (1 ≤ d.fluents) × Half d.fluents l
-AtDue (byDue l) d = (1 ≤ d.horizon) × (1 ≤ d.fluents) × (head_fits d.fluents l.head ≡ true)
+AtDue horizon_due d = d.laws ≡ []
+AtDue first_fluent_due d = (d.laws ≡ []) × (1 ≤ d.horizon)
+AtDue fluent_due d = (d.laws ≡ []) × (1 ≤ d.horizon) × (1 ≤ d.fluents)
+AtDue action_due d = (d.laws ≡ []) × (1 ≤ d.horizon) × (1 ≤ d.fluents)
+AtDue law_due d = (1 ≤ d.horizon) × (1 ≤ d.fluents)
+AtDue (if_due l) d = (1 ≤ d.horizon) × (1 ≤ d.fluents) × (head_fits d.fluents l.head ≡ true)
+AtDue (after_due l) d = (1 ≤ d.horizon) × (1 ≤ d.fluents) × Half d.fluents l
+AtDue (by_due l) d = (1 ≤ d.horizon) × (1 ≤ d.fluents) × (head_fits d.fluents l.head ≡ true)
 
 pub record Kept (due : Due) (d : Draft) : Type 0 where
   pub at : AtDue due d
@@ -107,7 +107,7 @@ pub record Kept (due : Due) (d : Draft) : Type 0 where
 abbrev KeptStep : Step → Type 0
 KeptStep (step.refused k) = Unit
 KeptStep (next due d) = Kept due d
-KeptStep (finish d) = Kept lawDue d
+KeptStep (finish d) = Kept law_due d
 
 -- no laws, whatever is asked of each
 no-laws : (P : Law → Type 0) (ls : List Law) → ls ≡ [] → Each P ls
@@ -118,7 +118,7 @@ module _ (d : Draft) where
   -- a law is whole
   whole-kept : (l : Law) → Each (Fitting d.fluents (length d.names)) d.laws → (1 ≤ d.horizon)
       → (1 ≤ d.fluents) → Fitting d.fluents (length d.names) l
-      → Kept lawDue (step.whole d l)
+      → Kept law_due (step.whole d l)
   whole-kept l laws time fluents f =
       record { at = (time, fluents); laws = (each_append (Fitting d.fluents (length d.names)) d.laws (l ∷ [])).1 (laws, (f, tt)) }
 
@@ -148,7 +148,7 @@ module _ (d : Draft) where
       (dynamic-fits d.fluents (length d.names) half.head half.ifs cs half.fits half.held (any_held cs h))
 
   -- an if-list makes a static law whole, and a dynamic one half
-  with-if-kept : (l : Law) (kind : Kind) (cs : List ℕ) → Kept (ifDue l) d → Held 6 (2 * d.fluents) cs
+  with-if-kept : (l : Law) (kind : Kind) (cs : List ℕ) → Kept (if_due l) d → Held 6 (2 * d.fluents) cs
       → KeptStep (with_if d kind l.head cs)
   with-if-kept l Static cs k h =
       whole-kept _ k.laws k.at.0 k.at.1 (static-fits d.fluents (length d.names) l.head cs k.at.2 h)
@@ -183,7 +183,7 @@ module _ (d : Draft) where
 -- line by line
 abbrev KeptReply : Reply Taken → Type 0
 KeptReply (refused number place) = Unit
-KeptReply (answered (read d rest lines)) = Kept lawDue d
+KeptReply (answered (read d rest lines)) = Kept law_due d
 
 module _ (lent : ℕ) where
   lines-kept : (fuel line : ℕ) (due : Due) (d : Draft) (text : List ℕ) → Kept due d → KeptReply (lines_from fuel lent line due d text)
@@ -208,10 +208,10 @@ module _ (lent : ℕ) where
   unfolding described
   text-kept text =
       chosen KeptReply (ltb 65535 (length text)) (λ _. tt)
-      (λ _. lines-kept (suc (length text)) 1 horizonDue blank text (record { at = refl; laws = tt }))
+      (λ _. lines-kept (suc (length text)) 1 horizon_due blank text (record { at = refl; laws = tt }))
 
 -- the limits and the laws are what refusals 8 and 3 ask for
-module _ (lent : ℕ) (d : Draft) (g : Limited (min 64 lent) lawDue d) (k : Kept lawDue d) where
+module _ (lent : ℕ) (d : Draft) (g : Limited (min 64 lent) law_due d) (k : Kept law_due d) where
   counts-fit : (room : ℕ) → length d.laws ≤ room
       → (leb 1 d.fluents && leb d.fluents 24 && leb (length d.names - d.fluents) 8
       && leb (length d.laws) 64 && leb (length d.laws) room)

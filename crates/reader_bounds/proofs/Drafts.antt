@@ -22,8 +22,8 @@ use Rattle.spelling.specs.Spelling.{is_name}
 use Rattle.spelling.proofs.Naming.{named}
 use Rattle.text_forms.specs.Names.{absent, is_new, declared_at}
 use Rattle.description_lines.specs.LineSteps as step
-use Rattle.description_lines.specs.LineSteps.{Due, horizonDue, firstFluentDue, fluentDue, actionDue, lawDue, ifDue}
-use Rattle.description_lines.specs.LineSteps.{afterDue, byDue, Draft, Step, next, finish, with_if, line_step}
+use Rattle.description_lines.specs.LineSteps.{Due, horizon_due, first_fluent_due, fluent_due, action_due, law_due, if_due}
+use Rattle.description_lines.specs.LineSteps.{after_due, by_due, Draft, Step, next, finish, with_if, line_step}
 use Rattle.description_lines.specs.Descriptions.{Taken, read, after_step, after_first, blank, lines_from, described}
 use Rattle.reader_bounds.proofs.LineCases.{with_name, Cases, line-cases}
 -- those who use this file choose too
@@ -38,14 +38,14 @@ name-short bs e = (named bs e).short
 
 -- the laws begun and not yet counted where something is due
 abbrev open-laws : Due → ℕ
-open-laws horizonDue = 0
-open-laws firstFluentDue = 0
-open-laws fluentDue = 0
-open-laws actionDue = 0
-open-laws lawDue = 0
-open-laws (ifDue l) = 1
-open-laws (afterDue l) = 1
-open-laws (byDue l) = 1
+open-laws horizon_due = 0
+open-laws first_fluent_due = 0
+open-laws fluent_due = 0
+open-laws action_due = 0
+open-laws law_due = 0
+open-laws (if_due l) = 1
+open-laws (after_due l) = 1
+open-laws (by_due l) = 1
 
 -- the limits of a draft, where something is due and no more than so many laws are taken
 pub record Limited (most : ℕ) (due : Due) (d : Draft) : Type 0 where
@@ -60,7 +60,7 @@ pub record Limited (most : ℕ) (due : Due) (d : Draft) : Type 0 where
 abbrev LimitedStep : ℕ → Step → Type 0
 LimitedStep most (step.refused k) = Unit
 LimitedStep most (next due d) = Limited most due d
-LimitedStep most (finish d) = Limited most lawDue d
+LimitedStep most (finish d) = Limited most law_due d
 
 module _ (most : ℕ) (d : Draft) where
   -- the same draft, where something else is due
@@ -72,7 +72,7 @@ module _ (most : ℕ) (d : Draft) where
   opened room = omega arith
 
   -- a law is whole
-  law-kept : (due : Due) (l : Law) → Limited most due d → 1 + length d.laws ≤ most → Limited most lawDue (step.whole d l)
+  law-kept : (due : Due) (l : Law) → Limited most due d → 1 + length d.laws ≤ most → Limited most law_due (step.whole d l)
   law-kept due l g h =
       record {
         time = g.time;
@@ -103,9 +103,9 @@ module _ (most : ℕ) (d : Draft) where
       one_more = length-append d.names (value ∷ [])
 
   -- an if-list makes a static law whole
-  with-if-kept : (l : Law) (kind : Kind) (cs : List ℕ) → Limited most (ifDue l) d → LimitedStep most (with_if d kind l.head cs)
-  with-if-kept l Static cs g = law-kept (ifDue l) _ g g.room
-  with-if-kept l Dynamic cs g = due-kept (ifDue l) (afterDue _) g g.room
+  with-if-kept : (l : Law) (kind : Kind) (cs : List ℕ) → Limited most (if_due l) d → LimitedStep most (with_if d kind l.head cs)
+  with-if-kept l Static cs g = law-kept (if_due l) _ g g.room
+  with-if-kept l Dynamic cs g = due-kept (if_due l) (after_due _) g g.room
 
 -- one line, of a text for which so many laws are lent
 module _ (lent : ℕ) (d : Draft) (value : List ℕ) where
@@ -113,25 +113,25 @@ module _ (lent : ℕ) (d : Draft) (value : List ℕ) where
   limits-kept =
       let most = min 64 lent in
       record {
-        further = λ g. due-kept most d fluentDue firstFluentDue g g.room;
-        no-fluent = λ g. due-kept most d fluentDue actionDue g g.room;
-        no-action = λ g. due-kept most d actionDue lawDue g g.room;
+        further = λ g. due-kept most d fluent_due first_fluent_due g g.room;
+        no-fluent = λ g. due-kept most d fluent_due action_due g g.room;
+        no-action = λ g. due-kept most d action_due law_due g g.room;
         refusals = (tt, (tt, (tt, (tt, (tt, tt)))));
         horizon =
             λ g T low high. record { time = high; few = g.few; named = g.named; actions = g.actions; short = g.short; room = g.room };
         fluent =
-            λ g room new. name-kept most d firstFluentDue fluentDue (suc d.fluents) value g refl new room
+            λ g room new. name-kept most d first_fluent_due fluent_due (suc d.fluents) value g refl new room
             (omega (arith, g.named)) (omega (arith, g.actions));
         action = λ g room new.
-            name-kept most d actionDue actionDue d.fluents value g refl new g.few (omega (arith, g.named)) (omega arith);
-        begins = λ g room kind h _. due-kept most d lawDue (ifDue _) g (opened most d room);
-        causes = λ g room h _. due-kept most d lawDue (byDue _) g (opened most d room);
-        default = λ g room c _. law-kept most d lawDue _ g (opened most d room);
-        inertial = λ g room c _. law-kept most d lawDue _ g (opened most d room);
-        nonexecutable = λ g room cs _. law-kept most d lawDue _ g (opened most d room);
+            name-kept most d action_due action_due d.fluents value g refl new g.few (omega (arith, g.named)) (omega arith);
+        begins = λ g room kind h _. due-kept most d law_due (if_due _) g (opened most d room);
+        causes = λ g room h _. due-kept most d law_due (by_due _) g (opened most d room);
+        default = λ g room c _. law-kept most d law_due _ g (opened most d room);
+        inertial = λ g room c _. law-kept most d law_due _ g (opened most d room);
+        nonexecutable = λ g room cs _. law-kept most d law_due _ g (opened most d room);
         if-list = λ l g kind cs _. with-if-kept most d l kind cs g;
-        after_list = λ l g cs _. law-kept most d (afterDue l) _ g g.room;
-        by-list = λ l g cs _. law-kept most d (byDue l) _ g g.room;
+        after_list = λ l g cs _. law-kept most d (after_due l) _ g g.room;
+        by-list = λ l g cs _. law-kept most d (by_due l) _ g g.room;
         ends = λ g. g;
       }
 
@@ -181,7 +181,7 @@ line-ends text = ended-ends text (cut newline text) (cut-ends newline text)
 
 -- what is known of a description that was read: its limits, what stands behind it, and no more than so many lines
 pub record Bounded (text : List ℕ) (most lines : ℕ) (d : Draft) (rest : List ℕ) (last : ℕ) : Type 0 where
-  pub limited : Limited most lawDue d
+  pub limited : Limited most law_due d
   pub behind : End rest text
   pub counted : last ≤ lines
 
@@ -219,7 +219,7 @@ module _ (lent : ℕ) where
       by-line go none e = tt
       by-line go (some l) e = by-step go (line_step lent due d l.key l.value) l.rest e (step_kept lent d l.value due g l.key)
 
-  blank-limited : Limited (min 64 lent) horizonDue blank
+  blank-limited : Limited (min 64 lent) horizon_due blank
   blank-limited =
       record { time = omega arith; few = omega arith; named = omega arith; actions = omega arith; short = tt; room = omega arith }
 
@@ -227,8 +227,8 @@ module _ (lent : ℕ) where
   unfolding described
   bounded text =
       chosen (BoundedReply text (min 64 lent) 65537) (ltb 65535 (length text)) (λ _. tt)
-      (λ small. fewer (lines_from (suc (length text)) lent 1 horizonDue blank text) (ltb-false 65535 (length text) small)
-      (lines-bounded (suc (length text)) 1 horizonDue blank text blank-limited))
+      (λ small. fewer (lines_from (suc (length text)) lent 1 horizon_due blank text) (ltb-false 65535 (length text) small)
+      (lines-bounded (suc (length text)) 1 horizon_due blank text blank-limited))
     where
       fewer : (o : Reply Taken) → length text ≤ 65535 → BoundedReply text (min 64 lent) (1 + suc (length text)) o
           → BoundedReply text (min 64 lent) 65537 o

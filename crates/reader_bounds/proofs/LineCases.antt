@@ -31,8 +31,8 @@ use Rattle.text_forms.specs.Lists.{Listed, codes, items, added, list_from, list_
 use Rattle.line_values.specs.HorizonText.{in_horizon, horizon_of}
 use Rattle.line_values.specs.ShortLaws.{default_law, inertial_law, causes_law, nonexecutable_law}
 use Rattle.description_lines.specs.LineSteps as step
-use Rattle.description_lines.specs.LineSteps.{Due, horizonDue, firstFluentDue, fluentDue, actionDue, lawDue, ifDue}
-use Rattle.description_lines.specs.LineSteps.{afterDue, byDue, Draft, starts_law, allowed, Step, next, finish}
+use Rattle.description_lines.specs.LineSteps.{Due, horizon_due, first_fluent_due, fluent_due, action_due, law_due, if_due}
+use Rattle.description_lines.specs.LineSteps.{after_due, by_due, Draft, starts_law, allowed, Step, next, finish}
 use Rattle.description_lines.specs.LineSteps.{horizon_line, name_line, lit_head, read_head, begun, room_for, whole, with_if}
 use Rattle.description_lines.specs.LineSteps.{if_line, with_after, after_line, whole_by_literal, whole_by_list, end_line}
 use Rattle.description_lines.specs.LineSteps.{any_list, key_line, line_step}
@@ -126,32 +126,32 @@ with_name d fluents value = record { horizon = d.horizon; fluents = fluents; nam
 -- has room
 pub record Cases (lent : ℕ) (d : Draft) (value : List ℕ) (At : Due → Type 0) (P : Step → Type 0) : Type 0 where
   -- a further fluent is read as the first one is; what may follow the fluents or the actions may also stand at once
-  pub further : At fluentDue → At firstFluentDue
-  pub no-fluent : At fluentDue → At actionDue
-  pub no-action : At actionDue → At lawDue
+  pub further : At fluent_due → At first_fluent_due
+  pub no-fluent : At fluent_due → At action_due
+  pub no-action : At action_due → At law_due
   pub refusals : Each (λ k. P (step.refused k)) (2 ∷ 3 ∷ 4 ∷ 5 ∷ 6 ∷ [])
-  pub horizon : At horizonDue → (T : ℕ) → 1 ≤ T → T ≤ 30 → P (next firstFluentDue (timed d T))
-  pub fluent : At firstFluentDue → d.fluents < 24 → is_new d.names value ≡ true
-      → P (next fluentDue (with_name d (suc d.fluents) value))
-  pub action : At actionDue → length d.names < d.fluents + 8 → is_new d.names value ≡ true
-      → P (next actionDue (with_name d d.fluents value))
+  pub horizon : At horizon_due → (T : ℕ) → 1 ≤ T → T ≤ 30 → P (next first_fluent_due (timed d T))
+  pub fluent : At first_fluent_due → d.fluents < 24 → is_new d.names value ≡ true
+      → P (next fluent_due (with_name d (suc d.fluents) value))
+  pub action : At action_due → length d.names < d.fluents + 8 → is_new d.names value ≡ true
+      → P (next action_due (with_name d d.fluents value))
   -- a law begins in full, of either kind, or is caused by what its list will say
-  pub begins : At lawDue → length d.laws < min 64 lent → (kind : Kind) (h : Head) → head_fits d.fluents h ≡ true
-      → P (next (ifDue (law_of kind h [] [])) d)
-  pub causes : At lawDue → length d.laws < min 64 lent → (h : Head) → head_fits d.fluents h ≡ true
-      → P (next (byDue (law_of Dynamic h [] [])) d)
+  pub begins : At law_due → length d.laws < min 64 lent → (kind : Kind) (h : Head) → head_fits d.fluents h ≡ true
+      → P (next (if_due (law_of kind h [] [])) d)
+  pub causes : At law_due → length d.laws < min 64 lent → (h : Head) → head_fits d.fluents h ≡ true
+      → P (next (by_due (law_of Dynamic h [] [])) d)
   -- a law is whole at once, by a literal or by a list
-  pub default : At lawDue → length d.laws < min 64 lent → (c : ℕ) → c < 2 * d.fluents → P (next lawDue (whole d (default_law c)))
-  pub inertial : At lawDue → length d.laws < min 64 lent → (c : ℕ) → c < 2 * d.fluents → P (next lawDue (whole d (inertial_law c)))
-  pub nonexecutable : At lawDue → length d.laws < min 64 lent → (cs : List ℕ) → Held 6 (2 * length d.names) cs
-      → P (next lawDue (whole d (nonexecutable_law cs)))
+  pub default : At law_due → length d.laws < min 64 lent → (c : ℕ) → c < 2 * d.fluents → P (next law_due (whole d (default_law c)))
+  pub inertial : At law_due → length d.laws < min 64 lent → (c : ℕ) → c < 2 * d.fluents → P (next law_due (whole d (inertial_law c)))
+  pub nonexecutable : At law_due → length d.laws < min 64 lent → (cs : List ℕ) → Held 6 (2 * length d.names) cs
+      → P (next law_due (whole d (nonexecutable_law cs)))
   -- the list of a law that has begun
-  pub if-list : (l : Law) → At (ifDue l) → (kind : Kind) (cs : List ℕ) → Held 6 (2 * d.fluents) cs → P (with_if d kind l.head cs)
-  pub after_list : (l : Law) → At (afterDue l) → (cs : List ℕ) → Held 6 (2 * length d.names) cs
-      → P (next lawDue (whole d (with_after l cs)))
-  pub by-list : (l : Law) → At (byDue l) → (cs : List ℕ) → Held 6 (2 * length d.names) cs
-      → P (next lawDue (whole d (causes_law l.head cs)))
-  pub ends : At lawDue → P (finish d)
+  pub if-list : (l : Law) → At (if_due l) → (kind : Kind) (cs : List ℕ) → Held 6 (2 * d.fluents) cs → P (with_if d kind l.head cs)
+  pub after_list : (l : Law) → At (after_due l) → (cs : List ℕ) → Held 6 (2 * length d.names) cs
+      → P (next law_due (whole d (with_after l cs)))
+  pub by-list : (l : Law) → At (by_due l) → (cs : List ℕ) → Held 6 (2 * length d.names) cs
+      → P (next law_due (whole d (causes_law l.head cs)))
+  pub ends : At law_due → P (finish d)
 
 -- a choice of two tests
 one_of : {Q : Type 0} (a b : Bool) → (a ≡ true → Q) → (b ≡ true → Q) → (a || b) ≡ true → Q
@@ -171,15 +171,15 @@ module _ (lent : ℕ) (d : Draft) (value : List ℕ) (At : Due → Type 0) (P : 
   name-line fits due fluents good =
       chosen P fits (λ room. chosen P (is_new d.names value) (λ new. good room new) (λ _. k.refusals.1.1.0)) (λ _. full)
 
-  fluent-line : At firstFluentDue → P (step.fluent_line d value)
-  fluent-line a = name-line (ltb d.fluents 24) fluentDue (suc d.fluents) (λ room new. k.fluent a (ltb-true d.fluents 24 room) new)
+  fluent-line : At first_fluent_due → P (step.fluent_line d value)
+  fluent-line a = name-line (ltb d.fluents 24) fluent_due (suc d.fluents) (λ room new. k.fluent a (ltb-true d.fluents 24 room) new)
 
-  action-line : At actionDue → P (step.action_line d value)
+  action-line : At action_due → P (step.action_line d value)
   action-line a =
-      name-line (ltb (length d.names) (d.fluents + 8)) actionDue d.fluents
+      name-line (ltb (length d.names) (d.fluents + 8)) action_due d.fluents
       (λ room new. k.action a (ltb-true (length d.names) (d.fluents + 8) room) new)
 
-  end_line_lem : At lawDue → (bs : List ℕ) → P (end_line d bs)
+  end_line_lem : At law_due → (bs : List ℕ) → P (end_line d bs)
   end_line_lem a [] = k.ends a
   end_line_lem a (b ∷ bs) = k.refusals.0
 
@@ -192,14 +192,14 @@ module _ (lent : ℕ) (d : Draft) (value : List ℕ) (At : Due → Type 0) (P : 
       → P (step.law_line lent due d kind value)
   law-line due kind good = with-room _ (λ room. head-cases d.names d.fluents (λ o. P (begun due d kind o)) unread (good room) value)
 
-  literal-line : (law : ℕ → Law) → (length d.laws < min 64 lent → (c : ℕ) → c < 2 * d.fluents → P (next lawDue (whole d (law c))))
+  literal-line : (law : ℕ → Law) → (length d.laws < min 64 lent → (c : ℕ) → c < 2 * d.fluents → P (next law_due (whole d (law c))))
       → P (step.literal_line lent d law value)
   literal-line law good =
       with-room _ (λ room. literal-cases d.names 0 d.fluents (λ o. P (whole_by_literal d law o)) unread (good room) value)
 
   -- a list of literals of either sort makes a law whole
   any-list : (law : List ℕ → Law)
-      → ((cs : List ℕ) → Held 6 (2 * length d.names) cs → P (next lawDue (whole d (law cs))))
+      → ((cs : List ℕ) → Held 6 (2 * length d.names) cs → P (next law_due (whole d (law cs))))
       → P (whole_by_list d law (any_list d value))
   any-list law good = list_cases d.names 0 (length d.names) 6 (λ o. P (whole_by_list d law o)) full unread good value
 
@@ -208,49 +208,49 @@ module _ (lent : ℕ) (d : Draft) (value : List ℕ) (At : Due → Type 0) (P : 
     is : (due : Due) (wanted : ℕ) → P (key_line lent due d wanted value) → eqb key wanted ≡ true → P (key_line lent due d key value)
     is due wanted p e = subst (λ (j : ℕ). P (key_line lent due d j value)) (sym (eqb-true key wanted e)) p
 
-    begun-law : (due : Due) → At lawDue → starts_law key ≡ true → P (key_line lent due d key value)
+    begun-law : (due : Due) → At law_due → starts_law key ≡ true → P (key_line lent due d key value)
     begun-law due a =
         one_of _ (eqb key nonexecutable_key)
         (one_of _ (eqb key causes_key)
         (one_of _ (eqb key inertial_key)
         (one_of _ (eqb key default_key)
-        (one_of (eqb key static_key) (eqb key dynamic_key) (is due static_key (law-line ifDue Static (λ room. k.begins a room Static)))
-        (is due dynamic_key (law-line ifDue Dynamic (λ room. k.begins a room Dynamic))))
+        (one_of (eqb key static_key) (eqb key dynamic_key) (is due static_key (law-line if_due Static (λ room. k.begins a room Static)))
+        (is due dynamic_key (law-line if_due Dynamic (λ room. k.begins a room Dynamic))))
         (is due default_key (literal-line default_law (k.default a))))
         (is due inertial_key (literal-line inertial_law (k.inertial a))))
-        (is due causes_key (law-line byDue Dynamic (k.causes a))))
+        (is due causes_key (law-line by_due Dynamic (k.causes a))))
         (is due nonexecutable_key (with-room _ (λ room. any-list nonexecutable_law (k.nonexecutable a room))))
 
-    end-of-laws : (due : Due) → At lawDue → eqb key end_key ≡ true → P (key_line lent due d key value)
+    end-of-laws : (due : Due) → At law_due → eqb key end_key ≡ true → P (key_line lent due d key value)
     end-of-laws due a = is due end_key (end_line_lem a value)
 
-    new-action : (due : Due) → At actionDue → eqb key action_key ≡ true → P (key_line lent due d key value)
+    new-action : (due : Due) → At action_due → eqb key action_key ≡ true → P (key_line lent due d key value)
     new-action due a = is due action_key (action-line a)
 
     by-due : (due : Due) → At due → allowed due key ≡ true → P (key_line lent due d key value)
-    by-due horizonDue a = is horizonDue horizon_key (horizon-cases (λ o. P (horizon_line d o)) k.refusals.1.0 (k.horizon a) value)
-    by-due firstFluentDue a = is firstFluentDue fluent_key (fluent-line a)
-    by-due fluentDue a =
+    by-due horizon_due a = is horizon_due horizon_key (horizon-cases (λ o. P (horizon_line d o)) k.refusals.1.0 (k.horizon a) value)
+    by-due first_fluent_due a = is first_fluent_due fluent_key (fluent-line a)
+    by-due fluent_due a =
         let behind = k.no-fluent a in
         let law = k.no-action behind in
         one_of _ (eqb key end_key)
         (one_of _ (starts_law key)
-        (one_of (eqb key fluent_key) (eqb key action_key) (is fluentDue fluent_key (fluent-line (k.further a)))
-        (new-action fluentDue behind))
-        (begun-law fluentDue law))
-        (end-of-laws fluentDue law)
-    by-due actionDue a =
+        (one_of (eqb key fluent_key) (eqb key action_key) (is fluent_due fluent_key (fluent-line (k.further a)))
+        (new-action fluent_due behind))
+        (begun-law fluent_due law))
+        (end-of-laws fluent_due law)
+    by-due action_due a =
         let law = k.no-action a in
         one_of _ (eqb key end_key)
-        (one_of (eqb key action_key) (starts_law key) (new-action actionDue a) (begun-law actionDue law))
-        (end-of-laws actionDue law)
-    by-due lawDue a = one_of (starts_law key) (eqb key end_key) (begun-law lawDue a) (end-of-laws lawDue a)
-    by-due (ifDue l) a =
-        is (ifDue l) if_key (list_cases d.names 0 d.fluents 6 (λ o. P (if_line d l o)) full unread (k.if-list l a l.kind) value)
-    by-due (afterDue l) a =
-        is (afterDue l) after_key
+        (one_of (eqb key action_key) (starts_law key) (new-action action_due a) (begun-law action_due law))
+        (end-of-laws action_due law)
+    by-due law_due a = one_of (starts_law key) (eqb key end_key) (begun-law law_due a) (end-of-laws law_due a)
+    by-due (if_due l) a =
+        is (if_due l) if_key (list_cases d.names 0 d.fluents 6 (λ o. P (if_line d l o)) full unread (k.if-list l a l.kind) value)
+    by-due (after_due l) a =
+        is (after_due l) after_key
         (list_cases d.names 0 (length d.names) 6 (λ o. P (after_line d l o)) full unread (k.after_list l a) value)
-    by-due (byDue l) a = is (byDue l) by_key (any-list (causes_law l.head) (k.by-list l a))
+    by-due (by_due l) a = is (by_due l) by_key (any-list (causes_law l.head) (k.by-list l a))
 
   -- what holds of all these holds of every line's step
   pub line-cases : (due : Due) (key : ℕ) → At due → P (line_step lent due d key value)

@@ -19,8 +19,8 @@ use Rattle.text_forms.specs.Lines.{Line, first_line}
 use Rattle.text_forms.specs.Places.{start_of_line}
 use Rattle.text.proofs.Placing.{line_number, next-line}
 use Rattle.description_lines.specs.LineSteps as step
-use Rattle.description_lines.specs.LineSteps.{Due, horizonDue, firstFluentDue, fluentDue, actionDue, lawDue, ifDue}
-use Rattle.description_lines.specs.LineSteps.{afterDue, byDue, Draft, Step, next, finish, with_if, line_step}
+use Rattle.description_lines.specs.LineSteps.{Due, horizon_due, first_fluent_due, fluent_due, action_due, law_due, if_due}
+use Rattle.description_lines.specs.LineSteps.{after_due, by_due, Draft, Step, next, finish, with_if, line_step}
 use Rattle.description_lines.specs.Descriptions.{Taken, read, after_step, after_first, blank, lines_from, described}
 use Rattle.reader_bounds.proofs.LineCases.{chosen, timed, with_name, Cases, line-cases}
 
@@ -36,14 +36,14 @@ module _ (text : List ℕ) where
 
   -- which line comes next; once a law has begun no name comes
   abbrev AtLine : Due → Draft → List ℕ → Type 0
-  AtLine horizonDue d rest = (rest ≡ text) × (d.names ≡ [])
-  AtLine firstFluentDue d rest = rest ≡ drop (start_of_line (suc (length d.names)) text) text
-  AtLine fluentDue d rest = rest ≡ drop (start_of_line (suc (length d.names)) text) text
-  AtLine actionDue d rest = rest ≡ drop (start_of_line (suc (length d.names)) text) text
-  AtLine lawDue d rest = Unit
-  AtLine (ifDue l) d rest = Unit
-  AtLine (afterDue l) d rest = Unit
-  AtLine (byDue l) d rest = Unit
+  AtLine horizon_due d rest = (rest ≡ text) × (d.names ≡ [])
+  AtLine first_fluent_due d rest = rest ≡ drop (start_of_line (suc (length d.names)) text) text
+  AtLine fluent_due d rest = rest ≡ drop (start_of_line (suc (length d.names)) text) text
+  AtLine action_due d rest = rest ≡ drop (start_of_line (suc (length d.names)) text) text
+  AtLine law_due d rest = Unit
+  AtLine (if_due l) d rest = Unit
+  AtLine (after_due l) d rest = Unit
+  AtLine (by_due l) d rest = Unit
 
   pub record Placed (due : Due) (d : Draft) (rest : List ℕ) : Type 0 where
     pub at : AtLine due d rest
@@ -56,7 +56,7 @@ module _ (text : List ℕ) where
 
   -- one line, whose rest is the next one's text
   module _ (d : Draft) (rest : List ℕ) (l : Line) (is : first_line rest ≡ some l) where
-    horizon-kept : (T : ℕ) → Placed horizonDue d rest → Placed firstFluentDue (timed d T) l.rest
+    horizon-kept : (T : ℕ) → Placed horizon_due d rest → Placed first_fluent_due (timed d T) l.rest
     horizon-kept T p =
         record {
           at =
@@ -151,7 +151,7 @@ module _ (text : List ℕ) where
     unfolding described
     text-placed =
         chosen PlacedReply (ltb 65535 (length text)) (λ _. tt)
-        (λ _. lines-placed (suc (length text)) 1 horizonDue blank text (record { at = (refl, refl); names = λ i b. absurd (omega arith) }))
+        (λ _. lines-placed (suc (length text)) 1 horizon_due blank text (record { at = (refl, refl); names = λ i b. absurd (omega arith) }))
 
   -- each name of a description that is read
   pub declared-at : (lent : ℕ) (d : Draft) (rest : List ℕ) (lines : ℕ) → described lent text ≡ answered (read d rest lines)

@@ -9,7 +9,7 @@ use lib.Dec.{ltb}
 use lib.ListN.{length, take, drop, replicate, length-append, length-replicate, replicate-append-replicate}
 use lib.Seq.{drop_at, take_at, take_all}
 use Rattle.basics.specs.Replies.{Reply, refused, answered}
-use Rattle.description_lines.specs.LineSteps.{lawDue, Draft}
+use Rattle.description_lines.specs.LineSteps.{law_due, Draft}
 use Rattle.description_lines.specs.Descriptions.{Taken, read, described}
 use Rattle.description_lines.specs.Answers.{behind, replied}
 use Rattle.history_reader.specs.Histories.{atoms, states_from, read_history, history_replied, values_left}
@@ -49,7 +49,7 @@ pub record Known (input : List ℕ) (bytes lines : ℕ) : Type 0 where
   pub draft : Draft
   pub rest : List ℕ
   pub is : described 64 input ≡ answered (read draft rest lines)
-  pub limited : Limited 64 lawDue draft
+  pub limited : Limited 64 law_due draft
   pub start : bytes ≤ length input
   pub part : take (length input - bytes) (drop bytes input) ≡ rest
   pub counted : lines ≤ 65537

@@ -11,7 +11,7 @@ use Rattle.action_language.specs.Laws.{law_of}
 use Rattle.action_language.specs.Examples.{recipe_laws}
 use Rattle.spelling.specs.Letters.{is_small}
 use Rattle.description_lines.specs.Descriptions.{read}
-use Rattle.written_form.specs.Writing.{inFull, asCauses, Spelling}
+use Rattle.written_form.specs.Writing.{in_full, as_causes, Spelling}
 use Rattle.written_form.specs.HistoryWriting.{every_action}
 use Rattle.worked_examples.specs.Texts.{recipe_text, history_text, small_names, tiny_lines, with_fluent}
 use Rattle.worked_examples.specs.Format.{drafted, takes_name, takes_laws}
@@ -60,9 +60,9 @@ style_examples =
     ∷ shows_fluent style_text 0 (bytes "Locked")
     ∷ shows_action style_text 0 (bytes "Reflow")
     -- one use of one law, FALSE, and one act in capitals
-    ∷ writes 1 (bytes "a" ∷ []) (bytes "c" ∷ []) (λ i. inFull) (capitals_at 1 2 1) two_laws
+    ∷ writes 1 (bytes "a" ∷ []) (bytes "c" ∷ []) (λ i. in_full) (capitals_at 1 2 1) two_laws
     (small_names ++ bytes "dynamic=false\nif=\nafter=c,a\ndynamic=a\nif=\nafter=c,A\nend=\n")
-    ∷ writes 1 (bytes "a" ∷ []) (bytes "c" ∷ []) (λ i. asCauses) (capitals_at 0 0 0) two_laws
+    ∷ writes 1 (bytes "a" ∷ []) (bytes "c" ∷ []) (λ i. as_causes) (capitals_at 0 0 0) two_laws
     (small_names ++ bytes "causes=FALSE\nby=c,a\ncauses=a\nby=c,a\nend=\n")
     ∷ writes_history 1 (bytes "a" ∷ []) (bytes "c" ∷ []) (capitals_at 0 1 0) every_action (1 ∷ 1 ∷ 1 ∷ [])
     (bytes "state=a\nact=C\nstate=a\nend=\n")

@@ -9,7 +9,7 @@ use Rattle.action_language.specs.declared.Kind.TheVariants.{Static, Dynamic}
 use Rattle.action_language.specs.Laws.{law_of}
 use Rattle.action_language.specs.Examples.{recipe_laws}
 use Rattle.description_lines.specs.Descriptions.{read}
-use Rattle.written_form.specs.Writing.{Form, asCauses, asNonexecutable, asInertial, as_declared}
+use Rattle.written_form.specs.Writing.{Form, as_causes, as_nonexecutable, as_inertial, as_declared}
 use Rattle.worked_examples.specs.Texts.{tiny_lines, small_names, law_text, copies}
 use Rattle.worked_examples.specs.Format.{drafted, takes_laws}
 use Rattle.worked_examples.specs.Recipe.{recipe_fluents, recipe_actions, recipe_draft}
@@ -26,7 +26,7 @@ short_recipe_text =
 
 -- the forms that its laws are written in
 abbrev pub short_forms : ℕ → Form
-short_forms i = cond (eqb i 0) asCauses (cond (eqb i 1) asNonexecutable asInertial)
+short_forms i = cond (eqb i 0) as_causes (cond (eqb i 1) as_nonexecutable as_inertial)
 
 -- the same record as in full, and the text is written for it
 abbrev pub short_recipe_examples : List Example

@@ -19,7 +19,7 @@ use Rattle.translation_rules.specs.Translated.{written}
 use Rattle.history_check.specs.Checks.{Finding, missing, judged}
 use Rattle.causal_reading.specs.Verdicts.{Causal, contradicted, uncaused, path}
 use Rattle.description_lines.specs.Descriptions.{read}
-use Rattle.written_form.specs.Writing.{inFull, as_declared}
+use Rattle.written_form.specs.Writing.{in_full, as_declared}
 use Rattle.written_form.specs.HistoryWriting.{every_action}
 use Rattle.worked_examples.specs.Tables.{recipe_table, door_table1, door_table2, water_table1, water_table2}
 use Rattle.worked_examples.specs.Program11.{program11, answer_sets11}
@@ -133,7 +133,7 @@ text_examples =
     ∷ shows_action recipe_text 0 (bytes "reflow")
     ∷ shows_action recipe_text 1 []
     -- the same texts are written for what was read
-    ∷ writes 1 recipe_fluents recipe_actions (λ i. inFull) as_declared recipe_laws recipe_text
+    ∷ writes 1 recipe_fluents recipe_actions (λ i. in_full) as_declared recipe_laws recipe_text
     ∷ writes_history 1 recipe_fluents recipe_actions as_declared every_action (2 ∷ 2 ∷ 1 ∷ 2 ∷ 1 ∷ []) history_text
     ∷ []
 

@@ -20,7 +20,7 @@ use Rattle.text_forms.specs.Lines.{inertial_key, causes_key, by_key, nonexecutab
 use Rattle.text_forms.specs.Lines.{Line, keyed, valued, ended, first_line}
 use Rattle.text_forms.specs.Lists as lists
 use Rattle.text_forms.specs.Lists.{Listed, codes, list_of}
-use Rattle.description_lines.specs.LineSteps.{Due, horizonDue, Draft, Step, refused, next, finish, line_step}
+use Rattle.description_lines.specs.LineSteps.{Due, horizon_due, Draft, Step, refused, next, finish, line_step}
 use Rattle.description_lines.specs.Descriptions.{Taken, after_step, after_first, lines_from, blank, described}
 use Rattle.history_reader.specs.Histories.{most, listed, list_line, act_line, undone_false, at_end, history_end, states_from}
 use Rattle.history_reader.specs.Histories.{atoms, recorded, by_names, read_history}
@@ -146,7 +146,7 @@ module _ (lent : ℕ) where
   pub described-alike : (text text' : List ℕ) → Respelled text text' → ReadAlike (described lent text) (described lent text')
   unfolding described
   described-alike text text' r =
-      rw (respelled-length text text' r) (go (ltb 65535 (length text')) (lines-alike (suc (length text')) 1 horizonDue blank text text' r))
+      rw (respelled-length text text' r) (go (ltb 65535 (length text')) (lines-alike (suc (length text')) 1 horizon_due blank text text' r))
     where
       go : (b : Bool) {o o' : Reply Taken} → ReadAlike o o' → ReadAlike (cond b (replies.refused 1 0) o) (cond b (replies.refused 1 0) o')
       go true a = both-refused 1 0

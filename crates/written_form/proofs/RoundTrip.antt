@@ -16,7 +16,7 @@ use Rattle.text_forms.specs.Bytes.{newline}
 use Rattle.text_forms.specs.Lines.{horizon_key, fluent_key, action_key, static_key, end_key, no_key}
 use Rattle.spelling.specs.Spelling.{is_name}
 use Rattle.text_forms.specs.Names.{declared_at}
-use Rattle.description_lines.specs.LineSteps.{Due, horizonDue, firstFluentDue, fluentDue, actionDue, lawDue, Draft}
+use Rattle.description_lines.specs.LineSteps.{Due, horizon_due, first_fluent_due, fluent_due, action_due, law_due, Draft}
 use Rattle.description_lines.specs.LineSteps.{allowed, next, line_step}
 use Rattle.description_lines.specs.Descriptions.{blank, read, lines_from, described}
 use Rattle.written_form.specs.Writing.{Form, as_declared, line_text, horizon_text, laws_text, names_text, description_text}
@@ -49,31 +49,31 @@ longer done x = omega (arith, length-append done (x ∷ []))
 
 module _ (lent T : ℕ) (fluents actions : List (List ℕ)) (forms : ℕ → Form) (ls : List Law) (w : Writable lent T fluents actions ls) where
   due_after_actions : Due
-  due_after_actions = due_behind fluentDue actionDue actions
+  due_after_actions = due_behind fluent_due action_due actions
 
   -- all lines but the end line
   body-passes : Passes lent (1 + length fluents + length actions + laws_lines forms 0 ls)
       (line_text horizon_key (horizon_text T) ++ names_text fluent_key fluents ++ names_text action_key actions
       ++ laws_text (fluents ++ actions) forms as_declared 0 ls)
-      horizonDue blank (due_behind due_after_actions lawDue ls) (draft_written T fluents actions ls)
+      horizon_due blank (due_behind due_after_actions law_due ls) (draft_written T fluents actions ls)
   unfolding due_after_actions
   body-passes =
       let names = fluents ++ actions in
       let n = length fluents in
       let (are-fluents, are-actions) = (each_append (λ x. is_name x ≡ true) fluents actions).0 w.are-names in
-      let top = line-passes horizonDue blank horizon_key (horizon_text T) (omega arith) (horizon-clean T)
-      (horizon-step lent horizonDue blank T w.horizon-from w.horizon-to refl) in
-      let first = names-pass lent fluent_key (omega arith) fluentDue refl (λ done. draft T (length done) done []) 24
+      let top = line-passes horizon_due blank horizon_key (horizon_text T) (omega arith) (horizon-clean T)
+      (horizon-step lent horizon_due blank T w.horizon-from w.horizon-to refl) in
+      let first = names-pass lent fluent_key (omega arith) fluent_due refl (λ done. draft T (length done) done []) 24
       (λ due done x may few name new. rw (longer done x) (fluent-step lent due (draft T (length done) done []) x may few name new))
-      fluents [] firstFluentDue refl (omega (arith, w.few-fluents)) are-fluents (distinct-front fluents actions w.distinct) in
-      let second = names-pass lent action_key (omega arith) actionDue refl (λ done. draft T n done []) (n + 8)
+      fluents [] first_fluent_due refl (omega (arith, w.few-fluents)) are-fluents (distinct-front fluents actions w.distinct) in
+      let second = names-pass lent action_key (omega arith) action_due refl (λ done. draft T n done []) (n + 8)
       (λ due done x may few name new. action-step lent due (draft T n done []) x may few name new)
-      actions fluents fluentDue refl (omega (arith, w.few-actions)) are-actions w.distinct in
+      actions fluents fluent_due refl (omega (arith, w.few-actions)) are-actions w.distinct in
       let third =
       laws-pass lent T n names w.are-names w.distinct (omega (arith, length-append fluents actions)) forms 0 ls [] due_after_actions
-      (may-behind fluentDue actionDue actions static_key refl refl)
+      (may-behind fluent_due action_due actions static_key refl refl)
       (omega (arith, w.few-laws, w.held-laws)) (written-laws lent T fluents actions ls w) w.laws-tidy in
-      then (then (then top (rw (later-due firstFluentDue fluentDue fluents w.some-fluent) at first) (1 + n) refl)
+      then (then (then top (rw (later-due first_fluent_due fluent_due fluents w.some-fluent) at first) (1 + n) refl)
       second (1 + n + length actions) refl) third _ refl
 
   -- the written description is read back, and what follows it is left; under 20,000 bytes are written, so 65,535 are not passed
@@ -93,10 +93,10 @@ module _ (lent T : ℕ) (fluents actions : List (List ℕ)) (forms : ℕ → For
       let fuel : suc all ≡ lines + suc (all - lines) = omega arith in
       rw (le-ltb 65535 all (omega arith))
       (
-      ap (λ k. lines_from k lent 1 horizonDue blank (text ++ more)) fuel
-      ∙ ap (lines_from (lines + suc (all - lines)) lent 1 horizonDue blank) (append_assoc body (line_text end_key []) more)
+      ap (λ k. lines_from k lent 1 horizon_due blank (text ++ more)) fuel
+      ∙ ap (lines_from (lines + suc (all - lines)) lent 1 horizon_due blank) (append_assoc body (line_text end_key []) more)
       ∙ body-passes.run (suc (all - lines)) 1 (line_text end_key [] ++ more)
-      ∙ ends lent (due_behind due_after_actions lawDue ls) (draft_written T fluents actions ls)
-      (may-behind due_after_actions lawDue ls end_key (may-behind fluentDue actionDue actions end_key refl refl) refl)
+      ∙ ends lent (due_behind due_after_actions law_due ls) (draft_written T fluents actions ls)
+      (may-behind due_after_actions law_due ls end_key (may-behind fluent_due action_due actions end_key refl refl) refl)
       (all - lines) (lines + 1) more
       )

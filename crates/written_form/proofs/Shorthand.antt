@@ -25,7 +25,7 @@ use Rattle.letter_case.proofs.AlikeRuns.{names-refl}
 use Rattle.letter_case.proofs.LetterCase.{letter-case}
 use Rattle.line_values.specs.HorizonText.{horizon_of}
 use Rattle.line_values.specs.ShortLaws.{default_law, inertial_law, causes_law, nonexecutable_law}
-use Rattle.description_lines.specs.LineSteps.{Due, fluentDue, actionDue, lawDue, ifDue, byDue, Draft, starts_law}
+use Rattle.description_lines.specs.LineSteps.{Due, fluent_due, action_due, law_due, if_due, by_due, Draft, starts_law}
 use Rattle.description_lines.specs.LineSteps.{allowed, Step, refused, next, finish, horizon_line, name_line}
 use Rattle.description_lines.specs.LineSteps.{read_head, begun, room_for, whole, with_if, if_line, after_line}
 use Rattle.description_lines.specs.LineSteps.{whole_by_literal, whole_by_list, end_line, law_in, fluent_list, any_list}
@@ -72,13 +72,13 @@ list_lines lent Dynamic ifs afters due d = and_then (line_step lent due d if_key
 module _ (lent : ℕ) (d : Draft) where
   -- the lists where both have the head's bytes
   lists-refused : (value : List ℕ) (kind : Kind) (l : Law) → fluent_list d value ≡ lists.refused 6
-      → list_lines lent kind value value (ifDue l) d ≡ refused 6
+      → list_lines lent kind value value (if_due l) d ≡ refused 6
   unfolding line_step
   lists-refused value Static l e = ap (if_line d l) e
   lists-refused value Dynamic l e = ap (λ list. and_then (if_line d l list) (λ due' d'. line_step lent due' d' after_key value)) e
 
   lists-read : (value : List ℕ) (kind : Kind) (c : ℕ) → fluent_list d value ≡ codes (c ∷ []) → any_list d value ≡ codes (c ∷ [])
-      → list_lines lent kind value value (ifDue (law_of kind (Lit c) [] [])) d ≡ next lawDue (whole d (literal_law kind c))
+      → list_lines lent kind value value (if_due (law_of kind (Lit c) [] [])) d ≡ next law_due (whole d (literal_law kind c))
   lists-read value Static c ifs afters = if-step lent d (law_of Static (Lit c) [] []) value (c ∷ []) ifs
   lists-read value Dynamic c ifs afters =
       ap (λ s. and_then s (λ due' d'. line_step lent due' d' after_key value))
@@ -91,7 +91,7 @@ module _ (lent : ℕ) (d : Draft) where
     head = read_head d.names d.fluents value
 
     abbrev long_lines : Step
-    long_lines = and_then (begun ifDue d kind head) (list_lines lent kind value value)
+    long_lines = and_then (begun if_due d kind head) (list_lines lent kind value value)
 
     -- false heads a law in full, and is then refused as a literal of the if-list
     false-lists : same_name value false_bytes ≡ true → literal d.names 0 d.fluents value ≡ none → fluent_list d value ≡ lists.refused 6
@@ -125,13 +125,13 @@ module _ (lent : ℕ) (d : Draft) where
     whole_by h (codes cs) = refl
 
     list-long : (h : Head)
-        → whole_by_list d (causes_law h) (any_list d afters) ≡ list_lines lent Dynamic [] afters (ifDue (law_of Dynamic h [] [])) d
+        → whole_by_list d (causes_law h) (any_list d afters) ≡ list_lines lent Dynamic [] afters (if_due (law_of Dynamic h [] [])) d
     unfolding line_step list_of items
     list-long h = whole_by h (any_list d afters)
 
     head-long : (o : Option Head)
-        → and_then (begun byDue d Dynamic o) (λ due d'. line_step lent due d' by_key afters)
-        ≡ and_then (begun ifDue d Dynamic o) (list_lines lent Dynamic [] afters)
+        → and_then (begun by_due d Dynamic o) (λ due d'. line_step lent due d' by_key afters)
+        ≡ and_then (begun if_due d Dynamic o) (list_lines lent Dynamic [] afters)
     unfolding line_step
     head-long none = refl
     head-long (some h) = list-long h
@@ -201,15 +201,15 @@ module _ (d : Draft) (are : AreNames d.names) where
       let room = room_for lent d in
       whichever NamedStep (allowed due key)
       (whichever NamedStep (eqb key horizon_key) (horizon-named (horizon_of value))
-      (whichever NamedStep (eqb key fluent_key) (name-named (ltb d.fluents 24) fluentDue (suc d.fluents) value)
-      (whichever NamedStep (eqb key action_key) (name-named (ltb (length d.names) (d.fluents + 8)) actionDue d.fluents value)
-      (whichever NamedStep (eqb key static_key) (whichever NamedStep room (begun-named ifDue Static head) tt)
-      (whichever NamedStep (eqb key dynamic_key) (whichever NamedStep room (begun-named ifDue Dynamic head) tt)
+      (whichever NamedStep (eqb key fluent_key) (name-named (ltb d.fluents 24) fluent_due (suc d.fluents) value)
+      (whichever NamedStep (eqb key action_key) (name-named (ltb (length d.names) (d.fluents + 8)) action_due d.fluents value)
+      (whichever NamedStep (eqb key static_key) (whichever NamedStep room (begun-named if_due Static head) tt)
+      (whichever NamedStep (eqb key dynamic_key) (whichever NamedStep room (begun-named if_due Dynamic head) tt)
       (whichever NamedStep (eqb key if_key) (if-named (law_in due) (fluent_list d value))
       (whichever NamedStep (eqb key after_key) (after-named (law_in due) (any_list d value))
       (whichever NamedStep (eqb key default_key) (whichever NamedStep room (literal-named default_law code) tt)
       (whichever NamedStep (eqb key inertial_key) (whichever NamedStep room (literal-named inertial_law code) tt)
-      (whichever NamedStep (eqb key causes_key) (whichever NamedStep room (begun-named byDue Dynamic head) tt)
+      (whichever NamedStep (eqb key causes_key) (whichever NamedStep room (begun-named by_due Dynamic head) tt)
       (whichever NamedStep (eqb key by_key) (list-named (causes_law (law_in due).head) (any_list d value))
       (whichever NamedStep (eqb key nonexecutable_key)
       (whichever NamedStep room (list-named nonexecutable_law (any_list d value)) tt) (end-named value)))))))))))))
@@ -219,21 +219,21 @@ pub shorthand : Shorthand
 unfolding line_step read_head
 shorthand = record {
   default-long = λ lent due d are value.
-      alike (room_for lent d) (begun ifDue d Static (read_head d.names d.fluents value))
+      alike (room_for lent d) (begun if_due d Static (read_head d.names d.fluents value))
       (list_lines lent Static value value) (starts due default_key refl)
       (literal-long lent d are value Static (literal d.names 0 d.fluents value) refl);
   inertial-long = λ lent due d are value.
-      alike (room_for lent d) (begun ifDue d Dynamic (read_head d.names d.fluents value))
+      alike (room_for lent d) (begun if_due d Dynamic (read_head d.names d.fluents value))
       (list_lines lent Dynamic value value) (dynamic-may due inertial_key refl)
       (literal-long lent d are value Dynamic (literal d.names 0 d.fluents value) refl);
   causes-long = λ lent due d head afters.
-      tested-then (allowed due causes_key) (room_for lent d) (begun byDue d Dynamic (read_head d.names d.fluents head))
+      tested-then (allowed due causes_key) (room_for lent d) (begun by_due d Dynamic (read_head d.names d.fluents head))
       (λ due' d'. line_step lent due' d' by_key afters)
-      ∙ alike (room_for lent d) (begun ifDue d Dynamic (read_head d.names d.fluents head))
+      ∙ alike (room_for lent d) (begun if_due d Dynamic (read_head d.names d.fluents head))
       (list_lines lent Dynamic [] afters) (dynamic-may due causes_key refl)
       (head-long lent d afters (read_head d.names d.fluents head));
   nonexecutable-long = λ lent due d afters.
-      alike (room_for lent d) (begun ifDue d Dynamic (some False)) (list_lines lent Dynamic [] afters)
+      alike (room_for lent d) (begun if_due d Dynamic (some False)) (list_lines lent Dynamic [] afters)
       (dynamic-may due nonexecutable_key refl) (list-long lent d afters False);
   none_named = tt;
   names-kept = λ lent due d are key value due' d' e. subst NamedStep e (step-named d are lent due key value);

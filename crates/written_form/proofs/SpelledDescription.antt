@@ -25,7 +25,7 @@ use Rattle.reader_bounds.proofs.Drafts.{BoundedReply, bounded}
 use Rattle.letter_case.specs.Alike.{Alike, equal}
 use Rattle.letter_case.specs.LetterCase.{uses_names}
 use Rattle.letter_case.proofs.AlikeRuns.{alike-append}
-use Rattle.written_form.specs.Writing.{Form, inFull, asDefault, asInertial, asCauses, asNonexecutable, written_as}
+use Rattle.written_form.specs.Writing.{Form, in_full, as_default, as_inertial, as_causes, as_nonexecutable, written_as}
 use Rattle.written_form.specs.Writing.{Spelling, as_declared}
 use Rattle.written_form.specs.Writing.{line_text, horizon_text, literal_text, list_text, head_text, full_text, form_text}
 use Rattle.written_form.specs.Writing.{laws_text, names_text, description_text}
@@ -115,11 +115,11 @@ module _ (names : List (List ℕ)) (are : AreNames names) where
         (list-part after_key 2 refl (after_list l))
 
     form-part : (form : Form) (l : Law) → Part (form_text names plain_lines form l) (form_text names spell form l)
-    form-part inFull l = full-part l.kind l
-    form-part asDefault l = head-part default_key 0 refl l.head
-    form-part asInertial l = head-part inertial_key 0 refl l.head
-    form-part asCauses l = joined (head-part causes_key 0 refl l.head) (list-part by_key 1 refl (after_list l))
-    form-part asNonexecutable l = list-part nonexecutable_key 0 refl (after_list l)
+    form-part in_full l = full-part l.kind l
+    form-part as_default l = head-part default_key 0 refl l.head
+    form-part as_inertial l = head-part inertial_key 0 refl l.head
+    form-part as_causes l = joined (head-part causes_key 0 refl l.head) (list-part by_key 1 refl (after_list l))
+    form-part as_nonexecutable l = list-part nonexecutable_key 0 refl (after_list l)
 
   laws-part : (forms : ℕ → Form) (spell : Spelling) → InCapitals spell → (i : ℕ) (ls : List Law)
       → Part (laws_text names forms as_declared i ls) (laws_text names forms spell i ls)

@@ -16,7 +16,7 @@ use Rattle.action_language.specs.Laws.{is_static, if_list, after_list, law_of}
 use Rattle.action_language.proofs.Fits.{CodesBelow}
 use Rattle.line_values.specs.ShortLaws.{default_law, inertial_law, causes_law, nonexecutable_law}
 use Rattle.reader_bounds.specs.Accepts.{afters_of, Tidy}
-use Rattle.written_form.specs.Writing.{Form, inFull, asDefault, asInertial, asCauses, asNonexecutable, only_head}
+use Rattle.written_form.specs.Writing.{Form, in_full, as_default, as_inertial, as_causes, as_nonexecutable, only_head}
 use Rattle.written_form.specs.Writing.{is_false, has_form, written_as}
 use Rattle.spelling.proofs.Comparing.{same_refl, same-equal}
 use Rattle.written_form.proofs.Written.{Bounded}
@@ -25,7 +25,7 @@ use Rattle.written_form.proofs.Written.{Bounded}
 pub form-had : (form : Form) (l : Law) → has_form (written_as form l) l ≡ true
 form-had form l = go (has_form form l) refl
   where
-    go : (b : Bool) → has_form form l ≡ b → has_form (cond b form inFull) l ≡ true
+    go : (b : Bool) → has_form form l ≡ b → has_form (cond b form in_full) l ≡ true
     go true e = e
     go false e = refl
 
@@ -60,10 +60,10 @@ by_parts l {kind} {head} {ifs} {afters} tidy is-kind is-head is-ifs is-afters =
     ∙ ap (law_of kind head ifs) is-afters
 
 -- the forms of a list are of dynamic laws, whose after-list is within the limits
-pub causes-dynamic : (l : Law) → has_form asCauses l ≡ true → l.kind ≡ Dynamic
+pub causes-dynamic : (l : Law) → has_form as_causes l ≡ true → l.kind ≡ Dynamic
 causes-dynamic l has = dynamic-kind l.kind ((and-iff _ _).0 has).0
 
-pub nonexecutable-dynamic : (l : Law) → has_form asNonexecutable l ≡ true → l.kind ≡ Dynamic
+pub nonexecutable-dynamic : (l : Law) → has_form as_nonexecutable l ≡ true → l.kind ≡ Dynamic
 nonexecutable-dynamic l has = dynamic-kind l.kind ((and₃-iff _ _ _).0 has).0
 
 pub dynamic-afters : (n names : ℕ) (l : Law) → Bounded n names l → l.kind ≡ Dynamic
@@ -78,7 +78,7 @@ pub record OfLiteral (law : ℕ → Law) (l : Law) : Type 0 where
   pub is-law : l ≡ law code
 
 module _ (l : Law) (tidy : Tidy l) where
-  pub default-is : has_form asDefault l ≡ true → OfLiteral default_law l
+  pub default-is : has_form as_default l ≡ true → OfLiteral default_law l
   default-is has =
       let (kind, ifs) = (and-iff _ _).0 has in
       let (c, head) = literal-head l.head (if_list l) ifs in
@@ -88,7 +88,7 @@ module _ (l : Law) (tidy : Tidy l) where
         is-law = by_parts l tidy (static-kind l.kind kind) head (only-literal l.head c (if_list l) head ifs) refl;
       }
 
-  pub inertial-is : has_form asInertial l ≡ true → OfLiteral inertial_law l
+  pub inertial-is : has_form as_inertial l ≡ true → OfLiteral inertial_law l
   inertial-is has =
       let (kind, ifs, afters) = (and₃-iff _ _ _).0 has in
       let (c, head) = literal-head l.head (if_list l) ifs in
@@ -100,22 +100,22 @@ module _ (l : Law) (tidy : Tidy l) where
             (only-literal l.head c (after_list l) head afters);
       }
 
-  pub causes-is : has_form asCauses l ≡ true → l ≡ causes_law l.head (after_list l)
+  pub causes-is : has_form as_causes l ≡ true → l ≡ causes_law l.head (after_list l)
   causes-is has =
       let (kind, ifs) = (and-iff _ _).0 has in
       by_parts l tidy (dynamic-kind l.kind kind) refl (same-equal (if_list l) [] ifs) refl
 
-  pub nonexecutable-is : has_form asNonexecutable l ≡ true → l ≡ nonexecutable_law (after_list l)
+  pub nonexecutable-is : has_form as_nonexecutable l ≡ true → l ≡ nonexecutable_law (after_list l)
   nonexecutable-is has =
       let (kind, ifs, head) = (and₃-iff _ _ _).0 has in
       by_parts l tidy (dynamic-kind l.kind kind) (false-head l.head head) (same-equal (if_list l) [] ifs) refl
 
 -- and each law that a short form stands for has that form
 pub record ShortForms : Type 0 where
-  pub default-has : (c : ℕ) → has_form asDefault (default_law c) ≡ true
-  pub inertial-has : (c : ℕ) → has_form asInertial (inertial_law c) ≡ true
-  pub causes-has : (head : Head) (afters : List ℕ) → has_form asCauses (causes_law head afters) ≡ true
-  pub nonexecutable-has : (afters : List ℕ) → has_form asNonexecutable (nonexecutable_law afters) ≡ true
+  pub default-has : (c : ℕ) → has_form as_default (default_law c) ≡ true
+  pub inertial-has : (c : ℕ) → has_form as_inertial (inertial_law c) ≡ true
+  pub causes-has : (head : Head) (afters : List ℕ) → has_form as_causes (causes_law head afters) ≡ true
+  pub nonexecutable-has : (afters : List ℕ) → has_form as_nonexecutable (nonexecutable_law afters) ≡ true
 
 pub short-forms : ShortForms
 short-forms = record {

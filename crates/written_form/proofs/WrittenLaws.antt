@@ -20,9 +20,9 @@ use Rattle.text_forms.specs.Lines.{by_key, nonexecutable_key, no_key}
 use Rattle.text_forms.specs.Names.{literal}
 use Rattle.text_forms.specs.Lists.{codes}
 use Rattle.line_values.specs.ShortLaws.{default_law, inertial_law}
-use Rattle.description_lines.specs.LineSteps.{Due, lawDue, ifDue, afterDue, byDue, Draft, starts_law, allowed, next}
+use Rattle.description_lines.specs.LineSteps.{Due, law_due, if_due, after_due, by_due, Draft, starts_law, allowed, next}
 use Rattle.description_lines.specs.LineSteps.{read_head, whole, if_line, any_list, line_step}
-use Rattle.written_form.specs.Writing.{Form, inFull, asDefault, asInertial, asCauses, asNonexecutable, has_form, written_as}
+use Rattle.written_form.specs.Writing.{Form, in_full, as_default, as_inertial, as_causes, as_nonexecutable, has_form, written_as}
 use Rattle.written_form.specs.Writing.{as_declared, line_text, list_text, head_text, full_text, form_text, laws_text}
 use Rattle.written_form.specs.Writable.{form_lines, law_lines, laws_lines, AreNames, Distinct, draft}
 use Rattle.written_form.proofs.WrittenNames.{plains, plain_lines, literal-read, head_read}
@@ -46,7 +46,7 @@ module _ (lent T n : ℕ) (names : List (List ℕ)) (are : AreNames names) (dist
 
     -- the lines of a text take the reader to the law that they stand for
     abbrev Leaves : ℕ → List ℕ → Law → Type 0
-    Leaves lines text l' = Passes lent lines text due at lawDue (whole at l')
+    Leaves lines text l' = Passes lent lines text due at law_due (whole at l')
 
     -- each key that starts a law may stand here
     may-start : (k : ℕ) → starts_law k ≡ true → allowed due k ≡ true
@@ -61,9 +61,9 @@ module _ (lent T n : ℕ) (names : List (List ℕ)) (are : AreNames names) (dist
 
     -- the if-list, and a list of literals of either sort
     if-passes : (l' : Law) {later : Due} {d : Draft} → if_line at l' (codes (if_list l)) ≡ next later d
-        → Passes lent 1 (line_text if_key (list_text names plains (if_list l))) (ifDue l') at later d
+        → Passes lent 1 (line_text if_key (list_text names plains (if_list l))) (if_due l') at later d
     if-passes l' step =
-        line-passes (ifDue l') at if_key (list_text names plains (if_list l)) (omega arith) (list-lacks-newline names are (if_list l))
+        line-passes (if_due l') at if_key (list_text names plains (if_list l)) (omega arith) (list-lacks-newline names are (if_list l))
         (
         if-step lent at l' (list_text names plains (if_list l)) (if_list l)
         (list_read names are distinct 0 n 6 held (if_list l) (codes-in n (if_list l) b.ifs) b.few-ifs)
@@ -75,7 +75,7 @@ module _ (lent T n : ℕ) (names : List (List ℕ)) (are : AreNames names) (dist
 
     -- in full, by the kind
     full-passes : (k : Kind) → CodesBelow (2 * length names) (afters_of k l) → length (afters_of k l) ≤ 6
-        → Leaves (form_lines inFull k) (full_text names plain_lines k l) (law_of k l.head (if_list l) (afters_of k l))
+        → Leaves (form_lines in_full k) (full_text names plain_lines k l) (law_of k l.head (if_list l) (afters_of k l))
     full-passes Static afters few-afters =
         then (head-passes static_key (omega arith) (static_step lent due at head l.head may few is-head))
         (if-passes (law_of Static l.head [] []) refl) 2 refl
@@ -84,7 +84,7 @@ module _ (lent T n : ℕ) (names : List (List ℕ)) (are : AreNames names) (dist
         then
         (then (head-passes dynamic_key (omega arith) (dynamic-step lent due at head l.head (may-start dynamic_key refl) few is-head))
         (if-passes (law_of Dynamic l.head [] []) refl) 2 refl)
-        (line-passes (afterDue half) at after_key (list_text names plains (after_list l)) (omega arith)
+        (line-passes (after_due half) at after_key (list_text names plains (after_list l)) (omega arith)
         (list-lacks-newline names are (after_list l))
         (after-step lent at half (list_text names plains (after_list l)) (after_list l) (any-read (after_list l) afters few-afters)))
         3 refl
@@ -96,7 +96,7 @@ module _ (lent T n : ℕ) (names : List (List ℕ)) (are : AreNames names) (dist
         (λ below. literal-read names are distinct 0 n c (omega arith) below held) b.head
 
     literal-passes : (key : ℕ) (law : ℕ → Law) → key < no_key → OfLiteral law l
-        → ((c : ℕ) → literal names 0 n head ≡ some c → line_step lent due at key head ≡ next lawDue (whole at (law c)))
+        → ((c : ℕ) → literal names 0 n head ≡ some c → line_step lent due at key head ≡ next law_due (whole at (law c)))
         → Leaves 1 (line_text key head) l
     literal-passes key law known of step =
         subst (Leaves 1 (line_text key head)) (sym of.is-law)
@@ -104,27 +104,27 @@ module _ (lent T n : ℕ) (names : List (List ℕ)) (are : AreNames names) (dist
         (step of.code (head-literal of.code of.is-head)))
 
     form-passes : (form : Form) → has_form form l ≡ true → Leaves (form_lines form l.kind) (form_text names plain_lines form l) l
-    form-passes inFull has =
-        subst (Leaves (form_lines inFull l.kind) (full_text names plain_lines l.kind l)) (sym tidy)
+    form-passes in_full has =
+        subst (Leaves (form_lines in_full l.kind) (full_text names plain_lines l.kind l)) (sym tidy)
         (full-passes l.kind b.afters b.few-afters)
-    form-passes asDefault has =
+    form-passes as_default has =
         literal-passes default_key default_law (omega arith) (default-is l tidy has)
         (λ c. default-step lent due at head c (may-start default_key refl) few)
-    form-passes asInertial has =
+    form-passes as_inertial has =
         literal-passes inertial_key inertial_law (omega arith) (inertial-is l tidy has)
         (λ c. inertial-step lent due at head c (may-start inertial_key refl) few)
-    form-passes asCauses has =
+    form-passes as_causes has =
         let (below, small) = dynamic-afters n (length names) l b (causes-dynamic l has) in
         let begun = law_of Dynamic l.head [] [] in
-        subst (Leaves 2 (form_text names plain_lines asCauses l)) (sym (causes-is l tidy has))
+        subst (Leaves 2 (form_text names plain_lines as_causes l)) (sym (causes-is l tidy has))
         (then (head-passes causes_key (omega arith) (causes-step lent due at head l.head (may-start causes_key refl) few is-head))
-        (line-passes (byDue begun) at by_key (list_text names plains (after_list l)) (omega arith)
+        (line-passes (by_due begun) at by_key (list_text names plains (after_list l)) (omega arith)
         (list-lacks-newline names are (after_list l))
         (by-step lent at begun (list_text names plains (after_list l)) (after_list l) (any-read (after_list l) below small)))
         2 refl)
-    form-passes asNonexecutable has =
+    form-passes as_nonexecutable has =
         let (below, small) = dynamic-afters n (length names) l b (nonexecutable-dynamic l has) in
-        subst (Leaves 1 (form_text names plain_lines asNonexecutable l)) (sym (nonexecutable-is l tidy has))
+        subst (Leaves 1 (form_text names plain_lines as_nonexecutable l)) (sym (nonexecutable-is l tidy has))
         (line-passes due at nonexecutable_key (list_text names plains (after_list l)) (omega arith)
         (list-lacks-newline names are (after_list l))
         (nonexecutable-step lent due at (list_text names plains (after_list l)) (after_list l)
@@ -134,9 +134,9 @@ module _ (lent T n : ℕ) (names : List (List ℕ)) (are : AreNames names) (dist
       → length done + length ls ≤ min 64 lent
       → Each (Bounded n (length names)) ls → Each Tidy ls
       → Passes lent (laws_lines forms i ls) (laws_text names forms as_declared i ls) due (draft T n names done)
-      (due_behind due lawDue ls) (draft T n names (done ++ ls))
+      (due_behind due law_due ls) (draft T n names (done ++ ls))
   laws-pass forms i [] done due may few b tidy = rw (append-nil done) (nothing-passes due (draft T n names done))
   laws-pass forms i (l ∷ ls) done due may few b tidy =
       let here = form-passes l done due may (omega arith) b.0 tidy.0 (written_as (forms i) l) (form-had (forms i) l) in
-      let rest = laws-pass forms (suc i) ls (done ++ (l ∷ [])) lawDue refl (omega (arith, length-append done (l ∷ []))) b.1 tidy.1 in
-      then here (rw (append_assoc done (l ∷ []) ls, same-due lawDue ls) at rest) (law_lines (forms i) l + laws_lines forms (suc i) ls) refl
+      let rest = laws-pass forms (suc i) ls (done ++ (l ∷ [])) law_due refl (omega (arith, length-append done (l ∷ []))) b.1 tidy.1 in
+      then here (rw (append_assoc done (l ∷ []) ls, same-due law_due ls) at rest) (law_lines (forms i) l + laws_lines forms (suc i) ls) refl

@@ -22,7 +22,7 @@ use Rattle.text_forms.specs.Bytes.{newline, equals_sign}
 use Rattle.text_forms.specs.Lines.{keys, horizon_key, fluent_key, action_key, static_key, dynamic_key, if_key, after_key, end_key}
 use Rattle.text_forms.specs.Lines.{default_key, inertial_key, causes_key, by_key, nonexecutable_key}
 use Rattle.spelling.specs.Spelling.{is_name}
-use Rattle.written_form.specs.Writing.{Form, inFull, asDefault, asInertial, asCauses, asNonexecutable, has_form, written_as}
+use Rattle.written_form.specs.Writing.{Form, in_full, as_default, as_inertial, as_causes, as_nonexecutable, has_form, written_as}
 use Rattle.written_form.specs.Writing.{as_declared, line_text, horizon_text, list_text, head_text, full_text, form_text}
 use Rattle.written_form.specs.Writing.{law_text, laws_text, names_text, description_text}
 use Rattle.written_form.proofs.WrittenNames.{plains, plain_lines, literal-size}
@@ -59,7 +59,7 @@ module _ (names : List (List ℕ)) (are : AreNames names) (n : ℕ) (held : n �
   head-size False below = omega arith
 
   full_size : (l : Law) → Bounded n (length names) l
-      → (form_lines inFull l.kind ≤ length (full_text names plain_lines l.kind l))
+      → (form_lines in_full l.kind ≤ length (full_text names plain_lines l.kind l))
       × (length (full_text names plain_lines l.kind l) ≤ 256)
   full_size l b = go l.kind (list-size names are (afters_of l.kind l) b.afters) b.few-afters
     where
@@ -73,7 +73,7 @@ module _ (names : List (List ℕ)) (are : AreNames names) (n : ℕ) (held : n �
           → (length (afters_of k l) ≤ length (list_text names plains (afters_of k l)))
           × (length (list_text names plains (afters_of k l)) ≤ 18 * length (afters_of k l))
           → length (afters_of k l) ≤ 6
-          → (form_lines inFull k ≤ length (full_text names plain_lines k l)) × (length (full_text names plain_lines k l) ≤ 256)
+          → (form_lines in_full k ≤ length (full_text names plain_lines k l)) × (length (full_text names plain_lines k l) ≤ 256)
       go Static afters few =
           omega (
             arith,
@@ -103,10 +103,10 @@ module _ (names : List (List ℕ)) (are : AreNames names) (n : ℕ) (held : n �
   -- a short law is no longer than one in full may be
   form-size : (form : Form) (l : Law) → Bounded n (length names) l → has_form form l ≡ true
       → (form_lines form l.kind ≤ length (form_text names plain_lines form l)) × (length (form_text names plain_lines form l) ≤ 256)
-  form-size inFull l b has = full_size l b
-  form-size asDefault l b has = omega (arith, head-size l.head b.head, line-size default_key (head_text names plains l.head))
-  form-size asInertial l b has = omega (arith, head-size l.head b.head, line-size inertial_key (head_text names plains l.head))
-  form-size asCauses l b has =
+  form-size in_full l b has = full_size l b
+  form-size as_default l b has = omega (arith, head-size l.head b.head, line-size default_key (head_text names plains l.head))
+  form-size as_inertial l b has = omega (arith, head-size l.head b.head, line-size inertial_key (head_text names plains l.head))
+  form-size as_causes l b has =
       let (below, few) = dynamic-afters n (length names) l b (causes-dynamic l has) in
       let front = line_text causes_key (head_text names plains l.head) in
       let back = line_text by_key (list_text names plains (after_list l)) in
@@ -118,7 +118,7 @@ module _ (names : List (List ℕ)) (are : AreNames names) (n : ℕ) (held : n �
         line-size by_key (list_text names plains (after_list l)),
         length-append front back,
       )
-  form-size asNonexecutable l b has =
+  form-size as_nonexecutable l b has =
       let (below, few) = dynamic-afters n (length names) l b (nonexecutable-dynamic l has) in
       omega (arith, (list-size names are (after_list l) below).1, line-size nonexecutable_key (list_text names plains (after_list l)))
 

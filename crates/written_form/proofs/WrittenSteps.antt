@@ -25,8 +25,8 @@ use Rattle.text_forms.specs.Lists.{codes}
 use Rattle.written_form.specs.Writable.{draft}
 use Rattle.line_values.specs.HorizonText.{horizon_of}
 use Rattle.line_values.specs.ShortLaws.{default_law, inertial_law, causes_law, nonexecutable_law}
-use Rattle.description_lines.specs.LineSteps.{Due, horizonDue, firstFluentDue, fluentDue, actionDue, lawDue, ifDue}
-use Rattle.description_lines.specs.LineSteps.{afterDue, byDue, Draft, starts_law, allowed, next, finish}
+use Rattle.description_lines.specs.LineSteps.{Due, horizon_due, first_fluent_due, fluent_due, action_due, law_due, if_due}
+use Rattle.description_lines.specs.LineSteps.{after_due, by_due, Draft, starts_law, allowed, next, finish}
 use Rattle.description_lines.specs.LineSteps.{horizon_line, read_head, begun, law_line, whole, if_line, after_line}
 use Rattle.description_lines.specs.LineSteps.{whole_by_literal, whole_by_list, literal_line, fluent_list, any_list, line_step}
 use Rattle.action_language.specs.Laws.{law_of}
@@ -59,18 +59,18 @@ horizon-clean k = go (ltb k 10)
 
 module _ (lent : ℕ) (due : Due) (d : Draft) where
   pub horizon-step : (T : ℕ) → 1 ≤ T → T ≤ 30 → allowed due horizon_key ≡ true
-      → line_step lent due d horizon_key (horizon_text T) ≡ next firstFluentDue (draft T d.fluents d.names d.laws)
+      → line_step lent due d horizon_key (horizon_text T) ≡ next first_fluent_due (draft T d.fluents d.names d.laws)
   unfolding line_step
   horizon-step T one few may = rw may (ap (horizon_line d) (horizon-read T one few))
 
   pub fluent-step : (x : List ℕ) → allowed due fluent_key ≡ true → d.fluents < 24 → is_name x ≡ true → declared_at d.names x ≡ none
-      → line_step lent due d fluent_key x ≡ next fluentDue (draft d.horizon (suc d.fluents) (d.names ++ (x ∷ [])) d.laws)
+      → line_step lent due d fluent_key x ≡ next fluent_due (draft d.horizon (suc d.fluents) (d.names ++ (x ∷ [])) d.laws)
   unfolding line_step
   fluent-step x may few name new = rw (may, lt-ltb d.fluents 24 few, name, new)
 
   pub action-step : (x : List ℕ) → allowed due action_key ≡ true → length d.names < d.fluents + 8 → is_name x ≡ true
       → declared_at d.names x ≡ none
-      → line_step lent due d action_key x ≡ next actionDue (draft d.horizon d.fluents (d.names ++ (x ∷ [])) d.laws)
+      → line_step lent due d action_key x ≡ next action_due (draft d.horizon d.fluents (d.names ++ (x ∷ [])) d.laws)
   unfolding line_step
   action-step x may few name new = rw (may, lt-ltb (length d.names) (d.fluents + 8) few, name, new)
 
@@ -82,41 +82,41 @@ module _ (lent : ℕ) (due : Due) (d : Draft) where
 
   pub static_step : (x : List ℕ) (h : Head) → allowed due static_key ≡ true → length d.laws < min 64 lent
       → read_head d.names d.fluents x ≡ some h
-      → line_step lent due d static_key x ≡ next (ifDue (law_of Static h [] [])) d
+      → line_step lent due d static_key x ≡ next (if_due (law_of Static h [] [])) d
   unfolding line_step
-  static_step x h may few head = rw may (begins ifDue Static x h few head)
+  static_step x h may few head = rw may (begins if_due Static x h few head)
 
   pub dynamic-step : (x : List ℕ) (h : Head) → allowed due dynamic_key ≡ true → length d.laws < min 64 lent
       → read_head d.names d.fluents x ≡ some h
-      → line_step lent due d dynamic_key x ≡ next (ifDue (law_of Dynamic h [] [])) d
+      → line_step lent due d dynamic_key x ≡ next (if_due (law_of Dynamic h [] [])) d
   unfolding line_step
-  dynamic-step x h may few head = rw may (begins ifDue Dynamic x h few head)
+  dynamic-step x h may few head = rw may (begins if_due Dynamic x h few head)
 
   pub causes-step : (x : List ℕ) (h : Head) → allowed due causes_key ≡ true → length d.laws < min 64 lent
       → read_head d.names d.fluents x ≡ some h
-      → line_step lent due d causes_key x ≡ next (byDue (law_of Dynamic h [] [])) d
+      → line_step lent due d causes_key x ≡ next (by_due (law_of Dynamic h [] [])) d
   unfolding line_step
-  causes-step x h may few head = rw may (begins byDue Dynamic x h few head)
+  causes-step x h may few head = rw may (begins by_due Dynamic x h few head)
 
   -- a law is whole behind its only line: of a literal, or of a list
   ends-law : (law : ℕ → Law) (x : List ℕ) (c : ℕ) → length d.laws < min 64 lent → literal d.names 0 d.fluents x ≡ some c
-      → literal_line lent d law x ≡ next lawDue (whole d (law c))
+      → literal_line lent d law x ≡ next law_due (whole d (law c))
   ends-law law x c few is = rw (lt-ltb (length d.laws) (min 64 lent) few) (ap (whole_by_literal d law) is)
 
   pub default-step : (x : List ℕ) (c : ℕ) → allowed due default_key ≡ true → length d.laws < min 64 lent
       → literal d.names 0 d.fluents x ≡ some c
-      → line_step lent due d default_key x ≡ next lawDue (whole d (default_law c))
+      → line_step lent due d default_key x ≡ next law_due (whole d (default_law c))
   unfolding line_step
   default-step x c may few is = rw may (ends-law default_law x c few is)
 
   pub inertial-step : (x : List ℕ) (c : ℕ) → allowed due inertial_key ≡ true → length d.laws < min 64 lent
       → literal d.names 0 d.fluents x ≡ some c
-      → line_step lent due d inertial_key x ≡ next lawDue (whole d (inertial_law c))
+      → line_step lent due d inertial_key x ≡ next law_due (whole d (inertial_law c))
   unfolding line_step
   inertial-step x c may few is = rw may (ends-law inertial_law x c few is)
 
   pub nonexecutable-step : (x cs : List ℕ) → allowed due nonexecutable_key ≡ true → length d.laws < min 64 lent → any_list d x ≡ codes cs
-      → line_step lent due d nonexecutable_key x ≡ next lawDue (whole d (nonexecutable_law cs))
+      → line_step lent due d nonexecutable_key x ≡ next law_due (whole d (nonexecutable_law cs))
   unfolding line_step
   nonexecutable-step x cs may few list =
       rw (may, lt-ltb (length d.laws) (min 64 lent) few) (ap (whole_by_list d nonexecutable_law) list)
@@ -127,15 +127,15 @@ module _ (lent : ℕ) (due : Due) (d : Draft) where
 
 -- the lists that follow a head
 module _ (lent : ℕ) (d : Draft) (l : Law) (x cs : List ℕ) where
-  pub if-step : fluent_list d x ≡ codes cs → line_step lent (ifDue l) d if_key x ≡ if_line d l (codes cs)
+  pub if-step : fluent_list d x ≡ codes cs → line_step lent (if_due l) d if_key x ≡ if_line d l (codes cs)
   unfolding line_step
   if-step list = ap (if_line d l) list
 
-  pub after-step : any_list d x ≡ codes cs → line_step lent (afterDue l) d after_key x ≡ after_line d l (codes cs)
+  pub after-step : any_list d x ≡ codes cs → line_step lent (after_due l) d after_key x ≡ after_line d l (codes cs)
   unfolding line_step
   after-step list = ap (after_line d l) list
 
-  pub by-step : any_list d x ≡ codes cs → line_step lent (byDue l) d by_key x ≡ next lawDue (whole d (causes_law l.head cs))
+  pub by-step : any_list d x ≡ codes cs → line_step lent (by_due l) d by_key x ≡ next law_due (whole d (causes_law l.head cs))
   unfolding line_step
   by-step list = ap (whole_by_list d (causes_law l.head)) list
 
@@ -144,14 +144,14 @@ apart : (k j : ℕ) → starts_law k ≡ true → starts_law j ≡ false → eqb
 apart k j starts other = ne_eqb k j (λ e. not-both starts (subst (λ (i : ℕ). starts_law i ≡ false) (sym e) other))
 
 pub starts : (due : Due) (k : ℕ) → starts_law k ≡ true → allowed due k ≡ allowed due static_key
-starts horizonDue k is = apart k horizon_key is refl
-starts firstFluentDue k is = apart k fluent_key is refl
-starts fluentDue k is = rw (apart k fluent_key is refl, apart k action_key is refl, is)
-starts actionDue k is = rw (apart k action_key is refl, is)
-starts lawDue k is = rw is
-starts (ifDue l) k is = apart k if_key is refl
-starts (afterDue l) k is = apart k after_key is refl
-starts (byDue l) k is = apart k by_key is refl
+starts horizon_due k is = apart k horizon_key is refl
+starts first_fluent_due k is = apart k fluent_key is refl
+starts fluent_due k is = rw (apart k fluent_key is refl, apart k action_key is refl, is)
+starts action_due k is = rw (apart k action_key is refl, is)
+starts law_due k is = rw is
+starts (if_due l) k is = apart k if_key is refl
+starts (after_due l) k is = apart k after_key is refl
+starts (by_due l) k is = apart k by_key is refl
 
 -- the lines of a text, s of them, take the reader from one draft to another, whatever follows
 pub record Passes (lent s : ℕ) (text : List ℕ) (due : Due) (d : Draft) (due' : Due) (d' : Draft) : Type 0 where

@@ -9,7 +9,7 @@ use Rattle.action_language.specs.Acceptance.{law_fits}
 use Rattle.spelling.specs.Spelling.{same_name, is_name}
 use Rattle.description_lines.specs.LineSteps.{Draft}
 use Rattle.reader_bounds.specs.Accepts.{Tidy}
-use Rattle.written_form.specs.Writing.{Form, inFull, asDefault, asInertial, asCauses, asNonexecutable, written_as}
+use Rattle.written_form.specs.Writing.{Form, in_full, as_default, as_inertial, as_causes, as_nonexecutable, written_as}
 
 abbrev pub AreNames : List (List ℕ) → Type 0
 AreNames xs = Each (λ x. is_name x ≡ true) xs
@@ -34,12 +34,12 @@ pub record Writable (lent T : ℕ) (fluents actions : List (List ℕ)) (ls : Lis
 
 -- how many lines are written, by the form
 abbrev pub form_lines : Form → Kind → ℕ
-form_lines inFull Static = 2
-form_lines inFull Dynamic = 3
-form_lines asDefault kind = 1
-form_lines asInertial kind = 1
-form_lines asCauses kind = 2
-form_lines asNonexecutable kind = 1
+form_lines in_full Static = 2
+form_lines in_full Dynamic = 3
+form_lines as_default kind = 1
+form_lines as_inertial kind = 1
+form_lines as_causes kind = 2
+form_lines as_nonexecutable kind = 1
 
 abbrev pub law_lines : Form → Law → ℕ
 law_lines form l = form_lines (written_as form l) l.kind

@@ -44,7 +44,7 @@ head_text names spell False = spell 0 false_bytes
 
 -- how a law is written: in full, or by the short lines of 02, §1
 pub data Form : Type 0 where
-  inFull asDefault asInertial asCauses asNonexecutable : Form
+  in_full as_default as_inertial as_causes as_nonexecutable : Form
 
 -- a list that holds the head and nothing else; no list holds false
 abbrev pub only_head : Head → List ℕ → Bool
@@ -58,15 +58,15 @@ is_false False = true
 -- whether a form stands for a law. Default: static, the if-list is the head L alone. Inertial: dynamic, and so are both lists.
 -- Causes: dynamic, with an empty if-list. Nonexecutable: that with head false. A static law's after-list is not looked at
 abbrev pub has_form : Form → Law → Bool
-has_form inFull l = true
-has_form asDefault l = is_static l.kind && only_head l.head (if_list l)
-has_form asInertial l = not (is_static l.kind) && only_head l.head (if_list l) && only_head l.head (after_list l)
-has_form asCauses l = not (is_static l.kind) && same (if_list l) []
-has_form asNonexecutable l = not (is_static l.kind) && same (if_list l) [] && is_false l.head
+has_form in_full l = true
+has_form as_default l = is_static l.kind && only_head l.head (if_list l)
+has_form as_inertial l = not (is_static l.kind) && only_head l.head (if_list l) && only_head l.head (after_list l)
+has_form as_causes l = not (is_static l.kind) && same (if_list l) []
+has_form as_nonexecutable l = not (is_static l.kind) && same (if_list l) [] && is_false l.head
 
 -- the chosen form where the law has it, else in full
 abbrev pub written_as : Form → Law → Form
-written_as form l = cond (has_form form l) form inFull
+written_as form l = cond (has_form form l) form in_full
 
 -- the text of a law in full, by its kind
 abbrev pub full_text : List (List ℕ) → (ℕ → ℕ → List ℕ → List ℕ) → Kind → Law → List ℕ
@@ -79,12 +79,12 @@ full_text names spell Dynamic l =
 
 -- the text of a law that has a form
 abbrev pub form_text : List (List ℕ) → (ℕ → ℕ → List ℕ → List ℕ) → Form → Law → List ℕ
-form_text names spell inFull l = full_text names spell l.kind l
-form_text names spell asDefault l = line_text default_key (head_text names (spell 0) l.head)
-form_text names spell asInertial l = line_text inertial_key (head_text names (spell 0) l.head)
-form_text names spell asCauses l =
+form_text names spell in_full l = full_text names spell l.kind l
+form_text names spell as_default l = line_text default_key (head_text names (spell 0) l.head)
+form_text names spell as_inertial l = line_text inertial_key (head_text names (spell 0) l.head)
+form_text names spell as_causes l =
     line_text causes_key (head_text names (spell 0) l.head) ++ line_text by_key (list_text names (spell 1) (after_list l))
-form_text names spell asNonexecutable l = line_text nonexecutable_key (list_text names (spell 0) (after_list l))
+form_text names spell as_nonexecutable l = line_text nonexecutable_key (list_text names (spell 0) (after_list l))
 
 abbrev pub law_text : List (List ℕ) → (ℕ → ℕ → List ℕ → List ℕ) → Form → Law → List ℕ
 law_text names spell form l = form_text names spell (written_as form l) l

@@ -3,7 +3,6 @@
 use mathlib.Core.Path.{refl}
 use native.Mathlib.Omega.{arith}
 use Rattle.answer_codes.specs.Codes.{pair}
-use borrow.Author.Rules.{rules}
 use Rattle.answer_codes.proofs.both.Goals as goal
 
 pub returns : goal.returns

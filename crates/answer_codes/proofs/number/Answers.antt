@@ -2,7 +2,6 @@
 -- Assumes nothing.
 use mathlib.Core.Path.{refl}
 use Rattle.answer_codes.specs.Codes.{coded}
-use borrow.Author.Rules.{rules}
 use Rattle.answer_codes.proofs.number.Goals as goal
 
 pub returns : goal.returns

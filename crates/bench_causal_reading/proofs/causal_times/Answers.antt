@@ -1,12 +1,10 @@
 -- `causal_times` meets its contract. What the input holds settles which part of the definition applies.
 -- Assumes nothing.
 use mathlib.Core.Path.{sym, ap, ◌∙◌}
-use native.Mathlib.Omega.{arith}
-use lib.ListN.{length-take, replicate}
+use lib.ListN.{replicate}
 use Rattle.history_reader.specs.Histories.{history_reply_of}
 use Rattle.answer_codes.specs.Codes.{reply_code, causal_code}
 use Rattle.huntyghai_theory.proofs.Texts.{reading-refused, reading-read}
-use borrow.Author.Rules.{rules}
 use Rattle.bench_causal_reading.proofs.causal_times.Goals as goal
 
 pub returns-in-Refused : goal.returns-in-Refused

@@ -2,8 +2,6 @@
 -- Assumes nothing.
 use mathlib.Core.Path.{◌≡◌}
 use Prim.Native.Nat.{◌-◌}
-use native.Mathlib.Omega.{arith}
-use borrow.Author.Rules.{rules}
 use Rattle.causal_reading.specs.Readings.{reply_of, reading}
 use Rattle.bench_causal_reading.proofs.repeated.Given as goal
 

@@ -2,7 +2,7 @@
 -- Assumes nothing.
 use mathlib.Core.Path.{◌≡◌, refl, sym, ◌∙◌, ap}
 use mathlib.Core.Bool.{cond}
-use Rattle.description_lines.specs.LineSteps.{next, law_line, ifDue, byDue}
+use Rattle.description_lines.specs.LineSteps.{next, law_line, if_due, by_due}
 use Rattle.description_reader.specs.Internal.{due_of, draft_of, begun_with, step_of}
 use Rattle.description_reader.proofs.Stepping.{counted, sound-64, room-any}
 use Rattle.description_reader.proofs.steps.law_line.Goals as goal
@@ -14,7 +14,7 @@ returns-in-Read c =
     let s = c.requires in
     let r = a.state.draft in
     let d = draft_of a.text.now r in
-    let due = cond a.short byDue ifDue in
+    let due = cond a.short by_due if_due in
     let known = c.in-Read.is in
     let room = rw known at c.law_head-head_at.ensures.head_fits in
     let head : begun_with due d a.kind c.law_head-head_at.result ≡ law_line a.lent due d a.kind a.value.now =
