@@ -1,14 +1,12 @@
 -- How many atoms there are within the limits, and for an accepted description.
 -- Assumes nothing.
 use mathlib.Core.Path.{◌≡◌, refl}
-use mathlib.Core.Bool.{Bool, true, false, cond, ◌&&◌, and-eq-true_iff}
 use mathlib.Core.List.{List}
 use mathlib.Core.Option.{none}
 use Prim.Native.Nat.{ℕ, ◌+◌, ◌*◌, ◌≤◌}
 use native.Mathlib.Nat.{mul-le-mul}
 use native.Mathlib.Omega.{arith}
-use lib.Dec.{leb}
-use borrow.Author.Tests.{leb-true, le-leb}
+use borrow.Author.Tests.{le-leb}
 use Rattle.action_language.specs.declared.Law.{Law}
 use Rattle.action_language.specs.declared.Description.{Description}
 use Rattle.action_language.specs.Atoms.{atom_count, atoms_within}
@@ -27,17 +25,6 @@ module _ (n m T : ℕ) where
     pub atoms-within : atoms_within n m T ≡ atom_count n m T
     unfolding atoms_within
     atoms-within = rw (le-leb n 24 fluents, le-leb m 8 actions, le-leb T 30 time) refl
-
-  pub atoms-past : ((n ≤ 24) × (m ≤ 8) × (T ≤ 30) → ⊥) → atoms_within n m T ≡ 0
-  unfolding atoms_within
-  atoms-past out = go (leb n 24 && leb m 8 && leb T 30) refl
-    where
-      go : (b : Bool) → (leb n 24 && leb m 8 && leb T 30) ≡ b → cond b (atom_count n m T) 0 ≡ 0
-      go true e =
-          let t = (and-eq-true_iff (leb n 24 && leb m 8) (leb T 30)).0 e in
-          let f = (and-eq-true_iff (leb n 24) (leb m 8)).0 t.0 in
-          absurd (out (leb-true n 24 f.0, leb-true m 8 f.1, leb-true T 30 t.1))
-      go false e = refl
 
 -- an accepted description is within the limits
 module _ (d : Description) (ls : List Law) (lent : ℕ) (taken : bad_record d ls lent ≡ none) (horizon : bad_horizon d.horizon ≡ none) where

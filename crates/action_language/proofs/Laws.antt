@@ -9,10 +9,7 @@ use native.Mathlib.Omega.{arith}
 use lib.Dec.{eqb, leb}
 use lib.ListN.{length, length-take}
 use borrow.Author.Tests.{eqb-true, leb-true, le-leb}
-use Rattle.basics.specs.declared.Found.{Found}
-use Rattle.basics.specs.declared.Found.TheVariants.{At, Nothing}
-use Rattle.basics.specs.Search.{Each, place_of}
-use Rattle.basics.specs.Replies.{refusal_of, refusal}
+use Rattle.basics.specs.Search.{Each}
 use Rattle.action_language.specs.declared.Kind.{Kind}
 use Rattle.action_language.specs.declared.Kind.TheVariants.{Static, Dynamic}
 use Rattle.action_language.specs.declared.Law.{Law}
@@ -20,11 +17,6 @@ use Rattle.action_language.specs.declared.Description.{Description}
 use Rattle.action_language.specs.Laws.{if_list, after_list, laws_of}
 use Rattle.action_language.specs.Atoms.{wrong_length}
 use Rattle.action_language.specs.Acceptance.{counts_fit, codes_below, head_fits, after_fits, law_fits, bad_law, bad_record, bad_horizon}
-
--- the refusal of a search's answer is that of its place
-pub place-refusal : (number : ℕ) (r : Found) → refusal_of number r ≡ refusal number (place_of r)
-place-refusal number (At k) = refl
-place-refusal number Nothing = refl
 
 -- Counts and horizon
 
@@ -40,26 +32,6 @@ counts-limits d lent h =
     let a = last _ l.0 in
     let f = last _ a.0 in
     (leb-true _ _ f.0, leb-true _ _ f.1, leb-true _ _ a.1, leb-true _ _ l.1, leb-true _ _ e.1)
-
--- the limits, both ways
-pub counts-true : (d : Description) (lent : ℕ) → 1 ≤ d.fluents → d.fluents ≤ 24 → d.actions ≤ 8 → d.laws ≤ 64 → d.laws ≤ lent
-    → counts_fit d lent ≡ true
-counts-true d lent one few actions laws held =
-    simp (
-      le-leb 1 d.fluents one,
-      le-leb d.fluents 24 few,
-      le-leb d.actions 8 actions,
-      le-leb d.laws 64 laws,
-      le-leb d.laws lent held,
-    )
-
-pub counts-false : (d : Description) (lent : ℕ)
-    → ((1 ≤ d.fluents) × (d.fluents ≤ 24) × (d.actions ≤ 8) × (d.laws ≤ 64) × (d.laws ≤ lent) → ⊥) → counts_fit d lent ≡ false
-counts-false d lent out = go (counts_fit d lent) refl
-  where
-    go : (b : Bool) → counts_fit d lent ≡ b → b ≡ false
-    go true e = absurd (out (counts-limits d lent e))
-    go false e = refl
 
 -- no place where there is a fault: the test passed
 passed : (b : Bool) (x : Option ℕ) (k : ℕ) → cond b x (some k) ≡ none → (b ≡ true) × (x ≡ none)
@@ -81,14 +53,6 @@ accepted-horizon T h = let e = last _ (passed _ none 0 h).0 in (leb-true _ _ e.0
 pub horizon-taken : (T : ℕ) → 1 ≤ T → T ≤ 30 → bad_horizon T ≡ none
 unfolding bad_horizon
 horizon-taken T one few = simp (le-leb 1 T one, le-leb T 30 few)
-
-pub horizon-refused : (T : ℕ) → ((1 ≤ T) × (T ≤ 30) → ⊥) → bad_horizon T ≡ some 0
-unfolding bad_horizon
-horizon-refused T out = go (leb 1 T && leb T 30) refl
-  where
-    go : (b : Bool) → (leb 1 T && leb T 30) ≡ b → cond {A = Option ℕ} b none (some 0) ≡ some 0
-    go true e = let t = last (leb 1 T) e in absurd (out (leb-true _ _ t.0, leb-true _ _ t.1))
-    go false e = refl
 
 -- a history's values are as many as its atoms where 10 does not come
 pub right-length : (atoms count : ℕ) → wrong_length atoms count ≡ none → count ≡ atoms

@@ -2,20 +2,20 @@
 #![tactic(auto)]
 
 // A head is a fluent literal's code or false.
-#[derive(Clone, Copy)]
+#[derive(Clone, Copy, Debug, PartialEq, Eq)]
 pub enum Head {
     Lit(u8),
     False,
 }
 
-#[derive(Clone, Copy)]
+#[derive(Clone, Copy, Debug, PartialEq, Eq)]
 pub enum Kind {
     Static,
     Dynamic,
 }
 
 // Places past a list's count are not read, nor a static law's after-list and its count.
-#[derive(Clone, Copy)]
+#[derive(Clone, Copy, Debug, PartialEq, Eq)]
 pub struct Law {
     pub kind: Kind,
     pub head: Head,
@@ -26,7 +26,7 @@ pub struct Law {
 }
 
 // The counts of a description and its horizon; its laws are lent beside it.
-#[derive(Clone, Copy)]
+#[derive(Clone, Copy, Debug, Default, PartialEq, Eq)]
 pub struct Description {
     pub fluents: usize,
     pub actions: usize,

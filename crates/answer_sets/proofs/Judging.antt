@@ -1,8 +1,12 @@
 -- The verdict and the answer, from what the searches found, in the order in which the code makes them.
 -- Assumes nothing.
-use mathlib.Core.Path.{◌≡◌, sym, ◌∙◌}
+use mathlib.Core.Path.{◌≡◌, sym, ◌∙◌, ap}
 use mathlib.Core.List.{List}
+use mathlib.Core.Option as found
 use mathlib.Core.Option.{none, some}
+use Rattle.std.specs.Prelude.{Result, Ok, Err}
+use Rattle.answer_sets.specs.declared.pending.Broken.{Broken}
+use Rattle.answer_sets.specs.Internal.{broken_by}
 use Prim.Native.Nat.{ℕ, ◌+◌, ◌-◌, ◌*◌, ◌≤◌}
 use native.Mathlib.Numerals.{add-one}
 use native.Mathlib.Omega.{arith}
@@ -66,3 +70,10 @@ module _ (Π : List Rule) (X Y : Lits) (k : ℕ) (is : Y ≡ rounds k Π X) wher
   -- so many rounds that the last one added nothing
   pub round-enough : (n : ℕ) → HeadsBelow (2 * n) Π → k ≡ 2 * n + 1 → Y ≡ rounds (2 * n) Π X
   round-enough n low e = is ∙ (rw (e, add-one (2 * n)) (rounds-settle (2 * n) Π X low))
+
+-- what an answer says of the search for a broken rule
+pub broken-at : {A : Type 0} {r : Result A Broken} {o : found.Option ℕ} {e : Broken} → broken_by r ≡ o → r ≡ Err e → o ≡ some e.rule
+broken-at is was = sym is ∙ ap broken_by was
+
+pub not-broken : {A : Type 0} {r : Result A Broken} {o : found.Option ℕ} {a : A} → broken_by r ≡ o → r ≡ Ok a → o ≡ none
+not-broken is was = sym is ∙ ap broken_by was

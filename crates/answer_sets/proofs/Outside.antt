@@ -4,30 +4,16 @@ use mathlib.Core.Path.{◌≡◌, refl}
 use mathlib.Core.Bool.{Bool, true, false, not, cond, ◌&&◌, and-false}
 use mathlib.Core.List.{List, [], ◌∷◌}
 use mathlib.Core.Logic.{◌≢◌}
-use Prim.Native.Nat.{ℕ, ◌+◌, ◌-◌, ◌≤◌, ◌<◌}
-use native.Mathlib.Numerals.{add-one}
+use Prim.Native.Nat.{ℕ, ◌-◌, ◌<◌}
 use native.Mathlib.Omega.{arith}
 use borrow.Author.Tests.{ltb-true}
 use lib.Dec.{ltb}
-use lib.ListN.{length, get_or, take, drop, length-drop, drop_of_length-le}
-use lib.Seq.{drop-cons}
+use lib.ListN.{length, get_or, take, drop}
 use Rattle.basics.specs.Search.{Each, all}
 use Rattle.basics.proofs.Tests.{and-iff, not_iff}
-use Rattle.basics.proofs.Loops.{to_the_end}
 use Rattle.logic_programs.specs.Literals.{Lits}
-use Rattle.logic_programs.specs.Words.{rule_size, rule_at}
+use Rattle.logic_programs.specs.Words.{rule_at}
 use Rattle.answer_sets.specs.Internal.{outside, waits_for, head_word_at, plain_at, Waiting}
-
--- the search for it, element by element
-module _ (Y : Lits) (cs : List ℕ) (i : ℕ) {R : ℕ} where
-  pub outside-stop : i < length cs → outside Y (drop i cs) ≡ R → Y (get_or cs i 0) ≡ false → get_or cs i 0 ≡ R
-  outside-stop h inv e = rw (drop-cons cs i 0 h, e) at inv
-
-  pub outside-go : i < length cs → outside Y (drop i cs) ≡ R → Y (get_or cs i 0) ≡ true → outside Y (drop (i + 1) cs) ≡ R
-  outside-go h inv e = rw (add-one i) (rw (drop-cons cs i 0 h, e) at inv)
-
-  pub outside-done : length cs ≤ i → outside Y (drop i cs) ≡ R → 65535 ≡ R
-  outside-done h inv = rw (drop_of_length-le cs {i = i} h) at inv
 
 -- where there is none, all are in the set; where there is one, not all are, nor in any other set without it
 none-outside : (Y : Lits) (cs : List ℕ) → Each (λ c. c < 2048) cs → outside Y cs ≡ 65535 → all Y cs ≡ true
@@ -106,13 +92,3 @@ module _ (ws : List ℕ) (s w : ℕ) (Y : Lits) (held : Waiting ws s w) where
 -- the words from the start of a rule on, as the code takes them
 abbrev pub words_from : List ℕ → ℕ → List ℕ
 words_from table s = take (length table - s) (drop s table)
-
-module _ (table : List ℕ) (s w : ℕ) (held : Waiting table s w) where
-  pub start-within : s ≤ length table
-  start-within = omega (arith, held.whole)
-
-  pub from-whole : rule_size (words_from table s) ≤ length (words_from table s)
-  from-whole = rw (to_the_end s table) (omega (arith, held.whole, length-drop s table))
-
-  pub from-head : get_or (words_from table s) 0 0 < 2048
-  from-head = rw (to_the_end s table) held.head

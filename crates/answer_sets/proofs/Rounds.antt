@@ -40,20 +40,6 @@ pub record Turned (table : List ℕ) (Y : Lits) (before : List ℕ) (n m count :
   pub same : (Z : Lits) → Subset Y Z → (c : ℕ)
       → (marked new c || heads table (take left starts ++ drop i (take count starts)) Z c) ≡ (Y c || heads table before Z c)
 
-pub turn-start : (table : List ℕ) (old starts waits : List ℕ) (count : ℕ) → length old ≡ 32 → EachWaiting table starts waits count
-    → Turned table (marked old) (take count starts) (length starts) (length waits) count old starts waits 0 0
-turn-start table old starts waits count size each = record {
-  packed = omega arith;
-  within = omega arith;
-  marks-size = size;
-  starts-size = refl;
-  waits-size = refl;
-  done = λ j l. absurd (omega arith);
-  ahead = λ j l h. each j h;
-  bodies = λ c. refl;
-  same = λ Z sub c. refl;
-}
-
 module _ (table : List ℕ) (Y : Lits) (before : List ℕ) (n m count : ℕ) (new starts waits : List ℕ) (left i : ℕ)
     (inv : Turned table Y before n m count new starts waits left i) (some-starts : count ≤ n) (some-waits : count ≤ m) where
   pub next : i < count → Waiting table (get_or starts i 0) (get_or waits i 0)
@@ -181,9 +167,6 @@ module _ (table : List ℕ) (Y : Lits) (before : List ℕ) (n m count : ℕ) (ne
       )
 
 -- two arrays of one length, nothing waited for in the second
-pub as_many : (n : ℕ) (starts waits : List ℕ) → starts ≡ replicate n 0 → waits ≡ replicate n 65535 → waits ≡ replicate (length starts) 65535
-as_many n starts waits s w = rw (s, length-replicate {A = ℕ} n 0) w
-
 -- after k rounds: for every set between the marks and X, what is marked and the rules that wait have the heads of the whole program
 pub record Reached (table : List ℕ) (X : Lits) (starts waits : List ℕ) (count : ℕ) (marks : List ℕ) (k : ℕ) : Type 0 where
   pub starts-room : count ≤ length starts

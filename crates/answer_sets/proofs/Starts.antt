@@ -55,23 +55,6 @@ pub record Scanned (table : List ℕ) (X : Lits) (n : ℕ) (starts rest : List �
   pub enough : (Z : Lits) → Subset Z X → (c : ℕ)
       → (heads table (take count starts) Z c || round (rules_of rest) X Z c) ≡ round (rules_of table) X Z c
 
-pub scan-start : (table : List ℕ) (X : Lits) (starts : List ℕ) → Sound table → Roomy table (length starts)
-    → Scanned table X (length starts) starts table 0 0 0
-scan-start table X starts s roomy = record {
-  behind = refl;
-  sound = s;
-  numbered = omega arith;
-  few = omega arith;
-  fits = omega arith;
-  low = omega arith;
-  high = omega arith;
-  size = refl;
-  roomy = roomy;
-  unbroken = refl;
-  waiting = λ j l. absurd (omega arith);
-  enough = λ Z sub c. refl;
-}
-
 literal-head : (X : Lits) (w : ℕ) → head_in (head_of w) X ≡ true → eqb w 65535 ≡ false
 literal-head X w e = false_of_not (eqb w 65535) (λ t. false≢true (rw t at e))
 

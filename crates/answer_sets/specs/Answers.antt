@@ -1,14 +1,20 @@
 -- What the engine's answers stand for.
 -- Assumes nothing.
-use Rattle.basics.specs.Replies.{Reply, refused, answered}
-use Rattle.answer_set_theory.specs.Verdicts.{Verdict, clash, broken, unfounded, passes}
-use Rattle.answer_sets.specs.declared.Answer.{Answer}
-use Rattle.answer_sets.specs.declared.Answer.TheVariants.{Refused, Clash, Broken, Unfounded, Passes}
+use Rattle.std.specs.Prelude.{Result}
+use Rattle.basics.specs.declared.Refusal.{Refusal}
+use Rattle.basics.specs.Replies.{Reply}
+use Rattle.basics.specs.Refusals.{reply_by}
+use Rattle.answer_set_theory.specs.Verdicts.{clash, broken, unfounded, passes}
+use Rattle.answer_set_theory.specs.Verdicts as definitions
+use Rattle.answer_sets.specs.declared.Verdict.{Verdict}
+use Rattle.answer_sets.specs.declared.Verdict.TheVariants.{Clash, Broken, Unfounded, Passes}
 
--- the number and the values that each case of the code's answer stands for
-abbrev pub reply_of : Answer → Reply Verdict
-reply_of (Refused number place) = refused number place
-reply_of (Clash atom) = answered (clash atom)
-reply_of (Broken rule) = answered (broken rule)
-reply_of (Unfounded code) = answered (unfounded code)
-reply_of Passes = answered passes
+-- the verdict that each case of the code's verdict stands for
+abbrev pub verdict_of : Verdict → definitions.Verdict
+verdict_of (Clash atom) = clash atom
+verdict_of (Broken rule) = broken rule
+verdict_of (Unfounded code) = unfounded code
+verdict_of Passes = passes
+
+abbrev pub reply_of : Result Verdict Refusal → Reply definitions.Verdict
+reply_of = reply_by verdict_of

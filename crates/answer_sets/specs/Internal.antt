@@ -2,6 +2,9 @@
 -- reader may pass it over.
 -- Assumes nothing.
 use Rattle.std.specs.Prelude.{◌≡◌, ◌⊎◌, false, not, cond, ◌&&◌, ◌||◌, List, [], ◌∷◌, ℕ, ◌+◌, ◌*◌, ◌≤◌, ◌<◌}
+use Rattle.std.proofs.Math.Option as found
+use Rattle.std.specs.Prelude.{Result, Ok, Err}
+use Rattle.answer_sets.specs.declared.pending.Broken.{Broken}
 use Rattle.std.specs.Prelude.{eqb, ltb, length, get_or, take, drop}
 use Rattle.basics.specs.Search.{Each, all}
 use Rattle.logic_programs.specs.Literals.{Lits}
@@ -63,3 +66,8 @@ pub record Made (ws : List ℕ) (Y : Lits) (before new after : List ℕ) : Type 
   pub size : length new ≡ 32
   pub added : (c : ℕ) → marked new c ≡ (Y c || heads ws before Y c)
   pub kept : (Z : Lits) → Subset Y Z → (c : ℕ) → (marked new c || heads ws after Z c) ≡ (Y c || heads ws before Z c)
+
+-- the rule that the code's answer says is broken
+abbrev pub broken_by : {A : Type 0} → Result A Broken → found.Option ℕ
+broken_by (Ok answer) = found.none
+broken_by (Err broken) = found.some broken.rule

@@ -1,16 +1,17 @@
 // The least set closed under the reduct's rules with literal heads, by rounds from 2,048 clear marks.
 ghost use Rattle.std.specs.Prelude.{◌≡◌, ◌≤◌, length, take, replicate};
+ghost use Rattle.std.specs.Result.{IfOk};
 ghost use Rattle.std.proofs.Math.Option.{none};
-ghost use Rattle.basics.specs.Search.{first, place_of};
+ghost use Rattle.basics.specs.Search.{first};
 ghost use Rattle.logic_programs.specs.Words.{rules_of, bad_rule};
 ghost use Rattle.literal_sets.specs.Marks.{marked};
 ghost use Rattle.answer_set_theory.specs.Verdicts.{is_broken};
 ghost use Rattle.answer_set_theory.specs.Derived.{Derived};
-ghost use Rattle.answer_sets.specs.Internal.{EachWaiting, Made, Roomy};
+ghost use Rattle.answer_sets.specs.Internal.{EachWaiting, Made, Roomy, broken_by};
 
-use crate::pending;
-use basics::Found;
+use crate::pending::{self, Broken};
 use literal_sets::marks;
+use rule_tables::table::Rule;
 
 // The marks after a round, and how many rules still wait.
 #[derive(Clone, Copy)]
@@ -38,95 +39,83 @@ fn round(
 {
     let mut new = old;
     let mut left: usize = 0;
-    let mut i: usize = 0;
-    while i < count {
+    for i in 0..count {
         let start = starts[i];
-        let rest = &table[start as usize..];
-        let wait = pending::waits_for(rest, waits[i], &old);
+        let rule = Rule {
+            words: &table[start as usize..],
+        };
+        let wait = pending::waits_for(rule, waits[i], &old);
         if wait == 65535 {
-            let head = rest[0] as usize;
-            new[head / 64] |= 1u64 << (head % 64);
+            let head = rule.head();
+            new[head / 64] |= 1 << (head % 64);
         } else {
             starts[left] = start;
             waits[left] = wait;
             left += 1;
         }
-        i += 1;
     }
-    Outcome {
-        marks: new,
-        left: left,
-    }
+    Outcome { marks: new, left }
 }
 
-// The lowest broken rule, if any; else the marks of the least closed set.
-#[derive(Clone, Copy)]
-pub(crate) struct Derivation {
-    pub(crate) broken: Found,
-    pub(crate) marks: [u64; 32],
-}
-
-// Where no rule is broken, rounds from clear marks until one adds nothing; one more than two for each atom are always enough. The two
-// arrays have room for every rule.
+// The lowest broken rule, if any; else, by rounds from clear marks until one adds nothing, the marks of the least closed set. One more
+// round than two for each atom are always enough. The two arrays have room for every rule.
 fn derive_in(
     table: &[u16],
     x: &[u64],
     atoms: usize,
     starts: &mut [u32],
     waits: &mut [u16],
-) -> Derivation
+) -> Result<[u64; 32], Broken>
     requires few_atoms { atoms ≤ 1024 }
     requires fitting { bad_rule atoms table.now ≡ none }
     requires roomy { Roomy table.now (length starts.old) }
     requires none_waits { waits.old ≡ replicate (length starts.old) 65535 }
-    ensures lowest_broken { place_of result.broken ≡ first (is_broken (marked x.now)) 0 (rules_of table.now) }
-    ensures derived { Derived atoms (rules_of table.now) (marked x.now) result.marks }
+    ensures lowest_broken { broken_by result ≡ first (is_broken (marked x.now)) 0 (rules_of table.now) }
+    ensures derived { IfOk result (λ least. Derived atoms (rules_of table.now) (marked x.now) least) }
 {
     let limit = 2 * atoms + 1;
     let mut marks = marks::clear();
-    let scan = pending::scan(table, x, starts);
-    let broken = scan.broken;
-    if let Found::At(rule) = broken {
-        return Derivation {
-            broken: Found::At(rule),
-            marks: marks,
-        };
-    }
-    let mut count = scan.count;
-    let mut k = 0;
-    while k < limit {
+    let mut count = pending::scan(table, x, starts)?;
+    for k in 0..limit {
         let next = round(table, marks, starts, waits, count);
-        let new = next.marks;
-        if marks::same(&new, &marks) {
-            return Derivation {
-                broken: Found::Nothing,
-                marks: marks,
-            };
+        if next.marks == marks {
+            return Ok(marks);
         }
-        marks = new;
+        marks = next.marks;
         count = next.left;
-        k += 1;
     }
-    Derivation {
-        broken: Found::Nothing,
-        marks: marks,
-    }
+    Ok(marks)
+}
+
+// The same with room for so many rules.
+fn derive_with_room<const RULES: usize>(
+    table: &[u16],
+    x: &[u64],
+    atoms: usize,
+) -> Result<[u64; 32], Broken>
+    requires few_atoms { atoms ≤ 1024 }
+    requires fitting { bad_rule atoms table.now ≡ none }
+    requires few_rules { RULES ≤ 4096 }
+    requires roomy { Roomy table.now RULES }
+    ensures lowest_broken { broken_by result ≡ first (is_broken (marked x.now)) 0 (rules_of table.now) }
+    ensures derived { IfOk result (λ least. Derived atoms (rules_of table.now) (marked x.now) least) }
+{
+    let mut starts = [0; RULES];
+    let mut waits = [65535; RULES];
+    derive_in(table, x, atoms, &mut starts, &mut waits)
 }
 
 // The lowest broken rule or the least closed set. A rule takes three words at least, so a short table needs little room; most recipes of
 // an editor are short.
-pub(crate) fn derive(table: &[u16], x: &[u64], atoms: usize) -> Derivation
+pub(crate) fn derive(table: &[u16], x: &[u64], atoms: usize) -> Result<[u64; 32], Broken>
     requires few_atoms { atoms ≤ 1024 }
     requires fitting { bad_rule atoms table.now ≡ none }
-    ensures lowest_broken { place_of result.broken ≡ first (is_broken (marked x.now)) 0 (rules_of table.now) }
-    ensures derived { Derived atoms (rules_of table.now) (marked x.now) result.marks }
+    ensures lowest_broken { broken_by result ≡ first (is_broken (marked x.now)) 0 (rules_of table.now) }
+    ensures derived { IfOk result (λ least. Derived atoms (rules_of table.now) (marked x.now) least) }
 {
     if table.len() <= 768 {
-        let mut starts = pending::few_starts();
-        let mut waits = pending::few_waits();
-        return derive_in(table, x, atoms, &mut starts, &mut waits);
+        derive_with_room::<256>(table, x, atoms)
+    } else {
+        derive_with_room::<4096>(table, x, atoms)
     }
-    let mut starts = pending::all_starts();
-    let mut waits = pending::all_waits();
-    derive_in(table, x, atoms, &mut starts, &mut waits)
 }

@@ -4,6 +4,6 @@ pub mod Parity
 pub mod Lists
 pub mod Loops
 pub mod Stored
-pub mod Tables
 pub mod Replies
+pub mod Results
 pub mod Pairs

@@ -1,3 +1,4 @@
 pub mod Search
 pub mod Replies
+pub mod Refusals
 pub mod Quoted

@@ -2,10 +2,6 @@
 -- Assumes nothing.
 use Rattle.std.proofs.Math.Option.{Option, none, some}
 use Rattle.std.specs.Prelude.{ℕ}
-use Rattle.basics.specs.declared.Found.{Found}
-use Rattle.basics.specs.declared.Found.TheVariants.{At, Nothing}
-use Rattle.basics.specs.declared.Tested.{Tested}
-use Rattle.basics.specs.declared.Tested.TheVariants.{Refused, Accepted}
 
 pub data Reply (A : Type 0) : Type 0 where
   refused : ℕ → ℕ → Reply A
@@ -21,19 +17,9 @@ abbrev pub or_refuse : {A : Type 0} → Option ℕ → ℕ → Reply A → Reply
 or_refuse (some place) number next = refused number place
 or_refuse none number next = next
 
--- what the code's answer to a search for something to refuse stands for: the refusal of that number at the place, or none
-abbrev pub refusal_of : ℕ → Found → Reply Unit
-refusal_of number (At place) = refused number place
-refusal_of number Nothing = answered tt
-
 -- the refusal of that number at the place that a search found, or none
 abbrev pub refusal : ℕ → Option ℕ → Reply Unit
 refusal number found = or_refuse found number (answered tt)
-
--- what the code's answer to several tests stands for
-abbrev pub tested_of : Tested → Reply Unit
-tested_of (Refused number place) = refused number place
-tested_of Accepted = answered tt
 
 -- the refusal by what was tested before, else what comes next
 abbrev pub unless_refused : {A B : Type 0} → Reply A → Reply B → Reply B

@@ -2,8 +2,6 @@
 -- Assumes nothing.
 use Rattle.std.specs.Prelude.{Bool, true, cond, ◌&&◌, List, [], ◌∷◌, ◌++◌, map, ℕ, zero, suc, ◌<◌}
 use Rattle.std.proofs.Math.Option.{Option, none, some}
-use Rattle.basics.specs.declared.Found.{Found}
-use Rattle.basics.specs.declared.Found.TheVariants.{At, Nothing}
 
 -- every element passes the test
 abbrev pub all : {A : Type 0} → (A → Bool) → List A → Bool
@@ -46,8 +44,3 @@ Lowest P n k = (k < n) × P k × ((j : ℕ) → j < k → P j → ⊥)
 -- no number below n has it
 abbrev pub Nowhere : (ℕ → Type 0) → ℕ → Type 0
 Nowhere P n = (i : ℕ) → i < n → P i → ⊥
-
--- the place that the code's answer names
-abbrev pub place_of : Found → Option ℕ
-place_of (At place) = some place
-place_of Nothing = none

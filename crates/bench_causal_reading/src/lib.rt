@@ -2,25 +2,34 @@
 // the reading of the values is made again.
 #![tactic(auto)]
 
-ghost use Rattle.std.specs.Prelude.{◌≡◌};
+ghost use Rattle.std.specs.Prelude.{◌≡◌, length};
 ghost use Rattle.causal_reading.specs.Readings.{reply_of, reading};
+ghost use Rattle.answer_codes.specs.Codes.{reply_code, causal_code};
 ghost use Rattle.huntyghai_theory.specs.Texts.{reading_of_input};
 
 use action_language::{Description, Law};
+use basics::Refusal;
 use causal_reading::Reading;
-use history_reader::HistoryAnswer;
 
 // The causal reading of values that are there already, made once and so many times again; the last answer.
-fn repeated(d: Description, laws: [Law; 64], values: &[u8], times: usize) -> Reading
-    ensures { reply_of result ≡ reading d laws 64 values.now }
+fn repeated(d: Description, laws: &[Law], values: &[u8], times: usize) -> Result<Reading, Refusal>
+    ensures { reply_of result ≡ reading d laws.now (length laws.now) values.now }
 {
-    let mut last = causal_reading::causal_reading(d, laws, 64, values);
-    let mut turn = 0;
-    while turn < times {
-        last = causal_reading::causal_reading(d, laws, 64, values);
-        turn += 1;
+    let mut last = causal_reading::causal_reading(d, laws, values);
+    for _ in 0..times {
+        last = causal_reading::causal_reading(d, laws, values);
     }
     last
+}
+
+// A whole input read once, and its history causally once and so many times again.
+fn read_repeatedly(input: &[u8], times: usize) -> Result<Reading, Refusal>
+    ensures { reply_code causal_code (reply_of result) ≡ reading_of_input input.now }
+{
+    let whole = inputs::read_input(input);
+    whole.answer?;
+    let values = &whole.values[..whole.atoms];
+    repeated(whole.description, &whole.laws, values, times)
 }
 
 // An input is read once, its history causally once and so many times again. The answer is that of the library's function on
@@ -29,16 +38,5 @@ fn repeated(d: Description, laws: [Law; 64], values: &[u8], times: usize) -> Rea
 pub extern "C" fn causal_times(input: &[u8], times: usize) -> u64
     ensures { result ≡ reading_of_input input.now }
 {
-    let whole = inputs::read_input(input);
-    let answer = whole.answer;
-    match answer {
-        HistoryAnswer::Refused(number, place) => answer_codes::number(number, place),
-        HistoryAnswer::Complete => {
-            let d = whole.description;
-            let laws = whole.laws;
-            let values = whole.values;
-            let atoms = whole.atoms;
-            answer_codes::of_reading(repeated(d, laws, &values[..atoms], times))
-        }
-    }
+    answer_codes::of(read_repeatedly(input, times))
 }

@@ -3,17 +3,17 @@
 use mathlib.Core.Path.{◌≡◌, refl, sym, ◌∙◌, ap}
 use mathlib.Core.List.{List}
 use mathlib.Core.Option.{Option, none, some}
-use Prim.Native.Nat.{ℕ, suc, ◌+◌, ◌-◌, ◌≤◌, ◌<◌}
+use Prim.Native.Nat.{ℕ, suc, ◌+◌, ◌-◌, ◌<◌}
 use native.Mathlib.Numerals.{add-one}
 use native.Mathlib.Omega.{arith}
 use Rattle.basics.specs.Search.{first, range}
-use Rattle.basics.specs.Replies.{answered, or_else}
+use Rattle.basics.specs.Replies.{or_else}
 use Rattle.action_language.specs.declared.Law.{Law}
 use Rattle.transitions.specs.Meaning.{Interpretation, state_at, action_at}
 use Rattle.causal_reading.specs.Verdicts.{Causal, contradicted, uncaused, path, step_verdict, steps_from}
 use Rattle.causal_reading.specs.declared.Reading.{Reading}
-use Rattle.causal_reading.specs.declared.Reading.TheVariants.{Refused, Contradicted, Uncaused, Path}
-use Rattle.causal_reading.specs.Readings.{reply_of}
+use Rattle.causal_reading.specs.declared.Reading.TheVariants.{Contradicted, Uncaused, Path}
+use Rattle.causal_reading.specs.Readings.{verdict_of}
 
 -- a verdict's fault, else what the next one says
 abbrev first_fault : Causal → Causal → Causal
@@ -22,16 +22,10 @@ first_fault (uncaused time fluent) next = uncaused time fluent
 first_fault path next = next
 
 -- a verdict that is a fault
-pub kept : (r : Reading) → (r ≡ Path → ⊥) → (x y : Causal) → reply_of r ≡ answered x
-    → reply_of r ≡ answered (first_fault x y)
-kept (Refused number place) h x y e = let z : ◌≡◌ {A = ℕ} 0 1 = cc in absurd (omega arith)
-kept (Contradicted time law) h x y e = let is : contradicted time law ≡ x = cc in rw (← is)
-kept (Uncaused time fluent) h x y e = let is : uncaused time fluent ≡ x = cc in rw (← is)
+pub kept : (r : Reading) → (r ≡ Path → ⊥) → (x y : Causal) → verdict_of r ≡ x → verdict_of r ≡ first_fault x y
+kept (Contradicted time law) h x y e = rw (← e)
+kept (Uncaused time fluent) h x y e = rw (← e)
 kept Path h x y e = absurd (h refl)
-
--- the verdict path
-pub explained : (r : Reading) → r ≡ Path → (x : Causal) → reply_of r ≡ answered x → path ≡ x
-explained r told x e = let q : answered path ≡ answered x = rw told at e in cc
 
 -- a step is explained, or its fault comes before all later ones
 pub then-step : (n : ℕ) (ls : List Law) (s a s' : Interpretation) (time : ℕ) (next : Causal)
@@ -61,14 +55,11 @@ module _ (n m : ℕ) (ls : List Law) (vs : List ℕ) (t T : ℕ) where
 
   module _ {R : Causal} where
     pub steps-stop : (r : Reading) → t < T → steps_from n m ls vs t (T - t) ≡ R → (r ≡ Path → ⊥)
-        → reply_of r ≡ answered here → reply_of r ≡ answered R
-    steps-stop r h inv fault e = kept r fault here _ e ∙ ap answered (sym (steps-cons h) ∙ inv)
+        → verdict_of r ≡ here → verdict_of r ≡ R
+    steps-stop r h inv fault e = kept r fault here _ e ∙ sym (steps-cons h) ∙ inv
 
-    pub steps-go : (r : Reading) → t < T → steps_from n m ls vs t (T - t) ≡ R → r ≡ Path → reply_of r ≡ answered here
+    pub steps-go : (r : Reading) → t < T → steps_from n m ls vs t (T - t) ≡ R → r ≡ Path → verdict_of r ≡ here
         → steps_from n m ls vs (t + 1) (T - (t + 1)) ≡ R
     steps-go r h inv told e =
         let rest = steps_from n m ls vs (suc t) (T - suc t) in
-        rw (add-one t) (ap (λ x. first_fault x rest) (explained r told here e) ∙ sym (steps-cons h) ∙ inv)
-
-    pub steps-done : T ≤ t → steps_from n m ls vs t (T - t) ≡ R → path ≡ R
-    steps-done h inv = let none_left : T - t ≡ 0 = omega arith in rw none_left at inv
+        rw (add-one t) (ap (λ x. first_fault x rest) (sym (ap verdict_of told) ∙ e) ∙ sym (steps-cons h) ∙ inv)

@@ -1,8 +1,10 @@
 -- What the causal reading answers to a description, laws of which some number is lent, and values.
 -- Assumes nothing.
-use Rattle.std.specs.Prelude.{Bool, not, ◌||◌, List, ℕ, eqb, length}
+use Rattle.std.specs.Prelude.{Bool, Result, not, ◌||◌, List, ℕ, eqb, length}
 use Rattle.basics.specs.Search.{first}
-use Rattle.basics.specs.Replies.{Reply, refused, answered, or_refuse}
+use Rattle.basics.specs.declared.Refusal.{Refusal}
+use Rattle.basics.specs.Replies.{Reply, answered, or_refuse}
+use Rattle.basics.specs.Refusals.{reply_by}
 use Rattle.action_language.specs.declared.Law.{Law}
 use Rattle.action_language.specs.declared.Description.{Description}
 use Rattle.action_language.specs.Laws.{laws_of}
@@ -10,14 +12,16 @@ use Rattle.action_language.specs.Atoms.{atom_count, wrong_length}
 use Rattle.action_language.specs.Acceptance.{bad_record, bad_horizon}
 use Rattle.causal_reading.specs.Verdicts.{Causal, contradicted, uncaused, path, causal_verdict}
 use Rattle.causal_reading.specs.declared.Reading.{Reading}
-use Rattle.causal_reading.specs.declared.Reading.TheVariants.{Refused, Contradicted, Uncaused, Path}
+use Rattle.causal_reading.specs.declared.Reading.TheVariants.{Contradicted, Uncaused, Path}
 
--- the number and the values that each case of the code's answer stands for
-abbrev pub reply_of : Reading → Reply Causal
-reply_of (Refused number place) = refused number place
-reply_of (Contradicted time law) = answered (contradicted time law)
-reply_of (Uncaused time fluent) = answered (uncaused time fluent)
-reply_of Path = answered path
+-- the verdict that the code's answer stands for
+abbrev pub verdict_of : Reading → Causal
+verdict_of (Contradicted time law) = contradicted time law
+verdict_of (Uncaused time fluent) = uncaused time fluent
+verdict_of Path = path
+
+abbrev pub reply_of : Result Reading Refusal → Reply Causal
+reply_of = reply_by verdict_of
 
 -- refusal 11, here for values 0 and 3 too
 abbrev pub not_one_value : ℕ → Bool

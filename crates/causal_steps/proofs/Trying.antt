@@ -9,21 +9,24 @@ use Prim.Native.Nat.{ℕ, suc, ◌+◌, ◌≤◌, ◌<◌}
 use native.Mathlib.Omega.{arith}
 use borrow.Author.Tests.{eqb-true}
 use lib.Dec.{eqb}
-use lib.ListN.{length, get_or, set, take, drop, replicate}
+use lib.ListN.{length, get_or, drop, replicate, drop_of_length-le}
+use lib.Seq.{drop-cons}
+use native.Mathlib.Numerals.{add-one}
 use Rattle.basics.specs.Search.{first, range}
 use Rattle.basics.proofs.Tests.{not-both, or-iff}
-use Rattle.basics.proofs.Loops.{rest-cons, rest-done, prefix-stop, prefix-go, prefix-done}
-use Rattle.basics.proofs.Stored.{get_d_replicate, get_d_set}
+use Rattle.basics.proofs.Loops.{first-stop, first-go, first_done}
+use Rattle.basics.proofs.Stored.{get_d_replicate}
 use Rattle.action_language.specs.declared.Head.{Head}
 use Rattle.action_language.specs.declared.Head.TheVariants.{Lit, False}
 use Rattle.action_language.specs.declared.Law.{Law}
+use Rattle.action_language.specs.Laws.{no_law}
 use Rattle.transitions.specs.Meaning.{Interpretation, satisfies, satisfies_head, caused}
 use Rattle.law_effects.specs.Applying.{applies_in_step, literal_in, head_is, some_cause, contradicts}
 use Rattle.causal_steps.specs.Marked.{before, marked_caused, MarksOf}
 use Rattle.law_effects.specs.Effects.{effect_of}
 use Rattle.causal_steps.specs.Internal.{is_cause, head_marked}
 use Rattle.law_effects.specs.declared.laws.Effect.{Effect}
-use Rattle.law_effects.specs.declared.laws.Effect.TheVariants.{Idle, Causes, Contradicts}
+use Rattle.law_effects.specs.declared.laws.Effect.TheVariants.{Causes, Contradicts}
 use Rattle.causal_steps.proofs.CausedHeads.{cause-iff-caused}
 
 -- a law that contradicts
@@ -57,21 +60,6 @@ caused-holds s' (Lit d) true c e = go (satisfies s' d) refl e
     go false held q = absurd (not-both q refl)
 caused-holds s' False true c e = absurd (not-both e refl)
 caused-holds s' h false c e = absurd (not-both e refl)
-
--- a law that causes nothing
-pub causes-nothing : (e : Effect) → ((d : ℕ) → e ≡ Causes d → ⊥) → (c : ℕ) → is_cause e c ≡ false
-causes-nothing Idle told c = refl
-causes-nothing (Causes d) told c = absurd (told d refl)
-causes-nothing Contradicts told c = refl
-
--- marks after a store
-pub stored : (marks : List Bool) (code : ℕ) → code < length marks → (c : ℕ)
-    → marked_caused (set marks code true) c ≡ (eqb code c || marked_caused marks c)
-stored marks code h c = get_d_set marks code true false h c ∙ go (eqb code c)
-  where
-    go : (b : Bool) → cond b true (marked_caused marks c) ≡ (b || marked_caused marks c)
-    go true = refl
-    go false = refl
 
 -- where nothing passes the test, nothing is left out
 pub before-none : {A : Type 0} (p : A → Bool) (k : ℕ) (xs : List A) → first p k xs ≡ none → before p xs ≡ xs
@@ -125,8 +113,8 @@ module _ (s' : Interpretation) (marks : List Bool) (held : (c : ℕ) → marked_
       same c e q false = refl
   known-agreeing False b true is told = absurd (not-both refl is)
 
--- The loop over the laws of a step: the first `end` of them are tried, which are the first `count`.
-module _ (n : ℕ) (s a s' : Interpretation) (ls : List Law) (count end : ℕ) where
+-- The loop over the laws of a step.
+module _ (n : ℕ) (s a s' : Interpretation) (ls : List Law) where
   abbrev applied : Law → Bool
   applied = applies_in_step n s a s'
 
@@ -137,38 +125,38 @@ module _ (n : ℕ) (s a s' : Interpretation) (ls : List Law) (count end : ℕ) w
   -- is all that is to be marked; and what is marked holds in the new state
   abbrev pub Ahead : ℕ → List Bool → Type 0
   Ahead i marks =
-      (first against i (drop i (take end ls)) ≡ first against 0 (take count ls))
-      × ((c : ℕ) → (marked_caused marks c || some_cause applied c (before against (drop i (take end ls))))
-      ≡ some_cause applied c (before against (take count ls)))
+      (first against i (drop i ls) ≡ first against 0 ls)
+      × ((c : ℕ) → (marked_caused marks c || some_cause applied c (before against (drop i ls)))
+      ≡ some_cause applied c (before against ls))
       × ((c : ℕ) → marked_caused marks c ≡ true → satisfies s' c ≡ true)
 
-  pub try-start : take end ls ≡ take count ls → (marks : List Bool) → marks ≡ replicate 256 false → Ahead 0 marks
-  try-start all marks is = (
-    rw all,
-    λ c. rw (is, get_d_replicate 256 c false, all),
+  pub try-start : (marks : List Bool) → marks ≡ replicate 256 false → Ahead 0 marks
+  try-start marks is = (
+    refl,
+    λ c. rw (is, get_d_replicate 256 c false),
     λ c e. absurd (not-both e (ap (λ l. marked_caused l c) is ∙ get_d_replicate 256 c false)),
   )
 
   module _ (i : ℕ) (d : Law) (marks : List Bool) (known : Bool) where
-    pub try-stop : i < end → end ≤ length ls → length marks ≡ 256 → Ahead i marks
+    pub try-stop : i < length ls → length marks ≡ 256 → Ahead i marks
         → (e : Effect) → e ≡ effect_of s' (get_or ls i d).head (not known && applied (get_or ls i d)) → e ≡ Contradicts
-        → (some i ≡ first against 0 (take count ls)) × MarksOf (caused n s a s' (before against (take count ls))) marks
-    try-stop h within size inv e is told =
+        → (some i ≡ first against 0 ls) × MarksOf (caused n s a s' (before against ls)) marks
+    try-stop h size inv e is told =
         let found = known-contradicting s' marks inv.2 (get_or ls i d).head (applied (get_or ls i d)) known (sym is ∙ told) in (
-          prefix-stop against ls end i d h within inv.0 found,
-          marks-caused n s a s' (before against (take count ls)) marks size
-              (λ c. sym (or-false (marked_caused marks c)) ∙ (rw (rest-cons ls end i d h within, found) at (inv.1 c))),
+          first-stop against ls i d h inv.0 found,
+          marks-caused n s a s' (before against ls) marks size
+              (λ c. sym (or-false (marked_caused marks c)) ∙ (rw (drop-cons ls i d h, found) at (inv.1 c))),
         )
 
-    pub try-go : i < end → end ≤ length ls → Ahead i marks → known ≡ head_marked marks (get_or ls i d).head
+    pub try-go : i < length ls → Ahead i marks → known ≡ head_marked marks (get_or ls i d).head
         → (e : Effect) → e ≡ effect_of s' (get_or ls i d).head (not known && applied (get_or ls i d)) → (e ≡ Contradicts → ⊥)
         → (next : List Bool) → ((c : ℕ) → marked_caused next c ≡ (is_cause e c || marked_caused marks c)) → Ahead (i + 1) next
-    try-go h within inv head-known e is told next marking =
+    try-go h inv head-known e is told next marking =
         let agrees = known-agreeing s' marks inv.2 (get_or ls i d).head (applied (get_or ls i d)) known head-known (λ q. told (is ∙ q)) in (
-          prefix-go against ls end i d h within inv.0 agrees.0,
-          λ c. rw (marking c, is, agrees.1 c)
+          first-go against ls i d h inv.0 agrees.0,
+          λ c. rw (marking c, is, agrees.1 c, add-one i)
               (exchange (applied (get_or ls i d) && head_is (get_or ls i d).head c) (marked_caused marks c) _
-              ∙ (rw (rest-cons ls end i d h within, agrees.0) at (inv.1 c))),
+              ∙ (rw (drop-cons ls i d h, agrees.0) at (inv.1 c))),
           λ c q. ⊎_elim (λ now. caused-holds s' (get_or ls i d).head (not known && applied (get_or ls i d)) c (rw is at now)) (inv.2 c)
               ((or-iff (is_cause e c) (marked_caused marks c)).0 (sym (marking c) ∙ q)),
         )
@@ -178,12 +166,12 @@ module _ (n : ℕ) (s a s' : Interpretation) (ls : List Law) (count end : ℕ) w
         exchange true false z = refl
         exchange false y z = refl
 
-  pub try-done : (i : ℕ) (marks : List Bool) → end ≤ i → length marks ≡ 256 → Ahead i marks
-      → (none ≡ first against 0 (take count ls)) × MarksOf (caused n s a s' (before against (take count ls))) marks
+  pub try-done : (i : ℕ) (marks : List Bool) → length ls ≤ i → length marks ≡ 256 → Ahead i marks
+      → (none ≡ first against 0 ls) × MarksOf (caused n s a s' (before against ls)) marks
   try-done i marks h size inv = (
-    prefix-done against ls end i h inv.0,
-    marks-caused n s a s' (before against (take count ls)) marks size
-        (λ c. sym (or-false (marked_caused marks c)) ∙ (rw (rest-done ls end i h) at (inv.1 c))),
+    first_done against ls i (no_law) h inv.0,
+    marks-caused n s a s' (before against ls) marks size
+        (λ c. sym (or-false (marked_caused marks c)) ∙ (rw (drop_of_length-le ls h) at (inv.1 c))),
   )
 
 -- where no law contradicts, the lowest fluent that is not marked is the lowest without a cause

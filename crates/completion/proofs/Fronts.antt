@@ -1,31 +1,30 @@
 -- The rule at the front of a table: its body, its head's mark, and its levels; and the marks of the heads, rule by rule.
 -- Assumes nothing.
 use mathlib.Core.Path.{◌≡◌, refl, sym, ap, ◌∙◌}
-use mathlib.Core.Bool.{Bool, true, false, cond, not, ◌&&◌, ◌||◌, and-false, beq}
+use mathlib.Core.Bool.{Bool, true, false, cond, not, ◌&&◌, ◌||◌, and-false}
 use mathlib.Core.List.{List}
 use mathlib.Core.Logic.{◌⊎◌, inl, inr}
-use mathlib.Core.Option.{none, some}
-use Prim.Native.Nat.{ℕ, ◌≤◌, ◌<◌}
+use Prim.Native.Nat.{ℕ, ◌<◌}
 use native.Mathlib.Omega.{arith}
-use borrow.Author.Tests.{lt-ltb, le-ltb, eqb-true, eqb-false, eq-eqb, ne_eqb}
+use borrow.Author.Tests.{eqb-true, eqb-false, eq-eqb, ne_eqb}
 use lib.Dec.{eqb}
 use lib.ListN.{length, get_or, drop, set, length-set}
-use Rattle.basics.specs.Search.{Each, all}
+use Rattle.basics.specs.Search.{all}
 use Rattle.basics.proofs.Loops.{and-stop, and-go}
 use Rattle.basics.proofs.Stored.{get_d_set}
-use Rattle.logic_programs.specs.Literals.{Lits}
+use Rattle.logic_programs.specs.Literals.{Lits, complement}
 use Rattle.logic_programs.specs.Rules.{lit, falsum}
 use Rattle.logic_programs.specs.Words.{head_of, rule_size, rule_at, rules_of}
 use Rattle.rule_tables.specs.Internal.{Sound}
 use Rattle.rule_tables.proofs.Walking.{rules-front, sound-head}
-use Rattle.completion_theory.specs.Findings.{body_holds, same_head, differ}
+use Rattle.completion_theory.specs.Findings.{body_holds, same_head}
 use Rattle.completion_theory.specs.LevelLists.{is_below, level_of, stands_above}
-use Rattle.completion.specs.Internal.{marked_head, read_as, mark_of, head_of_mark, held_at, failing_false, PlainBelow}
+use Rattle.completion.specs.Internal.{marked_head, mark_of, head_of_mark, held_at}
 
 -- a body: first its negated parts are looked at, then its plain ones
-module _ (X : Lits) (ws : List ℕ) (r : Bool) (is : r ≡ all (λ c. X (read_as true c)) (rule_at ws).negated) where
-  pub holds-stop : r ≡ false → false ≡ body_holds X (rule_at ws)
-  holds-stop e = and-stop r (all X (rule_at ws).plain) is (ap not e)
+module _ (X : Lits) (ws : List ℕ) (r : Bool) (is : r ≡ all (λ c. X (complement c)) (rule_at ws).negated) where
+  pub holds-stop : r ≡ false → r ≡ body_holds X (rule_at ws)
+  holds-stop e = e ∙ and-stop r (all X (rule_at ws).plain) is (ap not e)
 
   pub holds-go : (q : Bool) → r ≡ true → q ≡ all X (rule_at ws).plain → q ≡ body_holds X (rule_at ws)
   holds-go q e plain = and-go r q is (ap not e) plain
@@ -104,42 +103,8 @@ module _ (ws : List ℕ) (h : 0 < length ws) (s : Sound ws) where
     λ k. rw w.1 (held-idle X old k (inv k) (sym is ∙ w.0)),
   )
 
--- a literal fails where its two tests differ
-pub differs : (a b p q : Bool) → a ≡ p → b ≡ q → not (beq a b) ≡ differ p q
-differs a b p q e f = rw (e, f) (cases p q)
-  where
-    cases : (p q : Bool) → not (beq p q) ≡ differ p q
-    cases true true = refl
-    cases true false = refl
-    cases false true = refl
-    cases false false = refl
-
--- the formula of false fails where its mark is set
-module _ (held : Lits) (r : Bool) (is : r ≡ held 2048) where
-  pub false-found : r ≡ true → some 65535 ≡ failing_false held
-  false-found e = rw (sym is ∙ e)
-
-  pub false-absent : r ≡ false → none ≡ failing_false held
-  false-absent e = rw (sym is ∙ e)
-
--- a part's level, which is that of its code, is below another or is not
-module _ (levels : List ℕ) (top part c : ℕ) (is : part ≡ level_of levels c) where
-  pub not-below : top ≤ part → is_below levels top c ≡ false
-  not-below h = le-ltb (level_of levels c) top (omega arith)
-
-  pub below : part < top → is_below levels top c ≡ true
-  below h = lt-ltb (level_of levels c) top (omega arith)
-
--- the plain parts of the rule at the front, and of those behind it
-pub plain-front : (N : ℕ) (ws : List ℕ) → 0 < length ws → PlainBelow N ws
-    → Each (λ c. c < N) (rule_at ws).plain × PlainBelow N (drop (rule_size ws) ws)
-plain-front N ws h have = rw (rules-front ws h) at have
-
 -- the head at the front stands above the plain parts
 module _ (levels ws : List ℕ) where
-  pub false-above : get_or ws 0 0 ≡ 65535 → true ≡ stands_above levels (rule_at ws)
-  false-above e = rw (eq-eqb (get_or ws 0 0) 65535 e)
-
   pub literal-above : (top : ℕ) (r : Bool) → (get_or ws 0 0 ≡ 65535 → ⊥) → top ≡ level_of levels (get_or ws 0 0)
       → r ≡ all (is_below levels top) (rule_at ws).plain → r ≡ stands_above levels (rule_at ws)
   literal-above top r literal is parts = rw (ne_eqb (get_or ws 0 0) 65535 literal) (rw is at parts)

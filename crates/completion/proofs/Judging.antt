@@ -6,8 +6,7 @@ use mathlib.Core.List.{List, [], ◌∷◌}
 use mathlib.Core.Option.{Option, none, some}
 use Prim.Native.Nat.{ℕ, suc, ◌*◌, ◌≤◌, ◌<◌}
 use native.Mathlib.Omega.{arith}
-use borrow.Author.Tests.{eqb-true, ne_eqb}
-use lib.Dec.{eqb}
+use borrow.Author.Tests.{ne_eqb}
 use lib.ListN.{length}
 use Rattle.basics.specs.Search.{Each, first, range}
 use Rattle.basics.proofs.Tests.{range-lowest}
@@ -92,9 +91,3 @@ module _ (n : ℕ) (ws levels : List ℕ) where
   says-rules e is = rw e is
 
 -- where the count is right
-pub as_many : (n : ℕ) (levels : List ℕ) → wrong_count n levels ≡ none → length levels ≡ 2 * n
-as_many n levels e = go (eqb (length levels) (2 * n)) refl e
-  where
-    go : (b : Bool) → eqb (length levels) (2 * n) ≡ b → cond {A = Option ℕ} b none (some 65535) ≡ none → length levels ≡ 2 * n
-    go true t h = eqb-true (length levels) (2 * n) t
-    go false f h = absurd (let z : ◌≡◌ {A = ℕ} 0 1 = cc in omega arith)

@@ -3,17 +3,14 @@
 use mathlib.Core.Path.{◌≡◌}
 use mathlib.Core.List.{List}
 use mathlib.Core.Option.{none, some}
-use Prim.Native.Nat.{ℕ, ◌*◌, ◌≤◌}
+use Prim.Native.Nat.{ℕ, ◌≤◌}
 use lib.ListN.{length}
 use Rattle.basics.specs.Replies.{Reply, refused, answered, or_refuse}
-use Rattle.basics.proofs.Tests.{each_map}
-use Rattle.logic_programs.specs.Words.{rules_of, bad_rule}
+use Rattle.logic_programs.specs.Words.{bad_rule}
 use Rattle.rule_tables.specs.Acceptance.{tested, Accepted}
 use Rattle.rule_tables.specs.Internal.{Sound}
 use Rattle.rule_tables.proofs.Testing.{few-values, still-refused, accepts, comes-next}
 use Rattle.rule_tables.proofs.Walking.{accepted-sound}
-use Rattle.answer_set_theory.proofs.Decoding.{accepted-below}
-use Rattle.completion.specs.Internal.{PlainBelow}
 use Rattle.completion_theory.specs.Findings.{FormulaFinding, formula_finding}
 use Rattle.completion_theory.specs.LevelLists.{bad_levels}
 use Rattle.completion_theory.specs.Answers.{answer, answer_by_levels}
@@ -48,8 +45,7 @@ module _ (vs ws : List ℕ) where
   pub judge-ready : answered tt ≡ tested vs ws → (length vs ≤ 1024) × (bad_rule (length vs) ws ≡ none)
   judge-ready e = let accepted = accepts vs ws e in (few-values vs accepted.0, accepted.2)
 
-  pub levels-ready : answered tt ≡ tested vs ws → (length vs ≤ 1024) × (Sound ws × PlainBelow (2 * length vs) ws)
+  pub levels-ready : answered tt ≡ tested vs ws → (length vs ≤ 1024) × Sound ws
   levels-ready e =
       let ready = judge-ready e in
-      let plain = each_map (λ r below. below.2) (rules_of ws) (accepted-below (length vs) ws ready.1) in
-      (ready.0, (accepted-sound (length vs) ws ready.0 ready.1, plain))
+      (ready.0, accepted-sound (length vs) ws ready.0 ready.1)

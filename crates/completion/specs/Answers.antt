@@ -1,15 +1,20 @@
 -- What the code's answers stand for.
 -- Assumes nothing.
-use Rattle.basics.specs.Replies.{Reply, refused, answered}
+use Rattle.std.specs.Prelude.{Result}
+use Rattle.basics.specs.declared.Refusal.{Refusal}
+use Rattle.basics.specs.Replies.{Reply}
+use Rattle.basics.specs.Refusals.{reply_by}
 use Rattle.logic_programs.specs.Words.{head_of}
 use Rattle.completion_theory.specs.Findings.{FormulaFinding, missing, clash, fails, holds}
-use Rattle.completion.specs.declared.Answer.{Answer}
-use Rattle.completion.specs.declared.Answer.TheVariants.{Refused, Missing, Clash, Fails, Holds}
+use Rattle.completion.specs.declared.Finding.{Finding}
+use Rattle.completion.specs.declared.Finding.TheVariants.{Missing, Clash, Fails, Holds}
 
--- the number and the values that each case of the code's answer stands for; what fails is given by its head word
-abbrev pub reply_of : Answer → Reply FormulaFinding
-reply_of (Refused number place) = refused number place
-reply_of (Missing atom) = answered (missing atom)
-reply_of (Clash atom) = answered (clash atom)
-reply_of (Fails word) = answered (fails (head_of word))
-reply_of Holds = answered holds
+-- the finding that each case of the code's finding stands for; what fails is given by its head word
+abbrev pub finding_of : Finding → FormulaFinding
+finding_of (Missing atom) = missing atom
+finding_of (Clash atom) = clash atom
+finding_of (Fails word) = fails (head_of word)
+finding_of Holds = holds
+
+abbrev pub reply_of : Result Finding Refusal → Reply FormulaFinding
+reply_of = reply_by finding_of

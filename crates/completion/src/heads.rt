@@ -1,54 +1,48 @@
 // The heads that have a body that holds, as marks: one for each literal code, and one behind them for false.
 ghost use Rattle.std.specs.Prelude.{◌≡◌, false, ◌*◌, ◌≤◌, ◌<◌, length, replicate};
-ghost use Rattle.basics.specs.Search.{all, first, range, place_of};
-ghost use Rattle.logic_programs.specs.Literals.{set_of};
+ghost use Rattle.basics.specs.Search.{all, first, range};
+ghost use Rattle.basics.specs.Refusals.{place_of};
+ghost use Rattle.logic_programs.specs.Literals.{set_of, complement};
 ghost use Rattle.logic_programs.specs.Words.{rule_size, rule_at, rules_of};
 ghost use Rattle.rule_tables.specs.Internal.{Sound};
 ghost use Rattle.completion_theory.specs.Findings.{body_holds, differ};
-ghost use Rattle.completion.specs.Internal.{read_as, mark_of, marked_head, held_at, failing_false};
+ghost use Rattle.completion.specs.Internal.{mark_of, marked_head, held_at, failing_false};
 
-use basics::Found;
 use literal_sets::values;
-use rule_tables::table;
+use rule_tables::table::{self, Rule};
 
-// The literal that a part of a body asks for: a plain part itself, a negated part's complement.
-fn read_as(part: usize, negated: bool) -> usize
-    requires { part < 65536 }
-    ensures { result ≡ read_as negated part }
+// The literal complementary to another.
+#[tactic(auto, unfolding(logic_programs::specs::Literals::complement))]
+fn complement(code: usize) -> usize
+    requires { code < 65536 }
+    ensures { result ≡ complement code }
 {
-    if !negated {
-        return part;
-    }
-    if part % 2 == 0 {
-        return part + 1;
-    }
-    part - 1
+    if code % 2 == 0 { code + 1 } else { code - 1 }
 }
 
-// Whether the literal that each part asks for is in the set.
-fn parts_hold(parts: &[u16], values: &[u8], negated: bool) -> bool
-    ensures { result ≡ all (λ c. set_of values.now (read_as negated c)) parts.now }
+// Whether each part is in the set.
+fn parts_hold(parts: &[u16], values: &[u8]) -> bool
+    ensures { result ≡ all (set_of values.now) parts.now }
 {
-    let mut i = 0;
-    while i < parts.len() {
-        let asked = read_as(parts[i] as usize, negated);
-        if !values::has(values, asked) {
-            return false;
-        }
-        i += 1;
-    }
-    true
+    parts
+        .iter()
+        .all(|part| values::has(values, usize::from(*part)))
 }
 
-// Whether the body of the rule at the front holds.
-fn body_holds(rest: &[u16], values: &[u8]) -> bool
-    requires { rule_size rest.now ≤ length rest.now }
-    ensures { result ≡ body_holds (set_of values.now) (rule_at rest.now) }
+// Whether the complement of each part is.
+fn complements_hold(parts: &[u16], values: &[u8]) -> bool
+    ensures { result ≡ all (λ c. set_of values.now (complement c)) parts.now }
 {
-    if !parts_hold(table::negated_parts(rest), values, true) {
-        return false;
-    }
-    parts_hold(table::plain_parts(rest), values, false)
+    parts
+        .iter()
+        .all(|part| values::has(values, complement(usize::from(*part))))
+}
+
+// Whether the body of a rule holds.
+fn body_holds(rule: Rule, values: &[u8]) -> bool
+    ensures { result ≡ body_holds (set_of values.now) (rule_at rule.entry.words.now) }
+{
+    complements_hold(rule.negated(), values) && parts_hold(rule.plain(), values)
 }
 
 // 2,049 marks, all clear.
@@ -62,20 +56,14 @@ fn no_heads() -> [bool; 2049]
 fn mark_of(head: usize) -> usize
     ensures { result ≡ mark_of head }
 {
-    if head == 65535 {
-        return 2048;
-    }
-    head
+    if head == 65535 { 2048 } else { head }
 }
 
 // Whether a mark is set; past the last none is.
 fn is_held(held: &[bool], mark: usize) -> bool
     ensures { result ≡ marked_head held.now mark }
 {
-    if mark < held.len() {
-        return held[mark];
-    }
-    false
+    held.get(mark).copied().unwrap_or(false)
 }
 
 // The heads of the rules whose bodies hold. A mark is a byte here: it is set once for each rule and asked once, and setting a bit would
@@ -86,9 +74,10 @@ pub(crate) fn held_heads(table: &[u16], values: &[u8]) -> [bool; 2049]
 {
     let mut held = no_heads();
     let mut rest = table;
-    while 0 < rest.len() {
-        let mark = mark_of(rest[0] as usize);
-        if body_holds(rest, values) {
+    while !rest.is_empty() {
+        let rule = Rule { words: rest };
+        let mark = mark_of(rule.head());
+        if body_holds(rule, values) {
             held[mark] = true;
         }
         let size = table::rule_size(rest);
@@ -105,26 +94,26 @@ fn literal_fails(values: &[u8], held: &[bool], code: usize) -> bool
 }
 
 // The lowest literal whose formula fails.
-pub(crate) fn first_failing(values: &[u8], held: &[bool]) -> Found
+pub(crate) fn first_failing(values: &[u8], held: &[bool]) -> Option<usize>
     requires { length values.now ≤ 1024 }
     ensures { place_of result ≡ first (λ c. differ (set_of values.now c) (marked_head held.now c))
         0 (range 0 (2 * length values.now)) }
 {
-    let codes = 2 * values.len();
-    for code in 0..codes {
+    for code in 0..2 * values.len() {
         if literal_fails(values, held, code) {
-            return Found::At(code);
+            return Some(code);
         }
     }
-    Found::Nothing
+    None
 }
 
 // The head word of false, if the formula of false fails.
-pub(crate) fn false_failing(held: &[bool]) -> Found
+pub(crate) fn false_failing(held: &[bool]) -> Option<usize>
     ensures { place_of result ≡ failing_false (marked_head held.now) }
 {
     if is_held(held, 2048) {
-        return Found::At(65535);
+        Some(65535)
+    } else {
+        None
     }
-    Found::Nothing
 }

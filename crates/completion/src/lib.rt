@@ -8,23 +8,21 @@ mod levels;
 
 ghost use Rattle.std.specs.Prelude.{◌≡◌, ◌≤◌, length};
 ghost use Rattle.std.proofs.Math.Option.{none};
-ghost use Rattle.basics.specs.Replies.{answered};
 ghost use Rattle.logic_programs.specs.Literals.{set_of};
 ghost use Rattle.logic_programs.specs.Words.{rules_of, bad_rule};
 ghost use Rattle.completion_theory.specs.Findings.{judged_by_formulas, formula_finding};
 ghost use Rattle.completion_theory.specs.Answers.{answer, answer_by_levels};
-ghost use Rattle.completion.specs.Answers.{reply_of};
+ghost use Rattle.completion.specs.Answers.{finding_of, reply_of};
 ghost use Rattle.completion_theory.specs.Meaning.{SaysFormulas, SaysLevels};
 
-use basics::{Found, Tested};
-use literal_sets::values::Fault;
+use basics::Refusal;
+use literal_sets::values::{self, Fault};
 use rule_tables::acceptance;
 
-// A refusal's number and place; or missing or clash with the lowest atom that has no value or both; or the head word of the first
-// formula that fails, which is a literal's code, or 65535 for false, which comes last.
-#[derive(Clone, Copy)]
-pub enum Answer {
-    Refused(u8, usize),
+// Missing or clash with the lowest atom that has no value or both; or the head word of the first formula that fails, which is a literal's
+// code, or 65535 for false, which comes last.
+#[derive(Clone, Copy, Debug, PartialEq, Eq)]
+pub enum Finding {
     Missing(usize),
     Clash(usize),
     Fails(usize),
@@ -32,61 +30,49 @@ pub enum Answer {
 }
 
 // What the formulas say of accepted values and an accepted table.
-fn judge_formulas(values: &[u8], table: &[u16]) -> Answer
+fn judge_formulas(values: &[u8], table: &[u16]) -> Finding
     requires few_values { length values.now ≤ 1024 }
     requires rules_fit { bad_rule (length values.now) table.now ≡ none }
-    ensures { reply_of result ≡ answered
-        (judged_by_formulas (length values.now) (rules_of table.now) (set_of values.now)) }
+    ensures { finding_of result ≡ judged_by_formulas (length values.now) (rules_of table.now) (set_of values.now) }
 {
     let held = heads::held_heads(table, values);
-    if let Found::At(word) = heads::first_failing(values, &held) {
-        return Answer::Fails(word);
+    if let Some(word) = heads::first_failing(values, &held) {
+        return Finding::Fails(word);
     }
-    if let Found::At(word) = heads::false_failing(&held) {
-        return Answer::Fails(word);
+    if let Some(word) = heads::false_failing(&held) {
+        return Finding::Fails(word);
     }
-    Answer::Holds
+    Finding::Holds
 }
 
 // What is found of accepted values and an accepted table.
-fn judge(values: &[u8], table: &[u16]) -> Answer
+fn judge(values: &[u8], table: &[u16]) -> Finding
     requires few_values { length values.now ≤ 1024 }
     requires rules_fit { bad_rule (length values.now) table.now ≡ none }
-    ensures { reply_of result ≡ answered (formula_finding values.now table.now) }
+    ensures { finding_of result ≡ formula_finding values.now table.now }
 {
-    let fault = literal_sets::values::first_fault(values);
-    match fault {
-        Fault::Missing(atom) => Answer::Missing(atom),
-        Fault::Clash(atom) => Answer::Clash(atom),
-        Fault::Neither => judge_formulas(values, table),
+    match values::first_fault(values) {
+        Some(Fault::Missing(atom)) => Finding::Missing(atom),
+        Some(Fault::Clash(atom)) => Finding::Clash(atom),
+        None => judge_formulas(values, table),
     }
 }
 
-// The answer to value bytes, one an atom, and the words of a rule table. Nothing that is lent changes.
-pub fn check_completion(values: &[u8], table: &[u16]) -> Answer
+// The answer to value bytes, one an atom, and the words of a rule table: a refusal, or what is found. Nothing that is lent changes.
+pub fn check_completion(values: &[u8], table: &[u16]) -> Result<Finding, Refusal>
     ensures answers { reply_of result ≡ answer values.now table.now }
     ensures by_formulas { SaysFormulas values.now table.now (reply_of result) }
 {
-    let result = acceptance::test(values, table);
-    match result {
-        Tested::Refused(number, place) => Answer::Refused(number, place),
-        Tested::Accepted => judge(values, table),
-    }
+    acceptance::test(values, table)?;
+    Ok(judge(values, table))
 }
 
 // The same with a level for each literal code, which show that the table is tight: then it holds exactly if the engine passes.
-pub fn check_by_levels(values: &[u8], table: &[u16], levels: &[u16]) -> Answer
+pub fn check_by_levels(values: &[u8], table: &[u16], levels: &[u16]) -> Result<Finding, Refusal>
     ensures answers { reply_of result ≡ answer_by_levels values.now table.now levels.now }
     ensures by_levels { SaysLevels values.now table.now levels.now (reply_of result) }
 {
-    let result = acceptance::test(values, table);
-    match result {
-        Tested::Refused(number, place) => Answer::Refused(number, place),
-        Tested::Accepted => {
-            if let Found::At(place) = levels::bad_levels(table, levels, values.len()) {
-                return Answer::Refused(13, place);
-            }
-            judge(values, table)
-        }
-    }
+    acceptance::test(values, table)?;
+    levels::check_levels(table, levels, values.len())?;
+    Ok(judge(values, table))
 }

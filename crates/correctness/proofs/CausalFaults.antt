@@ -12,6 +12,8 @@ use lib.Dec.{ltb}
 use lib.ListN.{length, get_or}
 use borrow.Author.Tests.{ltb-true, ltb-false}
 use Rattle.basics.specs.Search.{first, range, Lowest, Nowhere}
+use Rattle.std.specs.Prelude.{Result}
+use Rattle.basics.specs.declared.Refusal.{Refusal}
 use Rattle.basics.specs.Replies.{Reply, answered, or_else}
 use Rattle.basics.proofs.Tests.{true-or-false, not-both, false_of_not, and-iff, not_iff, first-lowest, first-nowhere}
 use Rattle.basics.proofs.Tests.{range-lowest, range-nowhere}
@@ -242,7 +244,7 @@ causal-faults d ls lent vs complete =
     rw (read-verdict d ls lent vs complete) (fault-named d.fluents d.actions d.horizon (laws_of d ls) vs)
 
 -- of an answer that the reading gives
-pub names-fault : (d : Description) (ls : List Law) (lent : ℕ) (vs : List ℕ) (r : Reading) → causal.reply_of r ≡ causal.reading d ls lent vs
-    → NamesFault d ls lent vs r
+pub names-fault : (d : Description) (ls : List Law) (lent : ℕ) (vs : List ℕ) (r : Result Reading Refusal)
+    → causal.reply_of r ≡ causal.reading d ls lent vs → NamesFault d ls lent vs r
 unfolding NamesFault
 names-fault d ls lent vs r e complete = rw e (causal-faults d ls lent vs complete)

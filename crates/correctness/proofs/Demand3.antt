@@ -15,6 +15,8 @@ use lib.Dec.{eqb, ltb}
 use lib.ListN.{length, take, drop}
 use lib.Seq.{take-append_seam}
 use Rattle.basics.specs.Search.{Each, first}
+use Rattle.std.specs.Prelude.{Result}
+use Rattle.basics.specs.declared.Refusal.{Refusal}
 use Rattle.basics.specs.Replies.{Reply, refused, answered}
 use Rattle.basics.proofs.Tests.{or-iff, each_map}
 use Rattle.basics.proofs.Lists.{each-iff, none-iff}
@@ -36,7 +38,7 @@ use Rattle.action_language.proofs.Laws.{accepted-law}
 use Rattle.translation_rules.specs.Translated.{written, rules_for, table_for, outcome, table_after}
 use Rattle.translation_rules.proofs.Outcomes.{accepted-written, accepted-short, written-left}
 use Rattle.translation_bounds.proofs.Tables.{engine-accepts, table-decoded}
-use Rattle.history_check.specs.declared.Checked.{Checked}
+use Rattle.history_check.specs.declared.Finding.{Finding}
 use Rattle.history_check.specs.Checks as history
 use Rattle.causal_reading.specs.declared.Reading.{Reading}
 use Rattle.causal_reading.specs.Verdicts.{path, causal_verdict}
@@ -171,7 +173,7 @@ module _ (d : Description) (ls : List Law) (lent : ℕ) where
   translates-exactly old new e vs complete enough =
       let five = demand-3 d ls lent vs complete in (rw e (five.engine-passes old enough), rw e (five.completion-holds old enough))
 
-  pub passes-exactly : (vs : List ℕ) (room : ℕ) (r : Checked) → history.reply_of r ≡ history.checked d ls lent vs room
+  pub passes-exactly : (vs : List ℕ) (room : ℕ) (r : Result Finding Refusal) → history.reply_of r ≡ history.checked d ls lent vs room
       → PassesExactly d ls lent vs room r
   unfolding PassesExactly
   passes-exactly vs room r e complete enough =
@@ -180,6 +182,7 @@ module _ (d : Description) (ls : List Law) (lent : ℕ) where
       by-path : history.checked d ls lent vs room ≡ answered (history.judged passes) ↔ PathOf d ls vs
       by-path = (demand-3 d ls lent vs complete).history-passes room enough
 
-  pub path-exactly : (vs : List ℕ) (r : Reading) → causal.reply_of r ≡ causal.reading d ls lent vs → PathExactly d ls lent vs r
+  pub path-exactly : (vs : List ℕ) (r : Result Reading Refusal)
+      → causal.reply_of r ≡ causal.reading d ls lent vs → PathExactly d ls lent vs r
   unfolding PathExactly
   path-exactly vs r e complete = rw e (demand-3 d ls lent vs complete).causal-path

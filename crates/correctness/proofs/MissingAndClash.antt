@@ -13,6 +13,8 @@ use borrow.Author.Tests.{eqb-true, eq-eqb, le-ltb}
 use lib.Dec.{eqb, ltb}
 use lib.ListN.{length, get_or}
 use Rattle.basics.specs.Search.{Lowest}
+use Rattle.std.specs.Prelude.{Result}
+use Rattle.basics.specs.declared.Refusal.{Refusal}
 use Rattle.basics.specs.Replies.{Reply, refused, answered}
 use Rattle.basics.proofs.Tests.{or-iff, each_map}
 use Rattle.basics.proofs.Lists.{none-iff}
@@ -34,7 +36,7 @@ use Rattle.action_language.specs.Atoms.{atom_count}
 use Rattle.translation_rules.specs.Translated.{written, rules_for, table_for, outcome}
 use Rattle.translation_rules.proofs.Outcomes.{accepted-written}
 use Rattle.translation_bounds.proofs.Tables.{few-atoms, engine-accepts}
-use Rattle.history_check.specs.declared.Checked.{Checked}
+use Rattle.history_check.specs.declared.Finding.{Finding}
 use Rattle.history_check.specs.Checks as history
 use Rattle.correctness.specs.MissingAndClash.{ByValues, MissingAndClash}
 use Rattle.correctness.specs.Promises.{NothingRefused, SaysByValues}
@@ -134,7 +136,7 @@ module _ (d : Description) (ls : List Law) (lent : ℕ) (vs : List ℕ) (room : 
       rw is_found
       (missing-and-clash vs (table_for d ls) (engine-accepts d ls lent room is-written vs taken.size bytes)).by_values
 
-pub says-by-values : (d : Description) (ls : List Law) (lent : ℕ) (vs : List ℕ) (room : ℕ) (r : Checked)
+pub says-by-values : (d : Description) (ls : List Law) (lent : ℕ) (vs : List ℕ) (room : ℕ) (r : Result Finding Refusal)
     → history.reply_of r ≡ history.checked d ls lent vs room → SaysByValues d ls lent vs room r
 unfolding SaysByValues
 says-by-values d ls lent vs room r e taken = rw e (by_values d ls lent vs room taken)

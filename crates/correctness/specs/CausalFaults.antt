@@ -1,9 +1,10 @@
 -- Which fault the causal reading names (01, "The causal reading"), in the words of the meaning of C: the fault of the first time
 -- that has one, contradicted with the lowest law, else uncaused with the lowest fluent.
 -- Assumes nothing.
-use Rattle.std.specs.Prelude.{◌≡◌, ◌↔◌, true, false, ℕ, zero, suc, ◌/◌, ◌≤◌, ◌<◌, length, get_or}
+use Rattle.std.specs.Prelude.{◌≡◌, ◌↔◌, true, false, ℕ, zero, suc, ◌/◌, ◌≤◌, ◌<◌, length, get_or, Result}
 use mathlib.Core.List.{List, Memᴰ}
 use Rattle.basics.specs.Search.{Lowest, Nowhere}
+use Rattle.basics.specs.declared.Refusal.{Refusal}
 use Rattle.basics.specs.Replies.{Reply, answered}
 use Rattle.action_language.specs.declared.Head.TheVariants.{Lit}
 use Rattle.action_language.specs.declared.Law.{Law}
@@ -53,5 +54,5 @@ pub record FaultNamed (n m T : ℕ) (ls : List Law) (vs : List ℕ) (r : Reply C
   pub uncaused-exactly : (t f : ℕ) → r ≡ answered (uncaused t f) ↔ UncausedFirst n m T ls vs t f
 
 -- of a causal reading's answer, for an accepted description and a set with one value for each atom
-unfoldable pub NamesFault : Description → List Law → ℕ → List ℕ → Reading → Type 0
+unfoldable pub NamesFault : Description → List Law → ℕ → List ℕ → Result Reading Refusal → Type 0
 NamesFault d ls lent vs r = Complete d ls lent vs → FaultNamed d.fluents d.actions d.horizon (laws_of d ls) vs (causal.reply_of r)

@@ -2,9 +2,10 @@
 -- description and a set with one value for each atom, passes (or path) exactly if the set is a path. And which missing or clash a
 -- history check names, whatever the values.
 -- Assumes nothing.
-use Rattle.std.specs.Prelude.{◌≡◌, ◌↔◌, List, ℕ, ◌≤◌, length, take}
+use Rattle.std.specs.Prelude.{◌≡◌, ◌↔◌, List, ℕ, ◌≤◌, length, take, Result}
 use Rattle.std.proofs.Math.Option.{none}
 use Rattle.basics.specs.Search.{Each}
+use Rattle.basics.specs.declared.Refusal.{Refusal}
 use Rattle.basics.specs.Replies.{answered}
 use Rattle.answer_set_theory.specs.Verdicts.{passes}
 use Rattle.answer_set_theory.specs.Answers as engine
@@ -15,7 +16,7 @@ use Rattle.action_language.specs.declared.Description.{Description}
 use Rattle.action_language.specs.Atoms.{atom_count}
 use Rattle.action_language.specs.Acceptance.{bad_record, bad_horizon}
 use Rattle.translation_rules.specs.Translated.{table_for}
-use Rattle.history_check.specs.declared.Checked.{Checked}
+use Rattle.history_check.specs.declared.Finding.{Finding}
 use Rattle.history_check.specs.Checks as history
 use Rattle.causal_reading.specs.declared.Reading.{Reading}
 use Rattle.causal_reading.specs.Verdicts.{path}
@@ -33,7 +34,7 @@ TranslatesExactly d ls lent old new =
 
 -- of a history check's answer: passes exactly if the set is a path, and exactly if the completion formulas hold on the words
 -- that it leaves; for a table that is long enough, else the refusal is 9
-unfoldable pub PassesExactly : Description → List Law → ℕ → List ℕ → ℕ → Checked → Type 0
+unfoldable pub PassesExactly : Description → List Law → ℕ → List ℕ → ℕ → Result Finding Refusal → Type 0
 PassesExactly d ls lent vs room r =
     Complete d ls lent vs → length (table_for d ls) ≤ room
     → (history.reply_of r ≡ answered (history.judged passes) ↔ PathOf d ls vs)
@@ -49,9 +50,9 @@ pub record NothingRefused (d : Description) (ls : List Law) (lent : ℕ) (vs : L
   pub bytes : Each (λ v. v ≤ 3) vs
 
 -- of a history check's answer then
-unfoldable pub SaysByValues : Description → List Law → ℕ → List ℕ → ℕ → Checked → Type 0
+unfoldable pub SaysByValues : Description → List Law → ℕ → List ℕ → ℕ → Result Finding Refusal → Type 0
 SaysByValues d ls lent vs room r = NothingRefused d ls lent vs room → ByValues vs (history.reply_of r)
 
 -- of a causal reading's answer
-unfoldable pub PathExactly : Description → List Law → ℕ → List ℕ → Reading → Type 0
+unfoldable pub PathExactly : Description → List Law → ℕ → List ℕ → Result Reading Refusal → Type 0
 PathExactly d ls lent vs r = Complete d ls lent vs → causal.reply_of r ≡ answered path ↔ PathOf d ls vs

@@ -1,7 +1,5 @@
 -- What the functions' proofs share.
 pub mod Gathering
-pub mod Deciding
-pub mod Stepping
-pub mod Joining
+pub mod Naming
 pub mod Walking
 pub mod Answering

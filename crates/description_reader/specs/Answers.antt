@@ -1,11 +1,15 @@
 -- The answers of the description reader's code.
 -- Assumes nothing.
-use Rattle.basics.specs.Replies.{Reply, refused, answered}
+use Rattle.std.specs.Prelude.{Result}
+use Rattle.basics.specs.Refusals.{reply_by}
+use Rattle.basics.specs.Replies.{Reply}
+use Rattle.basics.specs.declared.Refusal.{Refusal}
 use Rattle.description_lines.specs.Answers.{Behind, behind}
-use Rattle.description_reader.specs.declared.Answer.{Answer}
-use Rattle.description_reader.specs.declared.Answer.TheVariants.{Refused, Read}
+use Rattle.description_reader.specs.declared.Read.{Read}
 
--- the number and the values that each case of the code's answer stands for
-abbrev pub reply_of : Answer → Reply Behind
-reply_of (Refused number place) = refused number place
-reply_of (Read bytes lines) = answered (behind bytes lines)
+-- how many bytes and lines the description takes, and the reply of the call that reads it
+abbrev pub behind_of : Read → Behind
+behind_of read = behind read.bytes read.lines
+
+abbrev pub reply_of : Result Read Refusal → Reply Behind
+reply_of = reply_by behind_of

@@ -1,58 +1,47 @@
 // The codes of a law's list, gathered item by item.
-ghost use Rattle.std.specs.Prelude.{◌≡◌, take};
-ghost use Rattle.basics.specs.Search.{place_of};
-ghost use Rattle.text.specs.Internal.{CodeFits};
-ghost use Rattle.description_reader.specs.Internal.{no_codes, Padded, listed_of, one_more};
+ghost use Rattle.std.specs.Prelude.{◌≡◌, ◌≤◌, take};
+ghost use Rattle.action_language.specs.Laws.{padded};
 
-use basics::Found;
-use line_values::orders;
+use basics::Reason;
+use line_values::law_forms::Places;
 
-// The codes of a list's first items, 0 behind them, or a refusal's number.
+// The places of a list's first items, 0 behind them.
 #[derive(Clone, Copy)]
 pub(crate) struct Codes {
-    pub codes: [u8; 6],
-    pub count: usize,
-    pub refused: u8,
+    pub places: Places,
+    ghost few: { places.count ≤ 6 },
+    ghost padding: { places.codes ≡ padded (take places.count places.codes) },
 }
 
-pub(crate) fn no_codes() -> Codes
-    ensures { result ≡ no_codes }
-{
-    Codes {
-        codes: [0; 6],
-        count: 0,
-        refused: 0,
-    }
-}
+impl Codes {
+    ghost use Rattle.std.specs.Prelude.{[]};
+    ghost use Rattle.basics.specs.Refusals.{place_of};
+    ghost use Rattle.text.specs.Internal.{CodeFits};
+    ghost use Rattle.description_reader.specs.Internal.{codes_in, listed_of, one_more};
 
-// The codes and one more item.
-pub(crate) fn with_item(list: Codes, code: Found) -> Codes
-    requires { Padded list × CodeFits (place_of code) }
-    ensures result_value { listed_of result ≡ one_more (take list.count list.codes) (place_of code) }
-    ensures padded { result.refused ≡ 0 → Padded result }
-{
-    let count = list.count;
-    let mut codes = list.codes;
-    let seventh = orders::list_is_full(count);
-    let Found::At(c) = code else {
-        return Codes {
-            codes,
-            count,
-            refused: orders::refusal(seventh, true),
-        };
-    };
-    let refused = orders::refusal(seventh, false);
-    if 0 < refused {
-        return Codes {
-            codes,
-            count,
-            refused,
-        };
+    // No codes yet.
+    pub fn none() -> Codes
+        ensures { codes_in result ≡ [] }
+    {
+        Codes {
+            places: Places {
+                count: 0,
+                codes: [0; 6],
+            },
+        }
     }
-    codes[count] = c as u8;
-    Codes {
-        codes,
-        count: count + 1,
-        refused: 0,
+
+    // One more item: a seventh has no place, and each is to be a literal of the allowed sort.
+    pub fn push(&mut self, code: Option<usize>) -> Result<(), Reason>
+        requires { CodeFits (place_of code) }
+        ensures { listed_of result self.new ≡ one_more (codes_in self.old) (place_of code) }
+    {
+        if 6 <= self.places.count {
+            return Err(Reason::NoRoom);
+        }
+        let code = code.ok_or(Reason::BadLiteral)?;
+        self.places.codes[self.places.count as usize] = code as u8;
+        self.places.count += 1;
+        Ok(())
     }
 }

@@ -1,202 +1,96 @@
 // Reading a description, line by line; the first bad line decides.
-ghost use Rattle.std.specs.Prelude.{◌≡◌, ◌≤◌, ◌<◌, min, ltb, length};
-ghost use Rattle.action_language.specs.declared.Law.{Law};
+ghost use Rattle.std.specs.Prelude.{◌≡◌, ◌≤◌, length, IfOk};
+ghost use Rattle.basics.specs.Refusals.{reply_by};
 ghost use Rattle.description_lines.specs.Descriptions.{described};
-ghost use Rattle.text_forms.specs.NamePlaces.{no_names};
-ghost use Rattle.description_reader.specs.Declarations.{declarations};
-ghost use Rattle.description_reader.specs.Internal.{due_of, blank_state, is_list_key, items_from, high_for, taken_of, Ended, Declares};
+ghost use Rattle.description_reader.specs.Declarations.{declared_of, declarations};
+ghost use Rattle.description_reader.specs.Internal.{taken_by, Ended, Declares};
 
-use crate::states::{Due, HeldDraft, ReaderState};
-use crate::{Run, codes, states, steps};
-use action_language::{Head, Kind, Law};
-use line_values::{law_forms, orders};
+use crate::codes::Codes;
+use crate::declarations::Declarations;
+use crate::states::{Line, ReaderState};
+use basics::{Reason, Refusal};
 use text::{lines, lists};
-use text_forms::Names;
+use text_forms::Name;
 
-// Where the reader stopped: its state, the line, and the place behind the line.
+// Where a description ends: the reader's state, the place behind the end line, and the end line's number.
 #[derive(Clone, Copy)]
 pub(crate) struct Ending {
     pub state: ReaderState,
-    pub line: usize,
     pub at: usize,
-}
-
-// What a text declares: the horizon, how many of the names are fluents, and the names, where each stands in the text. A text that is
-// refused declares nothing; `refused` is then the refusal's number (else 0) and `line` its place (else how many lines were read).
-#[derive(Clone, Copy)]
-pub struct Declarations {
-    pub refused: u8,
     pub line: usize,
-    pub horizon: usize,
-    pub fluents: usize,
-    pub names: Names,
 }
 
-fn no_names() -> Names
-    ensures { result ≡ no_names }
+// A refusal at a line, counted from 1, or at no line.
+fn refused(reason: Reason, line: usize) -> Refusal
+    ensures { result ≡ record { reason = reason; place = line } }
 {
-    Names {
-        starts: [0; 32],
-        lengths: [0; 32],
-        count: 0,
+    Refusal {
+        reason,
+        place: line,
     }
-}
-
-// Nothing is read yet.
-fn begun(laws: [Law; 64]) -> ReaderState
-    ensures { result ≡ blank_state laws }
-{
-    let names = no_names();
-    let run = Run { laws, count: 0 };
-    let law = law_forms::new_law(Kind::Static, Head::Lit(0));
-    let draft = HeldDraft {
-        horizon: 0,
-        fluents: 0,
-        names,
-        run,
-    };
-    ReaderState {
-        refused: 0,
-        ended: false,
-        due: Due::Horizon,
-        law,
-        draft,
-    }
-}
-
-// Whether a line has a list to be read: a law that is a list has none where there is no room for the law.
-fn has_list(key: usize, count: usize, lent: usize) -> bool
-    ensures { result ≡ is_list_key key (ltb count (min 64 lent)) }
-{
-    if key == lines::IF {
-        return true;
-    }
-    if key == lines::AFTER {
-        return true;
-    }
-    if key == lines::BY {
-        return true;
-    }
-    if key == lines::NONEXECUTABLE {
-        return states::has_room(count, lent);
-    }
-    false
-}
-
-// Where the items of a line's list begin: behind the end where the line has none to be read.
-fn first_item(due: Due, key: usize, size: usize, count: usize, lent: usize) -> usize
-    requires { size < 9223372036854775808 }
-    ensures { (law : Law) → result ≡ items_from (due_of due law) key (ltb count (min 64 lent)) size }
-{
-    if size == 0 {
-        return size + 1;
-    }
-    if !states::is_allowed(due, key) {
-        return size + 1;
-    }
-    if !has_list(key, count, lent) {
-        return size + 1;
-    }
-    0
-}
-
-// Up to which place the names of a line's list go: the fluents in an if-list, all names in the others.
-fn sort_end(draft: HeldDraft, key: usize) -> usize
-    ensures { result ≡ high_for key draft }
-{
-    let names = draft.names;
-    if key == lines::IF {
-        return draft.fluents;
-    }
-    names.count
 }
 
 // Reads line by line to the end line or to the first bad line; laws are counted up to those lent.
-fn read_lines(text: &[u8], laws: [Law; 64], lent: usize) -> Ending
+fn read_lines(text: &[u8], lent: usize) -> Result<Ending, Refusal>
     requires { length text.now ≤ 65535 }
-    ensures result_value { taken_of text.now result ≡ described lent text.now }
-    ensures ended { Ended laws text.now result }
+    ensures answers { reply_by (taken_by text.now) result ≡ described lent text.now }
+    ensures ended { IfOk result (λ e. Ended lent text.now e) }
 {
-    let mut state = begun(laws);
+    let mut state = ReaderState::begun(lent);
     let mut at: usize = 0;
-    let mut line: usize = 1;
+    let mut line: usize = 0;
     'lines: loop {
-        let l = lines::line_at(text, at);
-        let from = l.from;
-        let to = l.to;
-        let list = &text[from..to];
-        let due = state.due;
-        let draft = state.draft;
-        let names = draft.names;
-        let run = draft.run;
-        let high = sort_end(draft, l.key);
-        let mut gathered = codes::no_codes();
-        let mut i = first_item(due, l.key, list.len(), run.count, lent);
-        while i <= list.len() {
-            let item = lists::next_item(list, i, text, names, 0, high);
-            let code = item.code;
-            gathered = codes::with_item(gathered, code);
-            if 0 < gathered.refused {
-                state = steps::refused(state, gathered.refused);
-                break 'lines;
-            }
-            i = item.next;
-        }
-        state = steps::line_step(text, from, list, l.key, gathered, state, lent);
-        at = l.next;
-        if orders::stops(state.refused, state.ended) {
-            break 'lines;
-        }
+        let Some(due) = state.due else {
+            break 'lines Ok(Ending { state, at, line });
+        };
         line += 1;
+        let l = lines::line_at(text, at);
+        let Some(key) = l.key else {
+            break 'lines Err(refused(Reason::WrongLine, line));
+        };
+        let list = &text[l.from..l.to];
+        let high = state.sort_end(key);
+        let mut gathered = Codes::none();
+        let mut i = due.first_item(key, list, state.has_room());
+        while i <= list.len() {
+            let item = lists::next_item(list, i, text, &state.names, 0, high);
+            match gathered.push(item.code) {
+                Ok(()) => i = item.next,
+                Err(reason) => break 'lines Err(refused(reason, line)),
+            }
+        }
+        let place = Name {
+            start: l.from,
+            length: list.len(),
+        };
+        match state.line_step(&Line { text, key, place }, gathered) {
+            Ok(()) => at = l.next,
+            Err(reason) => break 'lines Err(refused(reason, line)),
+        }
     }
-    Ending { state, line, at }
 }
 
 // Reads a description of at most 65,535 bytes.
-pub(crate) fn read(text: &[u8], laws: [Law; 64], lent: usize) -> Ending
-    ensures result_value { taken_of text.now result ≡ described lent text.now }
-    ensures ended { Ended laws text.now result }
+pub(crate) fn read(text: &[u8], lent: usize) -> Result<Ending, Refusal>
+    ensures answers { reply_by (taken_by text.now) result ≡ described lent text.now }
+    ensures ended { IfOk result (λ e. Ended lent text.now e) }
 {
     if 65535 < text.len() {
-        let state = steps::refused(begun(laws), 1);
-        return Ending {
-            state,
-            line: 0,
-            at: 0,
-        };
+        return Err(refused(Reason::LongText, 0));
     }
-    read_lines(text, laws, lent)
-}
-
-// Laws that nobody looks at.
-fn no_laws() -> [Law; 64] {
-    let law = law_forms::new_law(Kind::Static, Head::Lit(0));
-    [law; 64]
+    read_lines(text, lent)
 }
 
 // Reads a description where no law run counts, for its names.
-pub fn read_alone(text: &[u8]) -> Declarations
-    ensures answers { result ≡ declarations text.now (described 64 text.now) }
-    ensures bounded { Declares text.now result (described 64 text.now) }
+pub fn read_alone(text: &[u8]) -> Result<Declarations, Refusal>
+    ensures answers { reply_by declared_of result ≡ declarations text.now (described 64 text.now) }
+    ensures bounded { IfOk result (λ r. Declares text.now r) }
 {
-    let end = read(text, no_laws(), 64);
-    let state = end.state;
-    if 0 < state.refused {
-        return Declarations {
-            refused: state.refused,
-            line: end.line,
-            horizon: 0,
-            fluents: 0,
-            names: no_names(),
-        };
-    }
-    let draft = state.draft;
-    let names = draft.names;
-    Declarations {
-        refused: 0,
-        line: end.line,
-        horizon: draft.horizon,
-        fluents: draft.fluents,
-        names,
-    }
+    let end = read(text, 64)?;
+    Ok(Declarations {
+        lines: end.line,
+        horizon: end.state.horizon,
+        fluents: end.state.fluents,
+        names: end.state.names,
+    })
 }

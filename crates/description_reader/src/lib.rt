@@ -2,71 +2,46 @@
 #![tactic(auto)]
 
 mod codes;
+pub mod declarations;
 pub mod descriptions;
+mod keys;
 mod states;
 mod steps;
 
-ghost use Rattle.std.specs.Prelude.{◌≡◌};
+ghost use Rattle.std.specs.Prelude.{◌≡◌, IfOk, length};
 ghost use Rattle.description_lines.specs.Descriptions.{described};
 ghost use Rattle.description_lines.specs.Answers.{replied, record_of, laws_left};
 ghost use Rattle.description_reader.specs.Answers.{reply_of};
 
 use action_language::{Description, Law};
+use basics::Refusal;
 
-// The refusal's number and place, or where the description ends: behind how many bytes and lines.
-#[derive(Clone, Copy)]
-pub enum Answer {
-    Refused(u8, usize),
-    Read(usize, usize),
-}
-
-// A run of law records by value, of which some number is counted.
-#[derive(Clone, Copy)]
-pub struct Run {
-    pub laws: [Law; 64],
-    pub count: usize,
-}
-
-// What the description reader gives: on a refusal the run is the one that was handed in.
-#[derive(Clone, Copy)]
-pub struct Described {
-    pub answer: Answer,
+// A description that was read: behind how many bytes and lines it ends, and its record.
+#[derive(Clone, Copy, Debug, PartialEq, Eq)]
+pub struct Read {
+    pub bytes: usize,
+    pub lines: usize,
     pub description: Description,
-    pub run: Run,
 }
 
-// Reads a description's text. Laws are counted up to those lent, at most 64; on a refusal the laws are those handed in.
-pub fn read_description(text: &[u8], laws: [Law; 64], lent: usize) -> Described
-    ensures answers { reply_of result.answer ≡ replied text.now (described lent text.now) }
-    ensures description { result.description ≡ record_of (described lent text.now) }
-    ensures laws { result.run.laws ≡ laws_left (described lent text.now) laws }
-    ensures count { result.run.count ≡ (record_of (described lent text.now)).laws }
+// Reads a description's text. Laws are counted up to those lent, at most 64; on a refusal the laws stay as they were.
+pub fn read_description(text: &[u8], laws: &mut [Law]) -> Result<Read, Refusal>
+    ensures answers { reply_of result ≡ replied text.now (described (length laws.old) text.now) }
+    ensures description { IfOk result (λ read. read.description ≡ record_of (described (length laws.old) text.now)) }
+    ensures leaves { laws.new ≡ laws_left (described (length laws.old) text.now) laws.old }
 {
-    let end = descriptions::read(text, laws, lent);
-    let state = end.state;
-    if 0 < state.refused {
-        return Described {
-            answer: Answer::Refused(state.refused, end.line),
-            description: Description {
-                fluents: 0,
-                actions: 0,
-                laws: 0,
-                horizon: 0,
-            },
-            run: Run { laws, count: 0 },
-        };
-    }
-    let draft = state.draft;
-    let names = draft.names;
-    let run = draft.run;
-    Described {
-        answer: Answer::Read(end.at, end.line),
+    let end = descriptions::read(text, laws.len())?;
+    let state = &end.state;
+    let count = state.count;
+    laws[..count].copy_from_slice(&state.laws[..count]);
+    Ok(Read {
+        bytes: end.at,
+        lines: end.line,
         description: Description {
-            fluents: draft.fluents,
-            actions: names.count - draft.fluents,
-            laws: run.count,
-            horizon: draft.horizon,
+            fluents: state.fluents,
+            actions: state.names.count - state.fluents,
+            laws: count,
+            horizon: state.horizon,
         },
-        run,
-    }
+    })
 }

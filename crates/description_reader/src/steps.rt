@@ -1,461 +1,277 @@
 // What each line of a description does to the reader's state.
-ghost use Rattle.std.specs.Prelude.{◌≡◌, true, cond, List, [], ◌∷◌, ◌++◌, ℕ, suc, ◌+◌, ◌≤◌, ◌<◌, min, ltb, length, take, drop};
-ghost use Rattle.action_language.specs.declared.Kind.{Kind};
-ghost use Rattle.action_language.specs.declared.Law.{Law};
+ghost use Rattle.std.specs.Prelude.{◌≡◌, cond, List, [], ℕ, ◌<◌, min, ltb, take, drop, OnOk, Ok, Err};
+ghost use Rattle.basics.specs.declared.Reason.TheVariants.{BadName, NoRoom};
+ghost use Rattle.text_forms.specs.Keys.{number_of_key};
 ghost use Rattle.text_forms.specs.Lists.{codes};
+ghost use Rattle.text_forms.specs.Names.{is_new, literal};
+ghost use Rattle.text_forms.specs.NamePlaces.{no_names, with_name, declares_name, joined};
 ghost use Rattle.text.specs.Internal.{spelled};
-ghost use Rattle.text_forms.specs.NamePlaces.{with_name, declares_name};
+ghost use Rattle.action_language.specs.Laws.{law_of};
+ghost use Rattle.action_language.specs.declared.Kind.TheVariants.{Dynamic};
 ghost use Rattle.line_values.specs.HorizonText.{horizon_of};
-ghost use Rattle.line_values.specs.ShortLaws.{default_law, inertial_law, causes_law};
-ghost use Rattle.line_values.specs.Internal.{places_of};
-ghost use Rattle.description_lines.specs.LineSteps as step;
-ghost use Rattle.description_lines.specs.LineSteps.{action_due, fluent_due, law_due, if_due, by_due, next};
-ghost use Rattle.description_lines.specs.LineSteps.{horizon_line, name_line, law_line};
-ghost use Rattle.description_lines.specs.LineSteps.{Draft, begun, read_head, whole, if_line, after_line};
-ghost use Rattle.description_lines.specs.LineSteps.{whole_by_list, literal_line, nonexecutable_line, end_line};
-ghost use Rattle.description_reader.specs.Internal.{due_of, due_at, draft_of, step_of, step_with, other_line};
-ghost use Rattle.description_reader.specs.Internal.{short_line, has_place, Sound, Goes, Joins, Padded, Pushed, StandsAt};
-ghost use Rattle.description_reader.specs.Internal.{begun_with, HeadFits};
+ghost use Rattle.description_lines.specs.LineSteps.{horizon_due, law_due, if_due, next, horizon_line, fluent_line, action_line};
+ghost use Rattle.description_lines.specs.LineSteps.{whole, read_head, if_line, end_line};
+ghost use Rattle.description_lines.specs.Descriptions.{blank};
+ghost use Rattle.description_reader.specs.declared.states.Due as code;
+ghost use Rattle.description_reader.specs.Internal.{due_of, draft_of, step_of, Keeps, value_in, read_or, codes_in, later_line, step_with};
 
 use crate::codes::Codes;
-use crate::states::{Due, HeldDraft, ReaderState};
-use crate::{Run, states};
+use crate::states::{Due, Line, ReaderState};
 use action_language::{Head, Kind, Law};
-use basics::Found;
-use line_values::law_forms::Places;
-use line_values::{horizons, law_forms, orders};
+use basics::Reason;
+use line_values::{horizons, law_forms};
 use spelling;
-use text::{lines, names};
-use text_forms::Names;
+use text::{bytes, names};
+use text_forms::{Key, Name, Names};
 
-// A line that is refused.
-pub(crate) fn refused(state: ReaderState, number: u8) -> ReaderState
-    requires { (0 < number) × Sound (due_at state) state.draft }
-    ensures by_index { (text : List ℕ) → step_of text result ≡ step.refused number }
-    ensures goes { Goes state result }
-{
-    let mut next = state;
-    next.refused = number;
-    next
-}
-
-fn horizon_line(value: &[u8], state: ReaderState) -> ReaderState
-    requires { Sound (due_at state) state.draft }
-    ensures by_index { (text : List ℕ) → step_of text result ≡ horizon_line (draft_of text state.draft) (horizon_of value.now) }
-    ensures goes { Goes state result }
-{
-    let Found::At(t) = horizons::horizon_of(value) else {
-        return refused(state, 3);
-    };
-    let law = state.law;
-    let mut draft = state.draft;
-    draft.horizon = t;
-    ReaderState {
-        refused: 0,
-        ended: false,
-        due: Due::FirstFluent,
-        law,
-        draft,
+impl<'a> Line<'a> {
+    // A line's value.
+    pub fn value(&self) -> &'a [u8]
+        ensures { result.now ≡ value_in self.now }
+    {
+        bytes::part(self.text, self.place.start, self.place.length)
     }
 }
 
-// Whether one more action, or one more fluent, can be declared.
-fn has_place(action: bool, fluents: usize, names: usize) -> bool
-    requires { fluents ≤ 24 }
-    ensures { result ≡ has_place action fluents names }
-{
-    if action {
-        return names < fluents + 8;
+impl ReaderState {
+    // Nothing is read yet.
+    #[tactic(auto, unfolding(text::specs::Internal::spelled))]
+    pub fn begun(lent: usize) -> ReaderState
+        ensures step { (text : List ℕ) → step_of text (Ok tt) result ≡ next horizon_due blank }
+        ensures names { result.names ≡ no_names }
+        ensures lent { result.lent ≡ lent }
+    {
+        let law = law_forms::new_law(Kind::Static, Head::Lit(0));
+        let name = Name {
+            start: 0,
+            length: 0,
+        };
+        let names = Names {
+            places: [name; 32],
+            count: 0,
+        };
+        ReaderState {
+            due: Some(Due::Horizon),
+            horizon: 0,
+            fluents: 0,
+            names,
+            laws: [law; 64],
+            count: 0,
+            lent,
+        }
     }
-    fluents < 24
-}
 
-// The names and one more, at a place of the text.
-fn with_name(names: Names, start: usize, length: usize) -> Names
-    requires { names.count < 32 }
-    ensures value { result ≡ with_name names start length }
-    ensures by_index { (text : List ℕ) → spelled text result ≡ spelled text names ++ (take length (drop start text) ∷ []) }
-{
-    let count = names.count;
-    let mut starts = names.starts;
-    let mut lengths = names.lengths;
-    starts[count] = start;
-    lengths[count] = length;
-    Names {
-        starts,
-        lengths,
-        count: count + 1,
+    // The horizon: 1 to 30, without a leading zero.
+    fn horizon_line(&mut self, line: &Line) -> Result<(), Reason>
+        ensures step { step_of line.now.text.now result self.new
+            ≡ horizon_line (draft_of line.now.text.now self.old) (horizon_of (value_in line.now)) }
+        ensures keeps { Keeps self.old self.new }
+    {
+        let Some(horizon) = horizons::horizon_of(line.value()) else {
+            return Err(Reason::BadHorizon);
+        };
+        self.horizon = horizon;
+        self.due = Some(Due::FirstFluent);
+        Ok(())
     }
-}
 
-// A new fluent or action: 5 before its spelling, then 4.
-fn name_line(
-    text: &[u8],
-    from: usize,
-    value: &[u8],
-    state: ReaderState,
-    action: bool,
-) -> ReaderState
-    requires { StandsAt text.now from value.now × Sound (due_at state) state.draft }
-    ensures result_value { step_of text.now result ≡ name_line
-        (has_place action state.draft.fluents state.draft.names.count) (cond action action_due fluent_due)
-        (cond action state.draft.fluents (suc state.draft.fluents))
-        (draft_of text.now state.draft) value.now }
-    ensures joins { Joins true from (length value.now) state result }
-{
-    let mut draft = state.draft;
-    let names = draft.names;
-    if !has_place(action, draft.fluents, names.count) {
-        return refused(state, 5);
+    // A name: 5 where there is no place for it, before its spelling, then 4.
+    fn check_name(&self, line: &Line, fits: bool) -> Result<(), Reason>
+        ensures { result
+            ≡ cond fits
+            (cond (is_new (spelled line.now.text.now self.now.names) (value_in line.now)) (Ok tt) (Err BadName))
+            (Err NoRoom) }
+    {
+        if !fits {
+            return Err(Reason::NoRoom);
+        }
+        if !names::is_new(line.text, &self.names, line.value()) {
+            return Err(Reason::BadName);
+        }
+        Ok(())
     }
-    if !names::is_new(text, names, value) {
-        return refused(state, 4);
-    }
-    let more = with_name(names, from, value.len());
-    draft.names = more;
-    let law = state.law;
-    let mut due = Due::Action;
-    if !action {
-        due = Due::Fluent;
-        draft.fluents += 1;
-    }
-    ReaderState {
-        refused: 0,
-        ended: false,
-        due,
-        law,
-        draft,
-    }
-}
 
-// What a law's first line comes to: a refusal's number, or the head.
-#[derive(Clone, Copy)]
-pub(crate) enum HeadAt {
-    Refused(u8),
-    Read(Head),
-}
+    // A new fluent: at most 24.
+    fn fluent_line(&mut self, line: &Line) -> Result<(), Reason>
+        ensures step { step_of line.now.text.now result self.new
+            ≡ fluent_line (draft_of line.now.text.now self.old) (value_in line.now) }
+        ensures names { OnOk result (self.new.names
+            ≡ with_name self.old.names line.now.place.start line.now.place.length) }
+        ensures lent { self.new.lent ≡ self.old.lent }
+    {
+        self.check_name(line, self.fluents < 24)?;
+        self.names.places[self.names.count] = line.place;
+        self.names.count += 1;
+        self.fluents += 1;
+        self.due = Some(Due::Fluent);
+        Ok(())
+    }
 
-// The head of a new law, of at most 64 and of those lent: 5 before its spelling, then 6.
-fn law_head(
-    text: &[u8],
-    value: &[u8],
-    names: Names,
-    fluents: usize,
-    count: usize,
-    lent: usize,
-) -> HeadAt
-    requires { fluents ≤ 24 }
-    ensures result_value { (due : Law → step.Due) (d : Draft) (kind : Kind)
-        → begun_with due d kind result
-        ≡ cond (ltb count (min 64 lent))
-        (begun due d kind (read_head (spelled text.now names) fluents value.now))
-        (step.refused 5) }
-    ensures head_fits { HeadFits count result }
-{
-    if !states::has_room(count, lent) {
-        return HeadAt::Refused(5);
+    // A new action: at most 8.
+    fn action_line(&mut self, line: &Line) -> Result<(), Reason>
+        ensures step { step_of line.now.text.now result self.new
+            ≡ action_line (draft_of line.now.text.now self.old) (value_in line.now) }
+        ensures names { OnOk result (self.new.names
+            ≡ with_name self.old.names line.now.place.start line.now.place.length) }
+        ensures lent { self.new.lent ≡ self.old.lent }
+    {
+        self.check_name(line, self.names.count < self.fluents + 8)?;
+        self.names.places[self.names.count] = line.place;
+        self.names.count += 1;
+        self.due = Some(Due::Action);
+        Ok(())
     }
-    if spelling::is_false(value) {
-        return HeadAt::Read(Head::False);
-    }
-    let Found::At(code) = names::literal(text, names, value, 0, fluents) else {
-        return HeadAt::Refused(6);
-    };
-    HeadAt::Read(Head::Lit(code as u8))
-}
 
-// A law begins: its if-list is due, or what causes its head.
-fn law_line(
-    text: &[u8],
-    value: &[u8],
-    state: ReaderState,
-    kind: Kind,
-    short: bool,
-    lent: usize,
-) -> ReaderState
-    requires { Sound (due_at state) state.draft }
-    ensures result_value { step_of text.now result
-        ≡ law_line lent (cond short by_due if_due) (draft_of text.now state.draft) kind
-        value.now }
-    ensures goes { Goes state result }
-{
-    let draft = state.draft;
-    let names = draft.names;
-    let run = draft.run;
-    let head_at = law_head(text, value, names, draft.fluents, run.count, lent);
-    match head_at {
-        HeadAt::Refused(number) => refused(state, number),
-        HeadAt::Read(head) => ReaderState {
-            refused: 0,
-            ended: false,
-            due: list_due(short),
-            law: law_forms::new_law(kind, head),
-            draft,
-        },
+    // The code of a fluent literal, or refusal 6.
+    fn fluent_literal(&self, line: &Line) -> Result<u8, Reason>
+        ensures { result
+            ≡ read_or (literal (spelled line.now.text.now self.now.names) 0 self.now.fluents (value_in line.now)) }
+    {
+        let Some(code) = names::literal(line.text, &self.names, line.value(), 0, self.fluents)
+        else {
+            return Err(Reason::BadLiteral);
+        };
+        Ok(code as u8)
     }
-}
 
-// Which list follows a head.
-fn list_due(short: bool) -> Due
-    ensures { (law : Law) → due_of result law ≡ cond short by_due if_due law }
-{
-    if short {
-        return Due::By;
+    // The literal of a new law: 5 where there is no room for the law, before its spelling, then 6.
+    fn new_literal(&self, line: &Line) -> Result<u8, Reason>
+        ensures answers { result
+            ≡ cond (ltb self.now.count (min 64 self.now.lent))
+            (read_or (literal (spelled line.now.text.now self.now.names) 0 self.now.fluents (value_in line.now)))
+            (Err NoRoom) }
+        ensures room { OnOk result (self.now.count < min 64 self.now.lent) }
+    {
+        if !self.has_room() {
+            return Err(Reason::NoRoom);
+        }
+        self.fluent_literal(line)
     }
-    Due::If
-}
 
-// The law joins those read.
-fn with_law(draft: HeldDraft, law: Law) -> HeldDraft
-    requires { (draft.run.count < 64) × (length draft.run.laws ≡ 64) }
-    ensures by_index { (text : List ℕ) → draft_of text result ≡ whole (draft_of text draft) law }
-    ensures pushed { Pushed draft result }
-{
-    let run = draft.run;
-    let count = run.count;
-    let mut laws = run.laws;
-    laws[count] = law;
-    let more = Run {
-        laws,
-        count: count + 1,
-    };
-    let mut next = draft;
-    next.run = more;
-    next
-}
+    // The head of a new law, in the same order: false, or a fluent literal.
+    #[tactic(auto, unfolding(description_lines::specs::LineSteps::read_head))]
+    fn new_head(&self, line: &Line) -> Result<Head, Reason>
+        ensures answers { result
+            ≡ cond (ltb self.now.count (min 64 self.now.lent))
+            (read_or (read_head (spelled line.now.text.now self.now.names) self.now.fluents (value_in line.now)))
+            (Err NoRoom) }
+        ensures room { OnOk result (self.now.count < min 64 self.now.lent) }
+    {
+        if !self.has_room() {
+            return Err(Reason::NoRoom);
+        }
+        if spelling::is_false(line.value()) {
+            return Ok(Head::False);
+        }
+        Ok(Head::Lit(self.fluent_literal(line)?))
+    }
 
-// A law is whole: it joins those read, and a law or the end is due.
-fn whole_law(state: ReaderState, law: Law) -> ReaderState
-    requires { (state.draft.run.count < 64) × Sound (due_at state) state.draft }
-    ensures by_index { (text : List ℕ) → step_of text result ≡ next law_due (whole (draft_of text state.draft) law) }
-    ensures goes { Goes state result }
-{
-    let draft = state.draft;
-    ReaderState {
-        refused: 0,
-        ended: false,
-        due: Due::NewLaw,
-        law,
-        draft: with_law(draft, law),
+    // A law is whole: it joins those read, and a law or the end is due.
+    fn whole_law(&mut self, law: Law)
+        requires { self.old.count < min 64 self.old.lent }
+        ensures step { (text : List ℕ) → step_of text (Ok tt) self.new ≡ next law_due (whole (draft_of text self.old) law) }
+        ensures keeps { Keeps self.old self.new }
+    {
+        self.laws[self.count] = law;
+        self.count += 1;
+        self.due = Some(Due::NewLaw);
     }
-}
 
-// The if-list: a static law is whole behind it, a dynamic one wants its after-list.
-fn if_line(state: ReaderState, list: Codes) -> ReaderState
-    requires { (state.draft.run.count < 64) × Sound (due_at state) state.draft × Padded list }
-    ensures by_index { (text : List ℕ)
-        → step_of text result
-        ≡ if_line (draft_of text state.draft) state.law (codes (take list.count list.codes)) }
-    ensures goes { Goes state result }
-{
-    let draft = state.draft;
-    let mut law = state.law;
-    let kind = law.kind;
-    let if_codes = list.codes;
-    law.if_count = list.count as u8;
-    law.if_codes = if_codes;
-    law.after_count = 0;
-    law.after_codes = [0; 6];
-    match kind {
-        Kind::Static => whole_law(state, law),
-        Kind::Dynamic => ReaderState {
-            refused: 0,
-            ended: false,
-            due: Due::After,
-            law,
-            draft,
-        },
+    // The if-list: a static law is whole behind it, a dynamic one wants its after-list.
+    fn if_line(&mut self, kind: Kind, head: Head, list: Codes)
+        requires { self.old.count < min 64 self.old.lent }
+        ensures step { (text : List ℕ)
+            → step_of text (Ok tt) self.new
+            ≡ if_line (draft_of text self.old) (law_of kind head [] []) (codes (codes_in list)) }
+        ensures keeps { Keeps self.old self.new }
+    {
+        let if_codes = list.places.codes;
+        let law = Law {
+            kind,
+            head,
+            if_count: list.places.count,
+            if_codes,
+            after_count: 0,
+            after_codes: [0; 6],
+        };
+        match kind {
+            Kind::Static => self.whole_law(law),
+            Kind::Dynamic => self.due = Some(Due::After(law)),
+        }
     }
-}
 
-fn after_line(state: ReaderState, list: Codes) -> ReaderState
-    requires { (state.draft.run.count < 64) × Sound (due_at state) state.draft × Padded list }
-    ensures by_index { (text : List ℕ)
-        → step_of text result
-        ≡ after_line (draft_of text state.draft) state.law (codes (take list.count list.codes)) }
-    ensures goes { Goes state result }
-{
-    let mut law = state.law;
-    let after_codes = list.codes;
-    law.after_count = list.count as u8;
-    law.after_codes = after_codes;
-    whole_law(state, law)
-}
+    // The end line has no value; nothing is due behind it.
+    fn end_line(&mut self, line: &Line) -> Result<(), Reason>
+        ensures step { step_of line.now.text.now result self.new
+            ≡ end_line (draft_of line.now.text.now self.old) (value_in line.now) }
+        ensures keeps { Keeps self.old self.new }
+    {
+        if !line.value().is_empty() {
+            return Err(Reason::WrongLine);
+        }
+        self.due = None;
+        Ok(())
+    }
 
-// The places of a list that is read.
-fn places(list: Codes) -> Places
-    requires { Padded list }
-    ensures { result ≡ places_of (take list.count list.codes) }
-{
-    let codes = list.codes;
-    Places {
-        count: list.count as u8,
-        codes,
+    // A line that is a name, a new law or the end, by its key.
+    fn later_line(&mut self, line: &Line, list: Codes) -> Result<(), Reason>
+        ensures step { step_of line.now.text.now result self.new
+            ≡ later_line self.old.lent (draft_of line.now.text.now self.old) (number_of_key line.now.key)
+            (value_in line.now) (codes (codes_in list)) }
+        ensures names { OnOk result (self.new.names
+            ≡ joined (declares_name (number_of_key line.now.key)) line.now.place.start line.now.place.length
+            self.old.names) }
+        ensures lent { self.new.lent ≡ self.old.lent }
+    {
+        match line.key {
+            Key::Fluent => return self.fluent_line(line),
+            Key::Action => return self.action_line(line),
+            Key::Static => self.due = Some(Due::If(Kind::Static, self.new_head(line)?)),
+            Key::Dynamic => self.due = Some(Due::If(Kind::Dynamic, self.new_head(line)?)),
+            Key::Causes => self.due = Some(Due::By(self.new_head(line)?)),
+            Key::Default => self.whole_law(law_forms::default_law(self.new_literal(line)?)),
+            Key::Inertial => self.whole_law(law_forms::inertial_law(self.new_literal(line)?)),
+            Key::Nonexecutable if self.has_room() => self.whole_law(law_forms::nonexecutable_law(
+                list.places,
+            )),
+            Key::Nonexecutable => return Err(Reason::NoRoom),
+            _ => return self.end_line(line),
+        }
+        Ok(())
     }
-}
 
-// The list of what causes a head.
-fn by_line(state: ReaderState, list: Codes) -> ReaderState
-    requires { (state.draft.run.count < 64) × Sound (due_at state) state.draft × Padded list }
-    ensures by_index { (text : List ℕ)
-        → step_of text result
-        ≡ whole_by_list (draft_of text state.draft) (causes_law state.law.head)
-        (codes (take list.count list.codes)) }
-    ensures goes { Goes state result }
-{
-    let law = state.law;
-    let head = law.head;
-    whole_law(state, law_forms::causes_law(head, places(list)))
-}
-
-// A law that is a list: 5 where there is no room for it.
-fn nonexecutable_line(state: ReaderState, list: Codes, lent: usize) -> ReaderState
-    requires { Sound (due_at state) state.draft × Padded list }
-    ensures by_index { (text : List ℕ)
-        → step_of text result
-        ≡ nonexecutable_line lent (draft_of text state.draft) (codes (take list.count list.codes)) }
-    ensures goes { Goes state result }
-{
-    let draft = state.draft;
-    let run = draft.run;
-    if !states::has_room(run.count, lent) {
-        return refused(state, 5);
+    // A line; its list, if it has one, is read already.
+    #[tactic(auto, unfolding(crate::specs::Internal::step_with))]
+    pub fn line_step(&mut self, line: &Line, list: Codes) -> Result<(), Reason>
+        ensures step { (due : code.Due)
+            → self.old.due ≡ Some due
+            → step_of line.now.text.now result self.new
+            ≡ step_with self.old.lent (due_of due) (draft_of line.now.text.now self.old) (number_of_key line.now.key)
+            (value_in line.now) (codes (codes_in list)) }
+        ensures names { OnOk result (self.new.names
+            ≡ joined (declares_name (number_of_key line.now.key)) line.now.place.start line.now.place.length
+            self.old.names) }
+        ensures lent { self.new.lent ≡ self.old.lent }
+    {
+        let due = self.due.ok_or(Reason::WrongLine)?;
+        if !due.allows(line.key) {
+            return Err(Reason::WrongLine);
+        }
+        match due {
+            Due::Horizon => return self.horizon_line(line),
+            Due::If(kind, head) => self.if_line(kind, head, list),
+            Due::After(law) => {
+                let after_codes = list.places.codes;
+                let whole = Law {
+                    after_count: list.places.count,
+                    after_codes,
+                    ..law
+                };
+                self.whole_law(whole);
+            }
+            Due::By(head) => self.whole_law(law_forms::causes_law(head, list.places)),
+            _ => return self.later_line(line, list),
+        }
+        Ok(())
     }
-    whole_law(state, law_forms::nonexecutable_law(places(list)))
-}
-
-// The law of a literal: its inertia, or its default.
-fn literal_law(inertial: bool, code: u8) -> Law
-    ensures { result ≡ cond inertial inertial_law default_law code }
-{
-    if inertial {
-        return law_forms::inertial_law(code);
-    }
-    law_forms::default_law(code)
-}
-
-// A law of one fluent literal: 5 where there is no room for it, before its spelling, then 6.
-fn literal_line(
-    text: &[u8],
-    value: &[u8],
-    state: ReaderState,
-    inertial: bool,
-    lent: usize,
-) -> ReaderState
-    requires { Sound (due_at state) state.draft }
-    ensures result_value { step_of text.now result
-        ≡ literal_line lent (draft_of text.now state.draft) (cond inertial inertial_law default_law)
-        value.now }
-    ensures goes { Goes state result }
-{
-    let draft = state.draft;
-    let names = draft.names;
-    let run = draft.run;
-    let full = !states::has_room(run.count, lent);
-    let Found::At(code) = names::literal(text, names, value, 0, draft.fluents) else {
-        return refused(state, orders::refusal(full, true));
-    };
-    let number = orders::refusal(full, false);
-    if 0 < number {
-        return refused(state, number);
-    }
-    whole_law(state, literal_law(inertial, code as u8))
-}
-
-fn end_line(value: &[u8], state: ReaderState) -> ReaderState
-    requires { Sound (due_at state) state.draft }
-    ensures by_index { (text : List ℕ) → step_of text result ≡ end_line (draft_of text state.draft) value.now }
-    ensures goes { Goes state result }
-{
-    if 0 < value.len() {
-        return refused(state, 2);
-    }
-    let mut next = state;
-    next.refused = 0;
-    next.ended = true;
-    next
-}
-
-// A short law that is no list, or the end line, whose key is allowed.
-fn short_line(text: &[u8], value: &[u8], key: usize, state: ReaderState, lent: usize) -> ReaderState
-    requires { Sound (due_at state) state.draft }
-    ensures result_value { step_of text.now result ≡ short_line lent (draft_of text.now state.draft) key value.now }
-    ensures goes { Goes state result }
-{
-    if key == lines::DEFAULT {
-        return literal_line(text, value, state, false, lent);
-    }
-    if key == lines::INERTIAL {
-        return literal_line(text, value, state, true, lent);
-    }
-    if key == lines::CAUSES {
-        return law_line(text, value, state, Kind::Dynamic, true, lent);
-    }
-    end_line(value, state)
-}
-
-// A line of any key but the lists', whose key is allowed.
-fn other_line(
-    text: &[u8],
-    from: usize,
-    value: &[u8],
-    key: usize,
-    state: ReaderState,
-    lent: usize,
-) -> ReaderState
-    requires { StandsAt text.now from value.now × Sound (due_at state) state.draft }
-    ensures result_value { step_of text.now result ≡ other_line lent (draft_of text.now state.draft) key value.now }
-    ensures joins { Joins (declares_name key) from (length value.now) state result }
-{
-    if key == lines::HORIZON {
-        return horizon_line(value, state);
-    }
-    if key == lines::FLUENT {
-        return name_line(text, from, value, state, false);
-    }
-    if key == lines::ACTION {
-        return name_line(text, from, value, state, true);
-    }
-    if key == lines::STATIC {
-        return law_line(text, value, state, Kind::Static, false, lent);
-    }
-    if key == lines::DYNAMIC {
-        return law_line(text, value, state, Kind::Dynamic, false, lent);
-    }
-    short_line(text, value, key, state, lent)
-}
-
-// A line, its value at a place of the text; its list, if it has one, is read already.
-pub(crate) fn line_step(
-    text: &[u8],
-    from: usize,
-    value: &[u8],
-    key: usize,
-    list: Codes,
-    state: ReaderState,
-    lent: usize,
-) -> ReaderState
-    requires { StandsAt text.now from value.now × Sound (due_at state) state.draft × Padded list }
-    ensures result_value { step_of text.now result
-        ≡ step_with lent (due_at state) (draft_of text.now state.draft) key value.now
-        (codes (take list.count list.codes)) }
-    ensures joins { Joins (declares_name key) from (length value.now) state result }
-{
-    let due = state.due;
-    if !states::is_allowed(due, key) {
-        return refused(state, 2);
-    }
-    if key == lines::IF {
-        return if_line(state, list);
-    }
-    if key == lines::AFTER {
-        return after_line(state, list);
-    }
-    if key == lines::BY {
-        return by_line(state, list);
-    }
-    if key == lines::NONEXECUTABLE {
-        return nonexecutable_line(state, list, lent);
-    }
-    other_line(text, from, value, key, state, lent)
 }

@@ -3,6 +3,7 @@
 use mathlib.Core.Path.{◌≡◌, refl, sym, ap, ◌∙◌}
 use mathlib.Core.List.{List}
 use mathlib.Core.Option.{none}
+use Rattle.std.specs.Prelude.{Some}
 use Prim.Native.Nat.{ℕ}
 use lib.ListN.{length, take, drop}
 use lib.Seq.{take_at}
@@ -10,6 +11,9 @@ use Rattle.basics.specs.Replies.{Reply, refused, answered, unless_refused}
 use Rattle.logic_programs.specs.Literals.{set_of, bad_value}
 use Rattle.logic_programs.specs.ValueFaults as faults
 use Rattle.logic_programs.specs.ValueFaults.{ValueFault, value_fault, or_fault}
+use Rattle.literal_sets.specs.declared.values.Fault.{Fault}
+use Rattle.literal_sets.specs.declared.values.Fault.TheVariants.{Missing, Clash}
+use Rattle.literal_sets.specs.Faults.{fault_of}
 use Rattle.answer_set_theory.specs.Verdicts.{Verdict, verdict, clash}
 use Rattle.logic_programs.specs.Words.{rules_of}
 use Rattle.answer_set_theory.specs.Answers as engine
@@ -19,16 +23,21 @@ use Rattle.translation_rules.specs.Translated as translated
 use Rattle.translation_rules.specs.Translated.{Written, written}
 use Rattle.translation_rules.proofs.Histories.{written-passed, tests-first}
 use Rattle.translation_bounds.proofs.Tables.{engine-judges}
-use Rattle.history_check.specs.Checks.{Finding, missing, judged, of_engine, finding, checked, table_after}
+use Rattle.history_check.specs.Checks.{Finding, missing, judged, of_fault, of_engine, finding, checked, table_after}
 
 -- the words of a translation are the first of the table that it was written into
 pub words-front : (ws table : List ℕ) (w : ℕ) → w ≡ length ws → take w (translated.overwritten ws table) ≡ ws
 words-front ws table w e = take_at ws (drop (length ws) table) w (sym e)
 
--- missing or clash, or what the engine says
-pub says-fault : (vs ws : List ℕ) {fault : ValueFault} → value_fault vs ≡ fault
-    → or_fault fault (λ a. answered (missing a)) (λ a. answered (judged (clash a))) (of_engine (engine.answer vs ws)) ≡ finding vs ws
-says-fault vs ws e = rw e refl
+-- missing or clash
+pub says-fault : (vs ws : List ℕ) (fault : Fault) → value_fault vs ≡ fault_of (Some fault) → answered (of_fault fault) ≡ finding vs ws
+says-fault vs ws (Missing a) e = rw e refl
+says-fault vs ws (Clash a) e = rw e refl
+
+-- or what the engine says
+pub says-engine : (vs ws : List ℕ) {reply : Reply Verdict} → value_fault vs ≡ faults.neither → reply ≡ engine.answer vs ws
+    → of_engine reply ≡ finding vs ws
+says-engine vs ws e said = rw (e, said) refl
 
 -- what is found where the engine judges
 abbrev pub found_of : List ℕ → Verdict → Finding

@@ -2,19 +2,17 @@
 #![tactic(auto)]
 
 ghost use Rattle.std.specs.Prelude.{◌≡◌, length};
-ghost use Rattle.answer_sets.specs.Answers as engine;
-ghost use Rattle.history_check.specs.Checks.{reply_of, of_engine, finding, checked, table_after};
+ghost use Rattle.answer_sets.specs.Answers.{verdict_of};
+ghost use Rattle.history_check.specs.Checks.{judged, finding_of, of_fault, reply_of, finding, checked, table_after};
 
 use action_language::{Description, Law};
-use answer_sets::Answer;
-use basics::Tested;
+use answer_sets::Verdict;
+use basics::Refusal;
 use literal_sets::values::Fault;
-use translation::Translated;
 
-// A refusal's number and place, or the first verdict that holds with the atom, rule or literal code that it names.
-#[derive(Clone, Copy)]
-pub enum Checked {
-    Refused(u8, usize),
+// The first verdict that holds with the atom, rule or literal code that it names.
+#[derive(Clone, Copy, Debug, PartialEq, Eq)]
+pub enum Finding {
     Missing(usize),
     Clash(usize),
     Broken(usize),
@@ -22,47 +20,54 @@ pub enum Checked {
     Passes,
 }
 
-// The engine's answer as the history check's.
-fn from_engine(answer: Answer) -> Checked
-    ensures { reply_of result ≡ of_engine (engine.reply_of answer) }
-{
-    match answer {
-        Answer::Refused(number, place) => Checked::Refused(number, place),
-        Answer::Clash(atom) => Checked::Clash(atom),
-        Answer::Broken(rule) => Checked::Broken(rule),
-        Answer::Unfounded(code) => Checked::Unfounded(code),
-        Answer::Passes => Checked::Passes,
+// The engine's verdict as the history check's.
+impl From<Verdict> for Finding {
+    ghost from_gives = { λ verdict finding. finding_of finding ≡ judged (verdict_of verdict) };
+
+    fn from(verdict: Verdict) -> Finding {
+        match verdict {
+            Verdict::Clash(atom) => Finding::Clash(atom),
+            Verdict::Broken(rule) => Finding::Broken(rule),
+            Verdict::Unfounded(code) => Finding::Unfounded(code),
+            Verdict::Passes => Finding::Passes,
+        }
+    }
+}
+
+// An atom without one value as what the history check finds.
+impl From<Fault> for Finding {
+    ghost from_gives = { λ fault finding. finding_of finding ≡ of_fault fault };
+
+    fn from(fault: Fault) -> Finding {
+        match fault {
+            Fault::Missing(atom) => Finding::Missing(atom),
+            Fault::Clash(atom) => Finding::Clash(atom),
+        }
     }
 }
 
 // Missing or clash at the lowest atom without one value, or what the engine says of these words.
-pub fn verdict(values: &[u8], words: &[u16]) -> Checked
+pub fn verdict(values: &[u8], words: &[u16]) -> Result<Finding, Refusal>
     ensures { reply_of result ≡ finding values.now words.now }
 {
-    let fault = literal_sets::values::first_fault(values);
-    match fault {
-        Fault::Missing(atom) => Checked::Missing(atom),
-        Fault::Clash(atom) => Checked::Clash(atom),
-        Fault::Neither => from_engine(answer_sets::check_set(values, words)),
+    if let Some(fault) = literal_sets::values::first_fault(values) {
+        return Ok(fault.into());
     }
+    let verdict = answer_sets::check_set(values, words)?;
+    Ok(verdict.into())
 }
 
 // Checks values, one byte an atom, against the description's translation, which is left in the table unless the answer is a
 // refusal.
 pub fn check_history(
     d: Description,
-    laws: [Law; 64],
-    lent: usize,
+    laws: &[Law],
     values: &[u8],
     table: &mut [u16],
-) -> Checked
-    ensures answers { reply_of result ≡ checked d laws lent values.now (length table.old) }
-    ensures leaves { table.new ≡ table_after d laws lent values.now table.old }
+) -> Result<Finding, Refusal>
+    ensures answers { reply_of result ≡ checked d laws.now (length laws.now) values.now (length table.old) }
+    ensures leaves { table.new ≡ table_after d laws.now (length laws.now) values.now table.old }
 {
-    let later = Tested::Accepted;
-    let written = translation::translate_for_history(d, laws, lent, values, later, table);
-    match written {
-        Translated::Refused(number, place) => Checked::Refused(number, place),
-        Translated::Written(_atoms, _rules, words) => verdict(values, &table[..words]),
-    }
+    let written = translation::translate_for_history(d, laws, values, Ok(()), table)?;
+    verdict(values, &table[..written.words])
 }

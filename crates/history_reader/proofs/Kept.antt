@@ -19,7 +19,7 @@ use Rattle.description_lines.specs.LineSteps.{Draft}
 use Rattle.description_lines.specs.Descriptions.{Taken, read, described}
 use Rattle.history_values.specs.Values.{with_literals, filled, ActionsValued}
 use Rattle.history_values.proofs.Filling.{length_marked, length-filled, marked-zero, filled_zero, filled-valued}
-use Rattle.history_reader.specs.declared.HistoryAnswer.TheVariants.{Complete}
+use Rattle.std.specs.Prelude.{Ok}
 use Rattle.history_reader.specs.Histories.{history_end, most, listed, list_line, undone_false, states_from, atoms, ActionsFilled}
 
 -- what holds of the values, where there are some
@@ -118,7 +118,7 @@ pub actions-filled : (description text : List ℕ) (d : Draft) (rest : List ℕ)
     → described 64 description ≡ answered (read d rest lines)
     → d.fluents ≤ length d.names → (room : ℕ) → room ≡ atoms d → (vs : List ℕ)
     → states_from d.horizon d 0 1 (replicate room 0) text ≡ answered vs
-    → ActionsFilled description Complete vs
+    → ActionsFilled description (Ok tt) vs
 actions-filled description text d rest lines is declared room e vs f d' rest' lines' is' =
     let m = length d.names - d.fluents in
     let acts = subst (OfAnswer (ActionsValued d.fluents m d.horizon)) f

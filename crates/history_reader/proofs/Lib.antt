@@ -1,4 +1,5 @@
 -- What the functions' proofs share.
+pub mod Keyed
 pub mod Marking
 pub mod Recording
 pub mod Kept

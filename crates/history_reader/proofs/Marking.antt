@@ -5,7 +5,6 @@ use mathlib.Core.Bool.{Bool, true, false, cond}
 use mathlib.Core.List.{List, [], ◌∷◌, ◌++◌}
 use mathlib.Core.Option.{Option, none, some}
 use Prim.Native.Nat.{ℕ, zero, suc, ◌+◌, ◌-◌, ◌*◌, ◌/◌, ◌%◌, ◌≤◌, ◌<◌}
-use native.Mathlib.Nat.{mul-le-mul_left}
 use native.Mathlib.Omega.{arith}
 use borrow.Author.Tests.{eq-eqb, ne_eqb, lt-ltb, ltb-true, ltb-false}
 use lib.Dec.{eqb, ltb}
@@ -153,8 +152,3 @@ key_below line = go (is_state line)
     go : (b : Bool) → cond b 7 8 < no_key
     go true = omega arith
     go false = omega arith
-
--- where a time's values begin
-pub base-bound : (count line : ℕ) (t : ℕ) → (line - 1) / 2 ≤ t → count ≤ 32 → (line - 1) / 2 * count ≤ t * 32
-base-bound count line t h few =
-    omega (arith, mul-le-mul_left ((line - 1) / 2) few)

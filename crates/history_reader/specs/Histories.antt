@@ -1,11 +1,11 @@
 -- Reading a history: state, act, state, .., act, state, then end (01, "Text"; 02, §2).
 -- Assumes nothing.
-use Rattle.std.specs.Prelude.{◌≡◌, cond, List, [], ◌∷◌, ℕ, zero, suc, ◌+◌, ◌-◌, ◌*◌, eqb, ltb, length, replicate}
+use Rattle.std.specs.Prelude.{◌≡◌, cond, List, [], ◌∷◌, ℕ, zero, suc, ◌+◌, ◌-◌, ◌*◌, eqb, ltb, length, replicate, Result, Ok, Err}
 use Rattle.std.proofs.Math.Option.{Option, none, some}
 use Rattle.basics.specs.Replies.{Reply, refused, answered, or_refuse, left_after}
 use Rattle.action_language.specs.Atoms.{atom_count, wrong_length}
-use Rattle.history_reader.specs.declared.HistoryAnswer.{HistoryAnswer}
-use Rattle.history_reader.specs.declared.HistoryAnswer.TheVariants.{Refused, Complete}
+use Rattle.basics.specs.declared.Refusal.{Refusal}
+use Rattle.basics.specs.Refusals.{tested_of}
 use Rattle.text_forms.specs.Lines.{state_key, act_key, end_key, Line, first_line}
 use Rattle.text_forms.specs.Lists as lists
 use Rattle.text_forms.specs.Lists.{Listed, codes, list_of}
@@ -85,18 +85,17 @@ read_history description text room = by_names (described 64 description) text ro
 abbrev pub values_left : Reply (List ℕ) → List ℕ → List ℕ
 values_left reply old = left_after reply (λ vs. vs) old
 
--- what the history reader answers: the number and the place that each case of the code's answer stands for
-abbrev pub history_reply_of : HistoryAnswer → Reply Unit
-history_reply_of (Refused number place) = refused number place
-history_reply_of Complete = answered tt
+-- the reply that the code's answer stands for
+abbrev pub history_reply_of : Result Unit Refusal → Reply Unit
+history_reply_of = tested_of
 
 abbrev pub history_replied : Reply (List ℕ) → Reply Unit
 history_replied (refused number place) = refused number place
 history_replied (answered vs) = answered tt
 
 -- unless the reader refuses, no action atom is left at 0: for whatever description the names are taken from
-abbrev pub ActionsFilled : List ℕ → HistoryAnswer → List ℕ → Type 0
-ActionsFilled description (Refused number place) vs = Unit
-ActionsFilled description Complete vs =
+abbrev pub ActionsFilled : List ℕ → Result Unit Refusal → List ℕ → Type 0
+ActionsFilled description (Err refusal) vs = Unit
+ActionsFilled description (Ok read_whole) vs =
     (d : Draft) (rest : List ℕ) (lines : ℕ) → described 64 description ≡ answered (read d rest lines)
     → ActionsValued d.fluents (length d.names - d.fluents) d.horizon vs

@@ -1,20 +1,19 @@
 -- Internal: what the crate's own functions promise each other. No public promise rests on it; a reader may pass it over.
 -- Assumes nothing.
-use Rattle.std.specs.Prelude.{Bool, cond, List, ℕ, zero, suc, ◌+◌, ◌-◌, ◌*◌, ◌/◌, ◌%◌, ◌≤◌, ◌<◌, eqb, ltb, length, take, drop}
-use Rattle.history_reader.specs.declared.histories.EndAt.{EndAt}
+use Rattle.std.specs.Prelude.{Bool, cond, List, ℕ, zero, suc, ◌+◌, ◌-◌, ◌*◌, ◌/◌, ◌%◌, eqb, ltb, length, Result, Ok, Err}
+use Rattle.basics.specs.declared.Reason.{Reason}
+use Rattle.basics.specs.declared.Refusal.{Refusal}
+use Rattle.basics.specs.Refusals.{number_of}
 use Rattle.basics.specs.Replies.{Reply, refused, answered}
 use Rattle.action_language.specs.Atoms.{atom_count}
-use Rattle.history_reader.specs.declared.histories.Record.{Record}
-use Rattle.history_reader.specs.declared.histories.Lines.{Lines}
 use Rattle.history_reader.specs.declared.histories.Wanted.{Wanted}
-use Rattle.description_reader.specs.declared.descriptions.Declarations.{Declarations}
+use Rattle.description_reader.specs.declared.declarations.Declarations.{Declarations}
+use Rattle.text_forms.specs.declared.Key.{Key}
+use Rattle.text_forms.specs.declared.Key.TheVariants.{State, Act}
 use Rattle.text_forms.specs.Lines.{first_line, state_key, act_key}
 use Rattle.description_lines.specs.LineSteps.{Draft}
 use Rattle.history_values.specs.Values.{filled}
 use Rattle.history_reader.specs.Histories.{history_end, list_line}
-
-unfoldable pub ending_of : EndAt → List ℕ → Reply (List ℕ)
-ending_of e vs = cond (eqb e.refused 0) (answered vs) (refused e.refused e.line)
 
 -- odd lines are states, even ones acts; two lines a time
 abbrev pub is_state : ℕ → Bool
@@ -44,24 +43,25 @@ record_from (suc n) d line vs text =
     line (base_at (length d.names) line) vs
     (λ vs' rest. record_from n d (suc line) (filled_at d.fluents (length d.names) line vs') rest)
 
+abbrev pub due_key : ℕ → Key
+due_key line = cond (is_state line) State Act
+
 abbrev pub wanted_at : ℕ → ℕ → ℕ → Wanted
 wanted_at fluents count line =
-    record { key = key_at line; low = low_at fluents line; high = high_at fluents count line; base = base_at count line }
+    record { key = due_key line; low = low_at fluents line; high = high_at fluents count line; base = base_at count line }
 
 abbrev pub place_from : ℕ → ℕ
 place_from size = cond (ltb 0 size) 0 (size + 1)
 
--- what the lines of literals left: the end line, or a refusal
-unfoldable pub left_of : List ℕ → ℕ → Lines → Reply (List ℕ)
-left_of text n r =
-    cond (eqb r.refused 0) (history_end (first_line (drop r.at text)) r.line (take n r.values)) (refused r.refused r.line)
+-- what a list that was read says of its line: what comes next, or the refusal
+abbrev pub marked_by : Result Unit Reason → ℕ → Reply (List ℕ) → Reply (List ℕ)
+marked_by (Ok read_whole) line next = next
+marked_by (Err reason) line next = refused (number_of reason) line
 
-pub record LinesFit (text : List ℕ) (r : Lines) : Type 0 where
-  pub within : r.at ≤ length text
-  pub few : r.line < 100
-
-unfoldable pub values_read : ℕ → Record → Reply (List ℕ)
-values_read n r = cond (eqb r.refused 0) (answered (take n r.values)) (refused r.refused r.line)
+-- what a history that was read says of the values that it marked
+abbrev pub read_as : Result Unit Refusal → List ℕ → Reply (List ℕ)
+read_as (Ok read_whole) vs = answered vs
+read_as (Err refusal) vs = refused (number_of refusal.reason) refusal.place
 
 abbrev pub atoms_of : Declarations → ℕ
 atoms_of r = atom_count r.fluents (r.names.count - r.fluents) r.horizon

@@ -6,17 +6,11 @@ mod histories;
 ghost use Rattle.std.specs.Prelude.{◌≡◌, length};
 ghost use Rattle.history_reader.specs.Histories.{read_history, values_left, history_reply_of, history_replied, ActionsFilled};
 
+use basics::{Reason, Refusal};
 use description_reader::descriptions;
 
-// The refusal's number and place, or that the whole history is read.
-#[derive(Clone, Copy)]
-pub enum HistoryAnswer {
-    Refused(u8, usize),
-    Complete,
-}
-
 // Reads a history's text by the names of its description's text, and leaves its values; on a refusal the buffer stays as it was.
-pub fn read_history(description: &[u8], text: &[u8], values: &mut [u8]) -> HistoryAnswer
+pub fn read_history(description: &[u8], text: &[u8], values: &mut [u8]) -> Result<(), Refusal>
     ensures answers { history_reply_of result
         ≡ history_replied (read_history description.now text.now (length values.old)) }
     ensures leaves { values.new
@@ -24,21 +18,23 @@ pub fn read_history(description: &[u8], text: &[u8], values: &mut [u8]) -> Histo
         values.old }
     ensures filled { ActionsFilled description.now result values.new }
 {
-    let draft = descriptions::read_alone(description);
-    if 0 < draft.refused {
-        return HistoryAnswer::Refused(draft.refused, draft.line);
-    }
+    let declared = descriptions::read_alone(description)?;
     let room = values.len();
-    if room != histories::atom_count(draft) {
-        return HistoryAnswer::Refused(10, room);
+    if room != histories::atom_count(&declared) {
+        return Err(Refusal {
+            reason: Reason::WrongCount,
+            place: room,
+        });
     }
     if 65535 < text.len() {
-        return HistoryAnswer::Refused(1, 0);
+        return Err(Refusal {
+            reason: Reason::LongText,
+            place: 0,
+        });
     }
-    let record = histories::read(description, text, draft);
-    histories::copy_out(values, record);
-    if 0 < record.refused {
-        return HistoryAnswer::Refused(record.refused, record.line);
-    }
-    HistoryAnswer::Complete
+    let mut places = [0; 1024];
+    let found = &mut places[..room];
+    histories::read(description, text, &declared, found)?;
+    values.copy_from_slice(found);
+    Ok(())
 }

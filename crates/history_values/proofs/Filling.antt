@@ -35,9 +35,6 @@ take-filled n at (suc k) vs =
     take-filled n (suc at) k (set vs at (or_false (get_or vs at 0))) ∙ ap (filled (suc at) k) (take-changed or_false n vs at)
 
 -- places past the values
-pub marked-outside : (base : ℕ) (vs : List ℕ) (c : ℕ) → length vs ≤ base + c / 2 → vs ≡ with_literals base vs (c ∷ [])
-marked-outside base vs c h = sym (set_out vs (base + c / 2) _ h)
-
 pub filled-outside : (at k : ℕ) (vs : List ℕ) → length vs ≤ at → vs ≡ filled at k vs
 filled-outside at zero vs h = refl
 filled-outside at (suc k) vs h =

@@ -1,5 +1,5 @@
 // Literals and lists of literals in a state: the old state with the actions done there, or the new one.
-ghost use Rattle.std.specs.Prelude.{◌≡◌, not, cond, ◌%◌, eqb, take};
+ghost use Rattle.std.specs.Prelude.{◌≡◌, not, cond, ◌%◌, eqb};
 ghost use Rattle.transitions.specs.Meaning.{satisfies, holds, together};
 ghost use Rattle.law_effects.specs.Applying.{read};
 
@@ -9,10 +9,7 @@ use crate::values;
 pub fn literal_holds(code: usize, value: bool) -> bool
     ensures { result ≡ cond (eqb (code % 2) 0) value (not value) }
 {
-    if code % 2 == 0 {
-        return value;
-    }
-    !value
+    if code % 2 == 0 { value } else { !value }
 }
 
 // Whether the literal of a code holds in a state and the actions done in it: codes below 2n speak of the state, the others
@@ -20,7 +17,7 @@ pub fn literal_holds(code: usize, value: bool) -> bool
 pub fn satisfies(n: usize, old: &[u8], done: &[u8], code: u8) -> bool
     ensures { result ≡ satisfies (together n (read old.now) (read done.now)) code }
 {
-    let code = values::wide(code);
+    let code = usize::from(code);
     let i = code / 2;
     if i < n {
         return literal_holds(code, values::is_true(old, i));
@@ -29,16 +26,8 @@ pub fn satisfies(n: usize, old: &[u8], done: &[u8], code: u8) -> bool
 }
 
 // All literals of a list hold there; those of an empty list always do.
-pub fn holds(n: usize, old: &[u8], done: &[u8], codes: [u8; 6], count: usize) -> bool
-    ensures { result ≡ holds (together n (read old.now) (read done.now)) (take count codes) }
+pub fn holds(n: usize, old: &[u8], done: &[u8], codes: &[u8]) -> bool
+    ensures { result ≡ holds (together n (read old.now) (read done.now)) codes.now }
 {
-    let end = values::least(count, 6);
-    let mut i = 0;
-    while i < end {
-        if !satisfies(n, old, done, codes[i]) {
-            return false;
-        }
-        i += 1;
-    }
-    true
+    codes.iter().all(|code| satisfies(n, old, done, *code))
 }

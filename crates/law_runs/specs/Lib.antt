@@ -1,3 +1,2 @@
--- Runs of law records. `Runs` has the run by value that a program begins with; what the functions promise besides is in `Internal`.
+-- Runs of law records: the one that a program begins with.
 pub mod Runs
-pub mod Internal

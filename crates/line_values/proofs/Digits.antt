@@ -26,12 +26,15 @@ horizon-two (a ∷ []) h = absurd (omega arith)
 horizon-two (a ∷ b ∷ []) h = refl
 horizon-two (a ∷ b ∷ c ∷ xs) h = absurd (omega arith)
 
-pub horizon-other : (xs : List ℕ) → (length xs ≡ 1 → ⊥) → (length xs ≡ 2 → ⊥) → none ≡ horizon_of xs
+pub horizon-other : (xs : List ℕ) → (length xs ≡ 1 → ⊥) → (length xs ≡ 2 → ⊥) → horizon_of xs ≡ none
 unfolding horizon_of
 horizon-other [] h k = refl
 horizon-other (a ∷ []) h k = absurd (h refl)
 horizon-other (a ∷ b ∷ []) h k = absurd (k refl)
 horizon-other (a ∷ b ∷ c ∷ xs) h k = refl
+
+-- a horizon's spelling by its length
+pub ruleset by_length = (horizon-one, horizon-two, horizon-other)
 
 -- a horizon that is read is at most 30
 in-30 : (b : Bool) (T t : ℕ) → (leb 1 T && leb T 30) ≡ b → cond b (some T) none ≡ some t → t ≤ 30

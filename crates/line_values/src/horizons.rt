@@ -1,62 +1,47 @@
 // The horizon's spelling: 1 to 30 without a leading zero.
-ghost use Rattle.std.specs.Prelude.{◌≡◌, ◌-◌, ◌<◌};
-ghost use Rattle.basics.specs.Search.{place_of};
-ghost use Rattle.line_values.specs.HorizonText.{in_horizon, horizon_of, two_digits};
+ghost use Rattle.std.specs.Prelude.{◌≡◌, ◌-◌, ◌<◌, cond, IfSome, Some, None};
+ghost use Rattle.basics.specs.Refusals.{place_of};
+ghost use Rattle.spelling.specs.Letters.{is_digit};
+ghost use Rattle.line_values.specs.HorizonText.{in_horizon, two_digits, horizon_of};
 
-use basics::Found;
 use spelling;
 
 // 1 to 30.
-fn in_horizon(t: usize) -> Found
+fn in_horizon(t: usize) -> Option<usize>
     ensures { place_of result ≡ in_horizon t }
 {
-    if t < 1 {
-        return Found::Nothing;
-    }
-    if 30 < t {
-        return Found::Nothing;
-    }
-    Found::At(t)
+    (1 <= t && t <= 30).then_some(t)
 }
 
 // What a digit's byte stands for.
-fn digit(b: u8) -> usize
-    ensures { (result ≡ b - 48) × (result < 256) }
+fn digit(b: u8) -> Option<usize>
+    ensures value { result ≡ cond (is_digit b) (Some (b - 48)) None }
+    ensures few { IfSome result (λ d. d < 10) }
 {
-    if b < 48 {
-        return 0;
+    if !spelling::is_digit(b) {
+        return None;
     }
-    (b as usize) - 48
+    Some(usize::from(b - b'0'))
 }
 
-// The horizon: one digit, or two of which the first is no zero.
-pub fn horizon_of(value: &[u8]) -> Found
-    ensures { place_of result ≡ horizon_of value.now }
-{
-    if value.len() == 1 {
-        let a = value[0];
-        if !spelling::is_digit(a) {
-            return Found::Nothing;
-        }
-        return in_horizon(digit(a));
-    }
-    if value.len() == 2 {
-        return two_digits(value[0], value[1]);
-    }
-    Found::Nothing
-}
-
-fn two_digits(a: u8, b: u8) -> Found
+// Two digits, of which the first is no zero.
+fn two_digits(a: u8, b: u8) -> Option<usize>
     ensures { place_of result ≡ two_digits a b }
 {
-    if !spelling::is_digit(a) {
-        return Found::Nothing;
+    if a == b'0' {
+        return None;
     }
-    if !spelling::is_digit(b) {
-        return Found::Nothing;
+    in_horizon(10 * digit(a)? + digit(b)?)
+}
+
+// The horizon: one digit, or two.
+#[tactic(auto, using(crate::proofs::Digits::by_length))]
+pub fn horizon_of(value: &[u8]) -> Option<usize>
+    ensures { place_of result ≡ horizon_of value.now }
+{
+    match *value {
+        [a] => in_horizon(digit(a)?),
+        [a, b] => two_digits(a, b),
+        _ => None,
     }
-    if a == 48 {
-        return Found::Nothing;
-    }
-    in_horizon(10 * digit(a) + digit(b))
 }

@@ -1,13 +1,12 @@
--- A value past the end, and a mark that is as wanted.
+-- A value past the end.
 -- Assumes nothing.
 use mathlib.Core.Path.{◌≡◌, refl}
-use mathlib.Core.Bool.{Bool, true, false, cond, not, beq}
+use mathlib.Core.Bool.{Bool, true, false, cond}
 use mathlib.Core.List.{List}
 use Prim.Native.Nat.{ℕ, ◌/◌, ◌%◌, ◌≤◌}
 use lib.Dec.{eqb}
 use lib.ListN.{length, get_or-eq_default}
 use Rattle.logic_programs.specs.Literals.{set_of, holds_true, holds_false}
-use Rattle.literal_sets.specs.Marks.{is}
 
 -- no literal of an atom past the values
 pub set_of-past : (vs : List ℕ) (c : ℕ) → length vs ≤ c / 2 → set_of vs c ≡ false
@@ -17,13 +16,3 @@ set_of-past vs c h = rw (get_or-eq_default vs 0 h) (same (eqb (c % 2) 0))
     same : (b : Bool) → cond b false false ≡ false
     same true = refl
     same false = refl
-
--- whether a mark is as wanted, by the test for a difference
-pub differs : (found mark want v : Bool) → found ≡ mark → not (beq found want) ≡ v → is want mark ≡ not v
-differs found mark want v e t = rw (← e) (rw (← t) (cases found want))
-  where
-    cases : (a b : Bool) → is b a ≡ not (not (beq a b))
-    cases true true = refl
-    cases true false = refl
-    cases false true = refl
-    cases false false = refl

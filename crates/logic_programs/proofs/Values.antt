@@ -89,15 +89,9 @@ module _ (vs : List ℕ) where
     all-one-value,
   )
 
-  -- the fault, from what the code finds
-  pub says-missing : {a : ℕ} → first none_or_both 0 vs ≡ some a → get_or vs a 0 ≡ 0 → missing a ≡ value_fault vs
-  says-missing e zero = rw (e, zero)
-
+  -- the fault of an atom with both values
   pub says-clash : {a : ℕ} → first none_or_both 0 vs ≡ some a → (get_or vs a 0 ≡ 0 → ⊥) → clash a ≡ value_fault vs
   says-clash {a} e other = rw (e, ne_eqb (get_or vs a 0) 0 other)
-
-  pub says-neither : first none_or_both 0 vs ≡ none → neither ≡ value_fault vs
-  says-neither e = rw e
 
   -- and what it means: the lowest atom that has no value or both, and which; or each atom has one value
   abbrev lacks : ℕ → Bool

@@ -1,4 +1,4 @@
 pub mod Decimals
-pub mod WordTable
+pub mod Lines
 pub mod Names
-pub mod Showing
+pub mod Stores

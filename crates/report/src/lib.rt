@@ -8,9 +8,7 @@ ghost use Rattle.report_theory.specs.Output.{room, after_outcome, output};
 ghost use Rattle.report_theory.specs.Program.{Program};
 
 use action_language::{Description, Law};
-use history_reader::HistoryAnswer;
 use output_lines::Counts;
-use translation::Translated;
 
 // Room for the largest table.
 fn no_table() -> [u16; 30912]
@@ -24,30 +22,26 @@ fn put_outcome(
     out: &mut [u8],
     input: &[u8],
     d: Description,
-    laws: [Law; 64],
+    laws: &[Law; 64],
     values: &[u8],
 ) -> usize
-    ensures fact { let ws = after_outcome input.now d laws values.now (outcome d laws 64 room) in
+    ensures fact { let ws = after_outcome input.now d laws.now values.now (outcome d laws.now 64 room) in
         (result ≡ 0 + length ws) × (out.new ≡ sets out.old 0 ws) }
     ensures upper_bound { result ≤ 400 }
 {
-    let measured = translation::measure(d, laws, 64, 30912);
-    match measured {
-        Translated::Refused(number, place) => output_lines::put_refusal(out, number, place),
-        Translated::Written(atoms, rules, words) => {
-            let mut table = no_table();
-            let judged = held_laws::judge(d, laws, values, &mut table);
-            let checked = judged.checked;
-            let reading = judged.reading;
-            let counts = Counts {
-                horizon: d.horizon,
-                atoms,
-                rules,
-                words,
-            };
-            output_lines::put_checked(out, input, counts, checked, reading)
-        }
-    }
+    let written = match translation::measure(d, laws, 30912) {
+        Ok(written) => written,
+        Err(refusal) => return output_lines::put_refusal(out, refusal),
+    };
+    let mut table = no_table();
+    let judged = lent_laws::judge(d, laws, values, &mut table);
+    let counts = Counts {
+        horizon: d.horizon,
+        atoms: written.atoms,
+        rules: written.rules,
+        words: written.words,
+    };
+    output_lines::put_checked(out, input, counts, judged.checked, judged.reading)
 }
 
 // Writes the output for an input from the buffer's first byte on, as far as the buffer goes, and returns how long the whole
@@ -59,15 +53,11 @@ pub fn report(input: &[u8], out: &mut [u8]) -> usize
     ensures printed { Program input.now (output input.now) }
 {
     let whole = inputs::read_input(input);
-    let answer = whole.answer;
-    match answer {
-        HistoryAnswer::Refused(number, place) => output_lines::put_refusal(out, number, place),
-        HistoryAnswer::Complete => {
-            let d = whole.description;
-            let laws = whole.laws;
-            let values = whole.values;
-            let atoms = whole.atoms;
-            put_outcome(out, input, d, laws, &values[..atoms])
+    match whole.answer {
+        Err(refusal) => output_lines::put_refusal(out, refusal),
+        Ok(()) => {
+            let values = &whole.values[..whole.atoms];
+            put_outcome(out, input, whole.description, &whole.laws, values)
         }
     }
 }
@@ -77,5 +67,5 @@ pub fn held(size: usize, out: &[u8]) -> usize
     ensures bounded { (result ≤ length out.now) × (result ≡ length (take result out.now)) }
     ensures answers { result ≡ min size (length out.now) }
 {
-    if size < out.len() { size } else { out.len() }
+    size.min(out.len())
 }

@@ -7,26 +7,18 @@ use mathlib.Core.Option.{Option, none, some}
 use Prim.Native.Nat.{ℕ, suc, ◌+◌, ◌-◌, ◌*◌, ◌/◌, ◌≤◌, ◌<◌}
 use native.Mathlib.Numerals.{add-one}
 use native.Mathlib.Omega.{arith}
-use borrow.Author.Tests.{lt-leb, le-leb, not-true, not-false, ltb-true, ltb-false, lt-ltb, le-ltb}
-use lib.Dec.{ltb}
-use lib.ListN.{length, get_or, take, drop, length-drop}
+use borrow.Author.Tests.{lt-leb, le-leb, not-true, not-false, ltb-true, ltb-false, lt-ltb, le-ltb, eqb-true, eqb-false}
+use lib.Dec.{eqb, ltb}
+use lib.ListN.{length, take, drop, length-drop}
 use Rattle.basics.specs.Search.{all}
 use Rattle.basics.proofs.Loops.{to_the_end}
 use Rattle.logic_programs.specs.Literals.{Lits}
-use Rattle.logic_programs.specs.Words.{rule_size, rule_at, rule_fits, head_fits, parts_fit}
+use Rattle.logic_programs.specs.Words.{rule_size, rule_at, rule_fits}
 use Rattle.rule_tables.specs.Bodies.{applies, front_negated, front_plain, front_applies}
 use Rattle.rule_tables.proofs.Fitting.{bad_rule_from, bad_rule_from-cons, bad_rule_from-nil, rule_fits-iff}
 
--- the parts that the code takes of a whole rule are the rule's; of one that runs past the end it takes none
+-- of a rule that runs past the end the code takes no parts, and of a whole one its own
 module _ (ws : List ℕ) where
-  pub negated-taken : take (3 + get_or ws 1 0 - 3) (drop 3 ws) ≡ (rule_at ws).negated
-  negated-taken = let e : 3 + get_or ws 1 0 - 3 ≡ get_or ws 1 0 = omega arith in ap (λ (k : ℕ). take k (drop 3 ws)) e
-
-  pub plain-taken : take (3 + get_or ws 1 0 + get_or ws 2 0 - (3 + get_or ws 1 0)) (drop (3 + get_or ws 1 0) ws) ≡ (rule_at ws).plain
-  plain-taken =
-      let e : 3 + get_or ws 1 0 + get_or ws 2 0 - (3 + get_or ws 1 0) ≡ get_or ws 2 0 = omega arith in
-      ap (λ (k : ℕ). take k (drop (3 + get_or ws 1 0) ws)) e
-
   pub negated-short : length ws < rule_size ws → [] ≡ front_negated ws
   unfolding front_negated
   negated-short h = rw (lt-leb (rule_size ws) (length ws) h)
@@ -55,13 +47,13 @@ module _ (X Y : Lits) (ws : List ℕ) where
 
 -- a rule applies: first its negated parts are looked at, then its plain ones
 module _ (X Y : Lits) (ws : List ℕ) (r : Bool) (is : r ≡ all (λ c. not (X c)) (rule_at ws).negated) where
-  pub applies-stop : rule_size ws ≤ length ws → not r ≡ true → false ≡ front_applies X Y ws
+  pub applies-stop : rule_size ws ≤ length ws → r ≡ false → r ≡ front_applies X Y ws
   unfolding front_applies
-  applies-stop h e = rw (le-leb (rule_size ws) (length ws) h, ← is, not-true r e)
+  applies-stop h e = rw (le-leb (rule_size ws) (length ws) h, ← is, e)
 
-  pub applies-go : (q : Bool) → rule_size ws ≤ length ws → not r ≡ false → q ≡ all Y (rule_at ws).plain → q ≡ front_applies X Y ws
+  pub applies-go : (q : Bool) → rule_size ws ≤ length ws → r ≡ true → q ≡ all Y (rule_at ws).plain → q ≡ front_applies X Y ws
   unfolding front_applies
-  applies-go q h e plain = rw (le-leb (rule_size ws) (length ws) h, ← is, not-false r e) plain
+  applies-go q h e plain = rw (le-leb (rule_size ws) (length ws) h, ← is, e) plain
 
 -- a code is below 2 × atoms where its atom is below atoms
 pub half-below : (c n : ℕ) → ltb (c / 2) n ≡ ltb c (2 * n)
@@ -70,20 +62,6 @@ half-below c n = go (ltb (c / 2) n) refl
     go : (b : Bool) → ltb (c / 2) n ≡ b → b ≡ ltb c (2 * n)
     go true t = sym (lt-ltb c (2 * n) (omega (arith, ltb-true (c / 2) n t)))
     go false f = sym (le-ltb c (2 * n) (omega (arith, ltb-false (c / 2) n f)))
-
--- a rule fits: the tests in the order of the code
-module _ (n : ℕ) (ws : List ℕ) where
-  pub fits-short : length ws < rule_size ws → false ≡ rule_fits n ws
-  fits-short h = rw (lt-leb (rule_size ws) (length ws) h)
-
-  pub fits_head : (r : Bool) → rule_size ws ≤ length ws → r ≡ head_fits n (get_or ws 0 0) → not r ≡ true → false ≡ rule_fits n ws
-  fits_head r h is e = rw (le-leb (rule_size ws) (length ws) h, ← is, not-true r e)
-
-  pub fits-parts : (r q : Bool) (size : ℕ) → size ≡ rule_size ws → size ≤ length ws → r ≡ head_fits n (get_or ws 0 0) → not r ≡ false
-      → q ≡ parts_fit n (take (size - 3) (drop 3 ws)) → q ≡ rule_fits n ws
-  fits-parts r q size s h is e parts =
-      let same : size - 3 ≡ get_or ws 1 0 + get_or ws 2 0 = omega arith in
-      rw (le-leb (rule_size ws) (length ws) (omega arith), ← is, not-false r e) (rw same at parts)
 
 -- the search for the first rule that does not fit
 pub bad-front : (n k at : ℕ) (ws : List ℕ) → 0 < length ws → bad_rule_from n k at ws
@@ -116,6 +94,13 @@ fits-size n ws r is e = ((rule_fits-iff n ws).0 (sym is ∙ not-false r e)).0
 -- what the code takes to be left behind the rule at the front
 pub left_behind : (ws : List ℕ) (size : ℕ) → size ≡ rule_size ws → take (length ws - size) (drop size ws) ≡ drop (rule_size ws) ws
 left_behind ws size e = to_the_end size ws ∙ ap (λ (k : ℕ). drop k ws) e
+
+-- words are left, or none are
+pub some_left : {r : Bool} (ws : List ℕ) → r ≡ eqb (length ws) 0 → r ≡ false → 0 < length ws
+some_left ws is e = let n = eqb-false (length ws) 0 (sym is ∙ e) in omega (arith, n)
+
+pub none-left : {r : Bool} (ws : List ℕ) → r ≡ eqb (length ws) 0 → r ≡ true → length ws ≤ 0
+none-left ws is e = let n = eqb-true (length ws) 0 (sym is ∙ e) in omega (arith, n)
 
 pub shorter : (ws : List ℕ) → 0 < length ws → length (drop (rule_size ws) ws) < length ws
 shorter ws h = omega (arith, length-drop (rule_size ws) ws)

@@ -1,12 +1,12 @@
--- Refusals 10, 11 and 12: what the three tests say, in the order in which the code makes them, and what they say before anything else.
+-- Refusals 10, 11 and 12: what the three tests say before anything else.
 -- Assumes nothing.
 use mathlib.Core.Path.{◌≡◌, refl}
 use mathlib.Core.Bool.{Bool, true, false, cond}
 use mathlib.Core.List.{List}
 use mathlib.Core.Option.{Option, none, some}
-use Prim.Native.Nat.{ℕ, ◌≤◌, ◌<◌}
+use Prim.Native.Nat.{ℕ, ◌≤◌}
 use native.Mathlib.Omega.{arith}
-use borrow.Author.Tests.{ltb-false, lt-ltb, le-ltb}
+use borrow.Author.Tests.{ltb-false}
 use lib.Dec.{ltb}
 use lib.ListN.{length}
 use Rattle.basics.specs.Replies.{Reply, refused, answered, or_refuse}
@@ -22,24 +22,6 @@ few-values vs e = go (ltb 1024 (length vs)) refl e
     go false q h = ltb-false 1024 (length vs) q
 
 module _ (vs ws : List ℕ) where
-  pub says-10 : 1024 < length vs → refused 10 (length vs) ≡ tested vs ws
-  unfolding tested
-  says-10 h = rw (lt-ltb 1024 (length vs) h)
-
-  module _ (few : length vs ≤ 1024) where
-    pub says-11 : {k : ℕ} → bad_value vs ≡ some k → refused 11 k ≡ tested vs ws
-    unfolding tested
-    says-11 e = rw (le-ltb 1024 (length vs) few, e)
-
-    module _ (none₁ : bad_value vs ≡ none) where
-      pub says-12 : {k : ℕ} → bad_rule (length vs) ws ≡ some k → refused 12 k ≡ tested vs ws
-      unfolding tested
-      says-12 e = rw (le-ltb 1024 (length vs) few, none₁, e)
-
-      pub says-accepted : bad_rule (length vs) ws ≡ none → answered tt ≡ tested vs ws
-      unfolding tested
-      says-accepted e = rw (le-ltb 1024 (length vs) few, none₁, e)
-
   -- what the three say by themselves they say before anything
   abbrev alone : Option ℕ → Option ℕ → Option ℕ → Reply (Unit {0})
   alone a b c = or_refuse a 10 (or_refuse b 11 (or_refuse c 12 (answered tt)))

@@ -1,6 +1,6 @@
 -- Bodies and heads of rules looked up in sets of literals: what the functions on a rule table tell.
 -- Assumes nothing.
-use Rattle.std.specs.Prelude.{Bool, true, false, cond, not, ◌&&◌, List, [], ℕ, leb, length}
+use Rattle.std.specs.Prelude.{Bool, false, cond, not, ◌&&◌, List, [], ℕ, leb, length}
 use Rattle.basics.specs.Search.{all}
 use Rattle.logic_programs.specs.Literals.{Lits}
 use Rattle.logic_programs.specs.Rules.{Head, lit, falsum, Rule}

@@ -1,6 +1,6 @@
 -- Internal: what these functions promise the translation's. No promise of the translation rests on it; a reader may pass it over.
 -- Assumes nothing.
-use Rattle.std.specs.Prelude.{cond, ◌&&◌, List, [], ◌∷◌, ℕ, ltb, leb, take, get_or}
+use Rattle.std.specs.Prelude.{cond, ◌&&◌, List, [], ◌∷◌, ℕ, ltb, leb, take, get_or, replicate}
 use Rattle.logic_programs.specs.Rules.{Rule}
 use Rattle.logic_programs.specs.Words.{rule_words, words}
 use Rattle.action_language.specs.declared.Kind.{Kind}
@@ -26,6 +26,6 @@ rule_for N Dynamic l t = dynamic_rule N l t
 abbrev pub rule_word : ℕ → Law → ℕ → ℕ → ℕ
 rule_word N l t i = cond (leb N 32 && leb t 30) (get_or (rule_words (rule_for N l.kind l t)) i 0) 0
 
--- word i of the two rules of an atom's choice, or 0 past the last atom
-abbrev pub choice_word : ℕ → ℕ → ℕ
-choice_word atom i = cond (ltb atom 1024) (get_or (words (choices (atom ∷ []))) i 0) 0
+-- the words of the two rules of an atom's choice, or 0 past the last atom
+abbrev pub choice_words : ℕ → List ℕ
+choice_words atom = cond (ltb atom 1024) (words (choices (atom ∷ []))) (replicate 8 0)

@@ -4,12 +4,13 @@ use mathlib.Core.Path.{◌≡◌, refl}
 use mathlib.Core.Bool.{Bool, true, false, not, ◌&&◌, ◌||◌}
 use mathlib.Core.List.{List, [], ◌∷◌}
 use mathlib.Core.Option.{none}
-use Prim.Native.Nat.{ℕ, zero, suc, ◌+◌, ◌*◌, ◌/◌, ◌%◌}
+use Prim.Native.Nat.{ℕ, zero, suc, ◌+◌, ◌*◌, ◌/◌, ◌%◌, ◌<◌}
+use native.Mathlib.Nat.{add-zero}
 use native.Mathlib.Omega.{arith}
 use borrow.Author.Tests.{ne_eqb}
 use lib.Dec.{eqb}
-use lib.ListN.{get_or}
-use Rattle.basics.specs.Search.{first}
+use lib.ListN.{length, get_or}
+use Rattle.basics.specs.Search.{first, range}
 use Rattle.logic_programs.specs.Literals.{Lits, set_of, holds_true, holds_false}
 use Rattle.answer_set_theory.specs.Verdicts.{both_values, is_unfounded}
 
@@ -39,3 +40,11 @@ none-unfounded X k (c ∷ cs) = rw (never (X c)) (none-unfounded X (suc k) cs)
     never : (b : Bool) → (b && not b) ≡ false
     never true = refl
     never false = refl
+
+-- a search over a list is one over its places
+pub by_place : {A : Type 0} (d : A) (p : A → Bool) (q : ℕ → Bool) (k : ℕ) (xs : List A)
+    → ((i : ℕ) → i < length xs → q (k + i) ≡ p (get_or xs i d)) → first p k xs ≡ first q k (range k (length xs))
+by_place d p q k [] h = refl
+by_place d p q k (x ∷ xs) h =
+    let here : q k ≡ p x = rw (add-zero k) at (h 0 (omega arith)) in
+    rw (here, by_place d p q (suc k) xs (λ i b. let e : suc k + i ≡ k + suc i = omega arith in rw e (h (suc i) (omega arith))))

@@ -2,3 +2,4 @@
 pub mod Comparing
 pub mod Naming
 pub mod Lowering
+pub mod Library

@@ -1,28 +1,16 @@
 -- What a name keeps to.
 -- Assumes nothing.
-use mathlib.Core.Path.{◌≡◌, refl}
+use mathlib.Core.Path.{◌≡◌}
 use mathlib.Core.Bool.{true, false, not, ◌&&◌}
-use mathlib.Core.List.{List, [], ◌∷◌}
+use mathlib.Core.List.{List}
 use Prim.Native.Nat.{ℕ, ◌≤◌}
-use native.Mathlib.Omega.{arith}
 use borrow.Author.Tests.{leb-true, not-true}
 use lib.Dec.{leb}
-use lib.ListN.{length, get_or}
+use lib.ListN.{length}
 use Rattle.basics.specs.Search.{all, Each}
 use Rattle.basics.proofs.Tests.{and-iff, all-each}
-use Rattle.spelling.specs.Letters.{is_letter, is_name_byte}
+use Rattle.spelling.specs.Letters.{is_name_byte}
 use Rattle.spelling.specs.Spelling.{same_name, false_bytes, starts_with_letter, is_name}
-
-pub name-empty : (xs : List ℕ) → length xs ≡ 0 → false ≡ is_name xs
-unfolding is_name
-name-empty [] h = refl
-name-empty (x ∷ xs) h = absurd (omega arith)
-
-pub name-tests : (xs : List ℕ) → (length xs ≡ 0 → ⊥)
-    → is_name xs ≡ (is_letter (get_or xs 0 0) && leb (length xs) 16 && all is_name_byte xs && not (same_name xs false_bytes))
-unfolding is_name
-name-tests [] h = absurd (h refl)
-name-tests (x ∷ xs) h = refl
 
 pub record Named (bs : List ℕ) : Type 0 where
   pub starts : starts_with_letter bs ≡ true

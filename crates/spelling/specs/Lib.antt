@@ -1,4 +1,3 @@
 -- How names are spelled. Read in this order.
 pub mod Letters
 pub mod Spelling
-pub mod Internal

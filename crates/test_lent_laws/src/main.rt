@@ -2,136 +2,102 @@
 // prints what each of them answers, the words that are left in the table, and names as they are shown.
 #![tactic(auto)]
 
-ghost use Rattle.std.specs.Prelude.{◌≡◌, ◌≤◌, length};
+ghost use Rattle.std.specs.Prelude.{◌≡◌, length};
 
 use action_language::{Description, Law};
+use basics::Refusal;
 use causal_reading::Reading;
-use history_check::Checked;
-use history_reader::HistoryAnswer;
+use history_check::Finding;
 use std::io;
 use std::io::Read;
-use translation::Translated;
 
+// Room for the largest table.
 fn no_table() -> [u16; 30912]
     ensures { 30912 ≡ length result }
 {
     [0; 30912]
 }
 
-fn at_most(n: usize, most: usize) -> usize
-    ensures { result ≤ most }
-{
-    if n < most { n } else { most }
-}
-
-fn wide(n: usize) -> u64 {
-    n as u64
-}
-
-fn wide_word(n: u16) -> u64 {
-    n as u64
-}
-
-fn print_number(rt: &impl Print, key: &[u8], n: usize) -> io::Result<()> {
-    rt.write_all(key)?;
-    rt.println(wide(n))
-}
-
-fn print_word(rt: &impl Print, key: &[u8], word: &[u8]) -> io::Result<()> {
-    rt.write_all(key)?;
-    rt.write_all(word)?;
-    rt.write_all(b"\n")
-}
-
-fn print_refusal(rt: &impl Print, number: u8, place: usize) -> io::Result<()> {
-    print_number(rt, b"refused=", number as usize)?;
-    print_number(rt, b"place=", place)
+fn print_refusal(rt: &impl Print, refusal: Refusal) -> io::Result<()> {
+    let number = u8::from(refusal.reason);
+    let place = refusal.place;
+    println!(rt; "refused={number}\nplace={place}")
 }
 
 // The first words of a table, each behind a space.
 fn print_table(rt: &impl Print, table: &[u16], words: usize) -> io::Result<()> {
-    let count = at_most(words, table.len());
-    rt.write_all(b"table=")?;
-    for i in 0..count {
-        rt.write_all(b" ")?;
-        rt.print(wide_word(table[i]))?;
+    print!(rt; "table=")?;
+    for word in table.iter().take(words) {
+        print!(rt; " {word}")?;
     }
-    rt.write_all(b"\n")
+    println!(rt; "")
 }
 
-fn print_checked(rt: &impl Print, checked: Checked) -> io::Result<()> {
+fn print_checked(rt: &impl Print, checked: Result<Finding, Refusal>) -> io::Result<()> {
     match checked {
-        Checked::Refused(number, place) => print_refusal(rt, number, place),
-        Checked::Missing(atom) => print_number(rt, b"missing=", atom),
-        Checked::Clash(atom) => print_number(rt, b"clash=", atom),
-        Checked::Broken(rule) => print_number(rt, b"broken=", rule),
-        Checked::Unfounded(code) => print_number(rt, b"unfounded=", code),
-        Checked::Passes => print_word(rt, b"answer=", b"passes"),
+        Err(refusal) => print_refusal(rt, refusal),
+        Ok(Finding::Missing(atom)) => println!(rt; "missing={atom}"),
+        Ok(Finding::Clash(atom)) => println!(rt; "clash={atom}"),
+        Ok(Finding::Broken(rule)) => println!(rt; "broken={rule}"),
+        Ok(Finding::Unfounded(code)) => println!(rt; "unfounded={code}"),
+        Ok(Finding::Passes) => println!(rt; "answer=passes"),
     }
 }
 
-fn print_reading(rt: &impl Print, reading: Reading) -> io::Result<()> {
+fn print_reading(rt: &impl Print, reading: Result<Reading, Refusal>) -> io::Result<()> {
     match reading {
-        Reading::Refused(number, place) => print_refusal(rt, number, place),
-        Reading::Contradicted(time, law) => {
-            print_number(rt, b"contradicted=", time)?;
-            print_number(rt, b"law=", law)
-        }
-        Reading::Uncaused(time, fluent) => {
-            print_number(rt, b"uncaused=", time)?;
-            print_number(rt, b"fluent=", fluent)
-        }
-        Reading::Path => print_word(rt, b"causal=", b"path"),
+        Err(refusal) => print_refusal(rt, refusal),
+        Ok(Reading::Contradicted { time, law }) => println!(rt; "contradicted={time}\nlaw={law}"),
+        Ok(Reading::Uncaused { time, fluent }) => println!(rt; "uncaused={time}\nfluent={fluent}"),
+        Ok(Reading::Path) => println!(rt; "causal=path"),
     }
 }
 
-fn show_judged(rt: &impl Print, d: Description, laws: [Law; 64], values: &[u8]) -> io::Result<()> {
+fn show_judged(rt: &impl Print, d: Description, laws: &[Law], values: &[u8]) -> io::Result<()> {
     let mut table = no_table();
-    let judged = held_laws::judge(d, laws, values, &mut table);
-    let checked = judged.checked;
-    let reading = judged.reading;
-    print_checked(rt, checked)?;
-    print_reading(rt, reading)
+    let judged = lent_laws::judge(d, laws, values, &mut table);
+    print_checked(rt, judged.checked)?;
+    print_reading(rt, judged.reading)
 }
 
-fn show_laws(rt: &impl Print, d: Description, laws: [Law; 64], values: &[u8]) -> io::Result<()> {
+fn show_laws(rt: &impl Print, d: Description, laws: &[Law], values: &[u8]) -> io::Result<()> {
     let mut table = no_table();
-    let translated = held_laws::translate_run(d, laws, &mut table);
-    match translated {
-        Translated::Refused(number, place) => print_refusal(rt, number, place),
-        Translated::Written(atoms, rules, words) => {
-            print_number(rt, b"atoms=", atoms)?;
-            print_number(rt, b"rules=", rules)?;
-            print_number(rt, b"words=", words)?;
+    match lent_laws::translate(d, laws, &mut table) {
+        Err(refusal) => print_refusal(rt, refusal),
+        Ok(written) => {
+            let atoms = written.atoms;
+            let rules = written.rules;
+            let words = written.words;
+            println!(rt; "atoms={atoms}\nrules={rules}\nwords={words}")?;
             print_table(rt, &table, words)?;
             show_judged(rt, d, laws, values)
         }
     }
 }
 
-// Names as they were declared; a number that nothing declares shows an empty part.
+// A name as it was declared, as which it is in letters alone; a number that nothing declares shows an empty part.
+fn print_name(rt: &impl Print, sort: &str, name: &[u8]) -> io::Result<()> {
+    let name = name.escape_ascii();
+    println!(rt; "{sort}={name}")
+}
+
 fn show_names(rt: &impl Print, text: &[u8]) -> io::Result<()> {
-    print_word(rt, b"fluent=", shown_names::fluent_name(text, 0))?;
-    print_word(rt, b"fluent=", shown_names::fluent_name(text, 2))?;
-    print_word(rt, b"action=", shown_names::action_name(text, 0))?;
-    print_word(rt, b"action=", shown_names::action_name(text, 1))
+    print_name(rt, "fluent", shown_names::fluent_name(text, 0))?;
+    print_name(rt, "fluent", shown_names::fluent_name(text, 2))?;
+    print_name(rt, "action", shown_names::action_name(text, 0))?;
+    print_name(rt, "action", shown_names::action_name(text, 1))
 }
 
 // The whole input is read through a lent run, as check does it.
 fn show(rt: &impl Print, input: &[u8]) -> io::Result<()> {
     let whole = inputs::read_input(input);
-    let answer = whole.answer;
-    match answer {
-        HistoryAnswer::Refused(number, place) => print_refusal(rt, number, place),
-        HistoryAnswer::Complete => {
-            let d = whole.description;
-            let laws = whole.laws;
-            let values = whole.values;
-            let atoms = whole.atoms;
-            print_number(rt, b"laws=", d.laws)?;
-            show_laws(rt, d, laws, &values[..atoms])
-        }
+    if let Err(refusal) = whole.answer {
+        return print_refusal(rt, refusal);
     }
+    let d = whole.description;
+    let laws = d.laws;
+    println!(rt; "laws={laws}")?;
+    show_laws(rt, d, &whole.laws, &whole.values[..whole.atoms])
 }
 
 fn main(rt: HostRuntime) -> io::Result<()> {

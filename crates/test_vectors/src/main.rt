@@ -2,6 +2,8 @@
 // of the file's bytes; then the same for the file every_byte with each byte value as the first and as the second byte of its name.
 #![tactic(auto)]
 
+ghost use Rattle.std.specs.Prelude.{◌<◌};
+
 use std::env::{Env, FillError};
 use std::io;
 use std::rt::Runtime;
@@ -44,34 +46,24 @@ fn run_arguments(rt: &impl Runtime) -> io::Result<()> {
     Ok(())
 }
 
-// What the report says of an input in which one byte has the value.
-fn write_byte(rt: &impl Print, input: &[u8], got: usize, value: u8) -> io::Result<()> {
+// The file every_byte with the byte at a place replaced: places 17 and 18 are the first and the second byte of the name that it
+// declares.
+fn run_byte(rt: &impl Runtime, place: usize, value: u8) -> io::Result<()>
+    requires { place < 4096 }
+{
+    let mut input = [0; 4096];
+    let got = files::read_file(rt, b"every_byte", &mut input);
+    input[place] = value;
     println!(rt; "byte {value}")?;
-    let count = report::held(got, input);
-    write_report(rt, &input[..count])
-}
-
-// The file every_byte with one byte replaced: places 17 and 18 are the first and the second byte of the name that it declares.
-fn run_first_byte(rt: &impl Runtime, value: u8) -> io::Result<()> {
-    let mut input = [0; 4096];
-    let got = files::read_file(rt, b"every_byte", &mut input);
-    input[17] = value;
-    rt.write_all(b"first ")?;
-    write_byte(rt, &input, got, value)
-}
-
-fn run_second_byte(rt: &impl Runtime, value: u8) -> io::Result<()> {
-    let mut input = [0; 4096];
-    let got = files::read_file(rt, b"every_byte", &mut input);
-    input[18] = value;
-    write_byte(rt, &input, got, value)
+    write_report(rt, &input[..got])
 }
 
 fn main(rt: HostRuntime) -> io::Result<()> {
     run_arguments(&rt)?;
-    for value in 0..256usize {
-        run_first_byte(&rt, (value % 256) as u8)?;
-        run_second_byte(&rt, (value % 256) as u8)?;
+    for value in 0..=u8::MAX {
+        print!(rt; "first ")?;
+        run_byte(&rt, 17, value)?;
+        run_byte(&rt, 18, value)?;
     }
     Ok(())
 }

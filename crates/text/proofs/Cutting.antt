@@ -1,6 +1,6 @@
 -- Runs cut at their first byte of a kind, by places: lines and items.
 -- Assumes nothing.
-use mathlib.Core.Path.{◌≡◌, refl, ap}
+use mathlib.Core.Path.{◌≡◌, refl, sym, ap}
 use mathlib.Core.Bool.{Bool}
 use mathlib.Core.List.{List, [], ◌∷◌}
 use mathlib.Core.Option.{none, some}
@@ -8,21 +8,24 @@ use Prim.Native.Nat.{ℕ, zero, suc, ◌+◌, ◌-◌, ◌<◌}
 use native.Mathlib.Omega.{arith}
 use lib.Dec.{eqb}
 use lib.ListN.{length, take, drop, length-drop, length-take}
-use lib.Seq.{take-nil}
+use lib.Seq.{take-nil, take_all}
+use Prim.Native.Nat.{min}
+use Rattle.std.specs.Option.{unwrap_or}
+use Rattle.basics.specs.Refusals.{place_of}
 use Rattle.basics.specs.Search.{first}
 use Rattle.basics.proofs.Tests.{first_some}
 use Rattle.text_forms.specs.declared.LineAt.{LineAt}
 use Rattle.text_forms.specs.Bytes.{newline, comma, equals_sign}
 use Rattle.text_forms.specs.Lines.{key_number}
-use Rattle.text_forms.specs.Places.{number_or, no_line, line_at}
+use Rattle.text_forms.specs.Places.{no_line, line_at}
+use Rattle.text_forms.specs.declared.Key.{Key}
+use Rattle.text_forms.specs.Keys.{key_by}
+use Rattle.std.specs.Prelude as code
 use Rattle.text.specs.Internal.{item_at, next_at}
 
 -- what is found stands inside
 pub first-inside : (p : ℕ → Bool) (xs : List ℕ) (j : ℕ) → first p 0 xs ≡ some j → j < length xs
 first-inside p xs j e = let (i, at, low) = first_some p 0 0 xs j e in omega (arith, low.0)
-
-pub cut-size : (p : ℕ → Bool) (xs : List ℕ) (j : ℕ) → first p 0 xs ≡ some j → j ≡ length (take j xs)
-cut-size p xs j e = omega (arith, first-inside p xs j e, length-take j xs)
 
 pub drop-take : (j n : ℕ) (xs : List ℕ) → drop j (take n xs) ≡ take (n - j) (drop j xs)
 drop-take zero n xs = let e : n - 0 ≡ n = omega arith in rw e
@@ -48,21 +51,21 @@ module _ (text : List ℕ) (at : ℕ) (rest : List ℕ) (is : rest ≡ drop at t
       pub sign-inside : sign < size
       sign-inside = omega (arith, first-inside (eqb equals_sign) (take size rest) sign splits, length-take size rest)
 
-      pub line-whole : (k : ℕ) → k ≡ number_or (key_number (take sign (take size rest)))
+      pub line-whole : (k : code.Option Key) → k ≡ key_by (key_number (take sign (take size rest)))
           → ◌≡◌ {A = LineAt} (record { key = k; from = at + sign + 1; to = at + size; next = at + size + 1 }) (line_at text at)
       unfolding line_at
       line-whole k is_key = rw (← is, ends, ← is, splits, ← is, is_key) refl
 
--- the item at a place of a list, where `rest` is the list from there on
+-- the item at a place of a list, and the place of the next, by what the search for a comma answers
 module _ (list : List ℕ) (from : ℕ) (rest : List ℕ) (is : rest ≡ drop from list) where
-  pub item-last : first (eqb comma) 0 rest ≡ none → (rest ≡ item_at list from) × (length list + 1 ≡ next_at list from)
+  pub item-size : (o : code.Option ℕ) → place_of o ≡ first (eqb comma) 0 rest
+      → (take (unwrap_or o (length rest)) rest ≡ item_at list from)
+      × (min from (length list) + unwrap_or o (length rest) + 1 ≡ next_at list from)
   unfolding item_at next_at
-  item-last e = (rw (← is, e), rw (← is, e))
-
-  module _ (size : ℕ) (ends : first (eqb comma) 0 rest ≡ some size) where
-    pub item-cut : (take size rest ≡ item_at list from) × (from + size + 1 ≡ next_at list from)
-    unfolding item_at next_at
-    item-cut = (rw (← is, ends), rw (← is, ends))
-
-    pub item-inside : from + size < length list
-    item-inside = omega (arith, first-inside (eqb comma) rest size ends, ap length is, length-drop from list)
+  item-size code.None e = (
+    rw (← is, ← e, take_all (length rest) rest (omega arith)),
+    rw (← is, ← e) (omega (arith, ap length is, length-drop from list)),
+  )
+  item-size (code.Some size) e =
+      let inside = first-inside (eqb comma) rest size (sym e) in
+      (rw (← is, ← e), rw (← is, ← e) (omega (arith, ap length is, length-drop from list)))

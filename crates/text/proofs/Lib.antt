@@ -1,5 +1,4 @@
 -- What the functions' proofs share.
-pub mod Runs
 pub mod KeyTable
 pub mod Cutting
 pub mod Placing

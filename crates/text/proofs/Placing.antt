@@ -17,7 +17,9 @@ use Rattle.spelling.specs.Letters.{same}
 use Rattle.text_forms.specs.declared.LineAt.{LineAt}
 use Rattle.text_forms.specs.Bytes.{newline, equals_sign, Cut, cut_at, cut}
 use Rattle.text_forms.specs.Lines.{keys, no_key, key_number, Line, keyed, valued, ended, first_line}
-use Rattle.text_forms.specs.Places.{size_up_to, line_size, start_of_line, number_or, no_line, split_at, ended_at, line_at}
+use Rattle.text_forms.specs.Places.{size_up_to, line_size, start_of_line, no_line, split_at, ended_at, line_at}
+use Rattle.text_forms.specs.Keys.{number_or, key_by}
+use Rattle.text_forms.proofs.Keys.{number-again}
 use Rattle.text_forms.specs.Places.{value_at, value_of_line}
 use Rattle.text.proofs.Cutting.{first-inside, drop-take, line-inside, sign-inside}
 
@@ -35,26 +37,26 @@ abbrev pub key_in : ℕ → Option ℕ
 key_in k = cond (ltb k no_key) (some k) none
 
 unfoldable pub line_of : List ℕ → LineAt → Option Line
-line_of text l = keyed (key_in l.key) (value_at text l) (drop l.next text)
+line_of text l = keyed (key_in (number_or l.key)) (value_at text l) (drop l.next text)
 
 -- the places are within the text, and a line with a key takes the bytes up to the next one, at least one
 pub record LineFits (text : List ℕ) (at : ℕ) (l : LineAt) : Type 0 where
   pub ordered : l.from ≤ l.to
   pub inside : l.to ≤ length text
   pub within : l.next ≤ length text
-  pub later : l.key < no_key → at < l.next
-  pub ends : l.key < no_key → l.next ≡ at + line_size (drop at text)
+  pub later : number_or l.key < no_key → at < l.next
+  pub ends : number_or l.key < no_key → l.next ≡ at + line_size (drop at text)
 
-key-known : (bs : List ℕ) → key_in (number_or (key_number bs)) ≡ key_number bs
+key-known : (bs : List ℕ) → key_in (number_or (key_by (key_number bs))) ≡ key_number bs
 unfolding key_number
 key-known bs = go (first (same bs) 0 keys) refl
   where
-    go : (o : Option ℕ) → first (same bs) 0 keys ≡ o → key_in (number_or o) ≡ o
+    go : (o : Option ℕ) → first (same bs) 0 keys ≡ o → key_in (number_or (key_by o)) ≡ o
     go none e = refl
     go (some k) e =
         let (i, at, low) = first_some (same bs) [] 0 keys k e in
         let few : i < no_key = low.0 in
-        rw (lt-ltb k no_key (omega arith))
+        rw (number-again k (omega arith), lt-ltb k no_key (omega arith))
 
 -- the line at a place is the one that `first_line` says, and its places fit
 module _ (text : List ℕ) (at : ℕ) where
@@ -135,7 +137,7 @@ pub line-value : (n : ℕ) (text : List ℕ) (l : Line) → line_number n text �
 unfolding line_of
 line-value n text l e =
     let at = line_at text (start_of_line n text) in
-    value_there (key_in at.key) (value_at text at) (drop at.next text) l (at-answers text (start_of_line n text) ∙ e)
+    value_there (key_in (number_or at.key)) (value_at text at) (drop at.next text) l (at-answers text (start_of_line n text) ∙ e)
 
 -- the next line begins where a line ends
 keyed-rest : (o : Option ℕ) (value rest : List ℕ) (l : Line) → keyed o value rest ≡ some l → l.rest ≡ rest

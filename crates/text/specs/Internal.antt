@@ -4,13 +4,18 @@
 use Rattle.std.specs.Prelude.{cond, List, [], map, ℕ, suc, ◌+◌, ◌<◌, eqb, leb, length, get_or, take, drop}
 use Rattle.std.proofs.Math.Option.{Option, none, some}
 use Rattle.basics.specs.Search.{first, range}
+use Rattle.text_forms.specs.declared.Name.{Name}
 use Rattle.text_forms.specs.declared.Names.{Names}
 use Rattle.text_forms.specs.Bytes.{comma}
 use Rattle.text_forms.specs.Lists.{items_in}
+use Rattle.text_forms.specs.NamePlaces.{no_name}
 
 -- the names that stand at some places of a text
+abbrev pub at_place : List ℕ → Name → List ℕ
+at_place text place = take place.length (drop place.start text)
+
 abbrev pub name_at : List ℕ → Names → ℕ → List ℕ
-name_at text names i = take (get_or names.lengths i 0) (drop (get_or names.starts i 0) text)
+name_at text names i = at_place text (get_or names.places i no_name)
 
 unfoldable pub spelled : List ℕ → Names → List (List ℕ)
 spelled text names = map (λ i. name_at text names i) (range 0 names.count)
@@ -32,11 +37,6 @@ next_at list from = next_from (length list) from (first (eqb comma) 0 (drop from
 
 unfoldable pub items_at : List ℕ → ℕ → List (List ℕ)
 items_at list from = cond (leb from (length list)) (items_in (suc (length (drop from list))) (drop from list)) []
-
--- there are at most 32 names
-abbrev pub PlaceFits : Option ℕ → Type 0
-PlaceFits none = Unit
-PlaceFits (some i) = i < 32
 
 -- a literal's code fits in a byte
 abbrev pub CodeFits : Option ℕ → Type 0

@@ -46,7 +46,10 @@ line-valued = (refl, refl, refl)
 
 -- three lines, of which two declare a name: a stands at byte 17, b at byte 26
 pub names-placed : names_in 3 (bytes "horizon=1\nfluent=a\naction=b\n")
-    ≡ record { starts = 17 ∷ 26 ∷ replicate 30 0; lengths = 1 ∷ 1 ∷ replicate 30 0; count = 2 }
+    ≡ record {
+      places = record { start = 17; length = 1 } ∷ record { start = 26; length = 1 } ∷ replicate 30 (record { start = 0; length = 0 });
+      count = 2;
+    }
 unfolding line_size line_at key_number
 names-placed = refl
 

@@ -1,2 +1,3 @@
--- Small worked examples.
+-- The keys and their numbers, and small worked examples.
+pub mod Keys
 pub mod Examples

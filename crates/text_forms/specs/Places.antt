@@ -1,12 +1,13 @@
 -- Where lines and their values begin, counted in bytes from the text's start, and where a part of a text lies in it.
 -- Assumes nothing.
-use Rattle.std.specs.Prelude.{◌≡◌, List, ℕ, zero, suc, ◌+◌, ◌-◌, eqb, length, take, drop}
+use Rattle.std.specs.Prelude.{◌≡◌, None, List, ℕ, zero, suc, ◌+◌, ◌-◌, eqb, length, take, drop}
 use Rattle.std.proofs.Math.Option.{Option, none, some}
 use Rattle.std.specs.Borrow.{Bor}
 use Rattle.basics.specs.Search.{first}
 use Rattle.text_forms.specs.declared.LineAt.{LineAt}
 use Rattle.text_forms.specs.Bytes.{newline, equals_sign}
-use Rattle.text_forms.specs.Lines.{no_key, key_number}
+use Rattle.text_forms.specs.Lines.{key_number}
+use Rattle.text_forms.specs.Keys.{key_by}
 
 -- how many bytes the first line takes, its ending byte among them; all where that is lacking
 abbrev pub size_up_to : ℕ → Option ℕ → ℕ
@@ -21,22 +22,17 @@ abbrev pub start_of_line : ℕ → List ℕ → ℕ
 start_of_line zero text = 0
 start_of_line (suc n) text = start_of_line n text + line_size (drop (start_of_line n text) text)
 
--- a key's number, or that of no key
-abbrev pub number_or : Option ℕ → ℕ
-number_or none = no_key
-number_or (some k) = k
-
 -- where there is no line, all places are at the text's end
 abbrev pub no_line : ℕ → LineAt
-no_line end = record { key = no_key; from = end; to = end; next = end }
+no_line end = record { key = None; from = end; to = end; next = end }
 
--- the line that begins at a place: its key's number, where its value begins, behind the first equals sign, where it ends, and where
+-- the line that begins at a place: its key, where its value begins, behind the first equals sign, where it ends, and where
 -- the next line begins. There is none where the ending byte or the equals sign is lacking
 abbrev pub split_at : List ℕ → ℕ → ℕ → Option ℕ → LineAt
 split_at text at size none = no_line (length text)
 split_at text at size (some sign) =
     record {
-      key = number_or (key_number (take sign (take size (drop at text))));
+      key = key_by (key_number (take sign (take size (drop at text))));
       from = at + sign + 1;
       to = at + size;
       next = at + size + 1;

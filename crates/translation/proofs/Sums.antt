@@ -1,18 +1,18 @@
 -- What the counting loop keeps: sums over the laws not yet passed, and what one law adds.
 -- Assumes nothing.
-use mathlib.Core.Path.{◌≡◌, refl, ◌∙◌}
+use mathlib.Core.Path.{◌≡◌, refl}
 use mathlib.Core.List.{List, [], ◌∷◌}
 use Prim.Native.Nat.{ℕ, suc, ◌+◌, ◌*◌, ◌<◌, ◌≤◌}
 use native.Mathlib.Nat.{add-zero}
 use native.Mathlib.Numerals.{add-one}
 use native.Mathlib.Omega.{arith}
-use lib.ListN.{length, take, drop, get_or}
+use lib.ListN.{length, take, drop, get_or, drop_of_length-le}
+use lib.Seq.{drop-cons}
 use Rattle.action_language.specs.declared.Head.TheVariants.{Lit}
 use Rattle.action_language.specs.declared.Kind.{Kind}
 use Rattle.action_language.specs.declared.Kind.TheVariants.{Static, Dynamic}
 use Rattle.action_language.specs.declared.Law.{Law}
 use Rattle.action_language.specs.Laws.{if_list}
-use Rattle.basics.proofs.Loops.{rest-cons, rest-done}
 use Rattle.logic_programs.specs.Words.{words as words_of}
 use Rattle.rule_words.specs.Internal.{by_kind, plain_list}
 use Rattle.translation_rules.specs.Rules.{translation}
@@ -22,11 +22,9 @@ use Rattle.translation_rules.proofs.Counts.{sum_laws, static_of, dynamic_of, sta
 abbrev pub Counted : (Kind → Law → ℕ) → List Law → ℕ → ℕ → ℕ → Type 0
 Counted g ls i total total₀ = total + sum_laws g (drop i ls) ≡ total₀ + sum_laws g ls
 
--- a turn adds what the next law counts, and takes it off what is left
-pub sum-turn : (g : Kind → Law → ℕ) (laws : List Law) (d : Law) (count i total total₀ : ℕ) {x : ℕ} → i < count → count ≤ length laws
-    → x ≡ g (get_or laws i d).kind (get_or laws i d) → Counted g (take count laws) i total total₀
-    → Counted g (take count laws) (i + 1) (total + x) total₀
-sum-turn g laws d count i total total₀ h k e left = omega (arith, e, rw (rest-cons laws count i d h k) at left)
+-- the laws not yet passed are the next one and those behind it
+pub next-law : (laws : List Law) (i : ℕ) (d : Law) → i < length laws → drop i laws ≡ get_or laws i d ∷ drop (i + 1) laws
+next-law laws i d h = rw add-one (drop-cons laws i d h)
 
 -- what a read past the end of a run of laws would give
 abbrev pub past : Law
@@ -54,50 +52,19 @@ rules-sum T (l ∷ ls) = omega (arith, rules-sum T ls, one l.kind)
     one Dynamic = omega arith
 
 -- what the counting loop keeps
-pub record Counting (T : ℕ) (laws : List Law) (count rules₀ words₀ rules words i : ℕ) : Type 0 where
-  pub upto : i ≤ count
-  pub held : length laws ≡ 64
+pub record Counting (T : ℕ) (laws : List Law) (rules₀ words₀ rules words i : ℕ) : Type 0 where
+  pub upto : i ≤ length laws
   pub few-rules : rules ≤ rules₀ + 31 * i
   pub few_words : words ≤ words₀ + 465 * i
-  pub all-rules : Counted (rule_times T) (take count laws) i rules rules₀
-  pub all_words : Counted (law_words_of T) (take count laws) i words words₀
-
-pub counting-first : (T : ℕ) (laws : List Law) (count rules words : ℕ) → length laws ≡ 64 → Counting T laws count rules words rules words 0
-counting-first T laws count rules words held =
-    record {
-      upto = omega arith;
-      held = held;
-      few-rules = omega arith;
-      few_words = omega arith;
-      all-rules = refl;
-      all_words = refl;
-    }
-
-pub counting-next : {T : ℕ} {laws : List Law} {count rules₀ words₀ rules words i x y : ℕ}
-    → Counting T laws count rules₀ words₀ rules words i
-    → i < count → count ≤ 64 → (x ≡ by_kind (T + 1) T (get_or laws i past).kind) × (x ≤ 31)
-    → (y ≡ by_kind (T + 1) T (get_or laws i past).kind
-    * (3 + length (if_list (get_or laws i past)) + length (plain_list (get_or laws i past))))
-    × (y ≤ 465)
-    → Counting T laws count rules₀ words₀ (rules + x) (words + y) (i + 1)
-counting-next {T} {laws} {count} {rules₀} {words₀} {rules} {words} {i} {x} {y} inv here few xs ys =
-    let all : count ≤ length laws = omega arith in
-    record {
-      upto = omega arith;
-      held = inv.held;
-      few-rules = omega arith;
-      few_words = omega arith;
-      all-rules = sum-turn (rule_times T) laws past count i rules rules₀ here all xs.0 inv.all-rules;
-      all_words = sum-turn (law_words_of T) laws past count i words words₀ here all (ys.0 ∙ law-words T (get_or laws i past)) inv.all_words;
-    }
+  pub all-rules : Counted (rule_times T) laws i rules rules₀
+  pub all_words : Counted (law_words_of T) laws i words words₀
 
 -- all laws are counted
-pub counting-last : (n m : ℕ) {T : ℕ} {laws : List Law} {count rules words i : ℕ}
-    → Counting T laws count (2 * (n + T * m)) (8 * (n + T * m)) rules words i → count ≤ i
-    → (rules ≡ length (translation n m T (take count laws))) × (words ≡ length (words_of (translation n m T (take count laws))))
-counting-last n m {T} {laws} {count} {rules} {words} {i} inv h =
-    let ls = take count laws in
-    let done = rest-done laws count i h in
+pub counting-last : (n m : ℕ) {T : ℕ} {laws : List Law} {rules words i : ℕ}
+    → Counting T laws (2 * (n + T * m)) (8 * (n + T * m)) rules words i → length laws ≤ i
+    → (rules ≡ length (translation n m T laws)) × (words ≡ length (words_of (translation n m T laws)))
+counting-last n m {T} {laws} {rules} {words} {i} inv h =
+    let done : drop i laws ≡ [] = drop_of_length-le laws h in
     let r = rw done at inv.all-rules in
     let w = rw done at inv.all_words in
-    (omega (arith, r, rule-count n m T ls, rules-sum T ls), omega (arith, w, word_count n m T ls))
+    (omega (arith, r, rule-count n m T laws, rules-sum T laws), omega (arith, w, word_count n m T laws))

@@ -1,24 +1,24 @@
 -- What the writers' proofs share: runs of stores one behind the other, and the products that times make.
 -- Assumes nothing.
 use mathlib.Core.Path.{◌≡◌, refl, sym, ap, ◌∙◌}
-use mathlib.Core.Logic.{⊎_elim}
 use mathlib.Core.List.{List, [], ◌∷◌, ◌++◌, append_assoc, append-nil}
-use Prim.Native.Nat.{ℕ, zero, suc, ◌+◌, ◌-◌, ◌*◌, ◌/◌, ◌%◌, ◌≤◌, ◌<◌}
+use Prim.Native.Nat.{ℕ, suc, ◌+◌, ◌*◌, ◌≤◌}
 use native.Mathlib.Nat.{mul-le-mul, add-zero, zero-add, add-suc, suc-add}
 use native.Mathlib.Omega.{arith}
 use native.Mathlib.Numerals.{add-one}
-use borrow.Author.Tests.{ltb-true, ltb-false}
-use lib.Dec.{ltb}
-use lib.ListN.{length, get_or, set, drop, length-set, length-append, drop_of_length-le, get_or-append}
-use lib.Seq.{sets, drop-cons, length-sets, sets-eq, get_or-append-add}
+use lib.ListN.{length, drop, length-append}
+use borrow.Rule.Slice.PartMut.{put_mid}
+use Rattle.std.proofs.lemmas.Slice.{put_mid-paste}
+use lib.Seq.{take_all, sets, length-sets, sets-eq}
 use Rattle.basics.specs.Search.{range}
-use Rattle.basics.proofs.Tests.{true-or-false}
 use Rattle.action_language.specs.declared.Kind.{Kind}
 use Rattle.action_language.specs.declared.Kind.TheVariants.{Static, Dynamic}
 use Rattle.action_language.specs.declared.Law.{Law}
 use Rattle.translation_rules.specs.RuleForms.{choices}
 use Rattle.translation_rules.specs.Rules.{static_rules, dynamic_rules, per_law, action_atoms, translation}
+use Rattle.translation.specs.declared.writers.Writer.{Writer}
 use Rattle.translation.specs.Internal.{law_rules}
+use Rattle.translation.specs.Writers.{Wrote}
 use Rattle.logic_programs.specs.Rules.{Rule}
 use Rattle.logic_programs.specs.Words.{words}
 use Rattle.translation_rules.proofs.Counts.{words_append}
@@ -31,31 +31,19 @@ pub sets-append : (l : List ℕ) (i : ℕ) (xs ys : List ℕ) → sets l i (xs +
 sets-append l i [] ys = rw add-zero
 sets-append l i (x ∷ xs) ys = rw (add-suc, ← suc-add) (sets-append _ (suc i) xs ys)
 
--- What a loop keeps that stores words one by one: those from place i on, stored now, come to all of them.
-pub record Storing (ws table₀ : List ℕ) (at : ℕ) (table : List ℕ) (i : ℕ) : Type 0 where
-  pub as_long : length table ≡ length table₀
-  pub stores : sets table (at + i) (drop i ws) ≡ sets table₀ at ws
+-- a part of the table after a copy into it
+pub copied : (table : List ℕ) (at n : ℕ) (ys ws : List ℕ) → ys ≡ ws → n ≡ length ws → at + n ≤ length table
+    → put_mid at n table ys ≡ sets table at ws
+copied table at n ys ws e size fits =
+    put_mid-paste at n table ys ws n e refl size ∙ rw (take_all n ws (omega arith), size) (sym (sets-eq ws table at (omega arith)))
 
-pub storing-first : (ws table : List ℕ) (at : ℕ) → Storing ws table at table 0
-storing-first ws table at = record { as_long = refl; stores = rw add-zero }
-
-module _ {ws table₀ : List ℕ} {at : ℕ} {table : List ℕ} {i : ℕ} (inv : Storing ws table₀ at table i) where
-  pub storing-next : {w : ℕ} → i < length ws → w ≡ get_or ws i 0 → Storing ws table₀ at (set table (at + i) w) (i + 1)
-  storing-next {w} h e =
-      record {
-        as_long = rw length-set inv.as_long;
-        stores = rw (e, add-one i, add-suc at i) (rw (drop-cons ws i 0 h) at inv.stores);
-      }
-
-  pub storing-last : length ws ≤ i → table ≡ sets table₀ at ws
-  storing-last h = rw (drop_of_length-le ws h) at inv.stores
-
--- What a loop of writers keeps: the words ws that are left for the table at a place come to the words ws₀ that were to be
--- stored from at₀ on when it began.
-pub record Left (table : List ℕ) (place : ℕ) (ws table₀ : List ℕ) (at₀ : ℕ) (ws₀ : List ℕ) : Type 0 where
-  pub as_long : length table ≡ length table₀
-  pub ends : place + length ws ≡ at₀ + length ws₀
-  pub stores : sets table place ws ≡ sets table₀ at₀ ws₀
+-- What a loop of a writer keeps: the words ws that are left for the table behind its place come to the words ws₀ that were to be
+-- stored when it began.
+pub record Left (now : Writer) (ws : List ℕ) (old : Writer) (ws₀ : List ℕ) : Type 0 where
+  pub same_table : now.table.ghost_name ≡ old.table.ghost_name
+  pub as_long : length now.table.now ≡ length old.table.now
+  pub ends : now.at + length ws ≡ old.at + length ws₀
+  pub stores : sets now.table.now now.at ws ≡ sets old.table.now old.at ws₀
 
 -- the words that a turn stores, and those left for later turns
 pub record Split (ws : List ℕ) : Type 0 where
@@ -69,63 +57,33 @@ front xs ys = record { first = xs; rest = ys; whole = refl }
 abbrev pub last : (xs : List ℕ) → Split xs
 last xs = record { first = xs; rest = []; whole = sym (append-nil xs) }
 
-module _ {table : List ℕ} {place : ℕ} {ws table₀ : List ℕ} {at₀ : ℕ} {ws₀ : List ℕ} (left : Left table place ws table₀ at₀ ws₀) where
+module _ {now : Writer} {ws : List ℕ} {old : Writer} {ws₀ : List ℕ} (left : Left now ws old ws₀) where
   -- a turn has stored the first of them
-  pub wrote : (s : Split ws) {table' : List ℕ} {place' : ℕ} → place' ≡ place + length s.first → table' ≡ sets table place s.first
-      → Left table' place' s.rest table₀ at₀ ws₀
-  wrote s p t =
+  pub wrote : (s : Split ws) {next : Writer} → Wrote s.first now next → Left next s.rest old ws₀
+  wrote s {next} w =
       record {
-        as_long = rw (t, length-sets table place s.first) left.as_long;
-        ends = omega (arith, length-append s.first s.rest, ap length s.whole, left.ends);
-        stores = rw (t, p, ← sets-append table place s.first s.rest, ← s.whole) left.stores;
+        same_table = w.same_table ∙ left.same_table;
+        as_long = rw (w.stored, length-sets now.table.now now.at s.first) left.as_long;
+        ends = omega (arith, length-append s.first s.rest, ap length s.whole, left.ends, w.behind);
+        stores = rw (w.stored, w.behind, ← sets-append now.table.now now.at s.first s.rest, ← s.whole) left.stores;
       }
 
   -- there is room for the first of them
-  pub room : (s : Split ws) → at₀ + length ws₀ ≤ length table₀ → place + length s.first ≤ length table
+  pub room : (s : Split ws) → old.at + length ws₀ ≤ length old.table.now → now.at + length s.first ≤ length now.table.now
   room s h = omega (arith, length-append s.first s.rest, ap length s.whole, left.ends, left.as_long)
 
   -- none is left
-  pub ended : ws ≡ [] → place ≡ at₀ + length ws₀
-  ended e = omega (arith, ap length e, left.ends)
-
-  pub stored : ws ≡ [] → table ≡ sets table₀ at₀ ws₀
-  stored e = rw e at left.stores
+  pub ended : ws ≡ [] → Wrote ws₀ old now
+  ended e =
+      record { same_table = left.same_table; behind = omega (arith, ap length e, left.ends); stored = rw e at left.stores }
 
 -- all of them are left
-pub begun : (table : List ℕ) (at : ℕ) (ws ws₀ : List ℕ) → ws ≡ ws₀ → Left table at ws table at ws₀
-begun table at ws ws₀ e = rw e (record { as_long = refl; ends = refl; stores = refl })
+pub begun : (now : Writer) (ws ws₀ : List ℕ) → ws ≡ ws₀ → Left now ws now ws₀
+begun now ws ws₀ e = rw e (record { same_table = refl; as_long = refl; ends = refl; stores = refl })
 
 pub choices-append : (Bs Cs : List ℕ) → choices (Bs ++ Cs) ≡ choices Bs ++ choices Cs
 choices-append [] Cs = refl
 choices-append (B ∷ Bs) Cs = rw (choices-append Bs Cs)
-
--- the words of a run of atoms are those of each atom in turn
-pub choices-at : (first count i : ℕ) → i < 8 * count
-    → get_or (words (choices (range first count))) i 0 ≡ get_or (words (choices ((first + i / 8) ∷ []))) (i % 8) 0
-choices-at first zero i h = absurd (omega arith)
-choices-at first (suc count) i h =
-    ⊎_elim (λ t. here (ltb-true i 8 t)) (λ f. later (ltb-false i 8 f) (choices-at (suc first) count (i - 8))) (true-or-false (ltb i 8))
-  where
-    this : List ℕ
-    this = words (choices (first ∷ []))
-
-    rest : List ℕ
-    rest = words (choices (range (suc first) count))
-
-    here : i < 8 → get_or (this ++ rest) i 0 ≡ get_or (words (choices ((first + i / 8) ∷ []))) (i % 8) 0
-    here b =
-        let time : first + i / 8 ≡ first = omega arith in
-        let place : i % 8 ≡ i = omega arith in
-        rw (time, place) (get_or-append this rest 0 i b)
-
-    later : 8 ≤ i
-        → (i - 8 < 8 * count → get_or rest (i - 8) 0 ≡ get_or (words (choices ((suc first + (i - 8) / 8) ∷ []))) ((i - 8) % 8) 0)
-        → get_or (this ++ rest) i 0 ≡ get_or (words (choices ((first + i / 8) ∷ []))) (i % 8) 0
-    later b next =
-        let time : suc first + (i - 8) / 8 ≡ first + i / 8 = omega arith in
-        let place : (i - 8) % 8 ≡ i % 8 = omega arith in
-        let behind : 8 + (i - 8) ≡ i = omega arith in
-        rw behind at (get_or-append-add this rest (i - 8) 0) ∙ rw (time, place) at (next (omega arith))
 
 per_law-ext : (f g : Kind → Law → List Rule) → ((k : Kind) (l : Law) → f k l ≡ g k l) → (ls : List Law) → per_law f ls ≡ per_law g ls
 per_law-ext f g same [] = refl

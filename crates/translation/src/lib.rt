@@ -2,86 +2,72 @@
 #![tactic(auto)]
 
 ghost use Rattle.std.specs.Prelude.{◌≡◌, length};
-ghost use Rattle.basics.specs.Replies.{tested_of};
+ghost use Rattle.basics.specs.Refusals.{tested_of};
 ghost use Rattle.translation.specs.Answers.{outcome_of};
 ghost use Rattle.translation_rules.specs.Translated.{outcome, table_after, outcome_for, table_after_for};
 
 use action_language::{Description, Law};
-use basics::{Found, Tested};
+use basics::{Reason, Refusal};
 
 mod sizes;
 mod writers;
 
-// A refusal's number and place, or how many atoms, rules and words there are.
-#[derive(Clone, Copy)]
-pub enum Translated {
-    Refused(u8, usize),
-    Written(usize, usize, usize),
+// How many atoms, rules and words a translation has.
+#[derive(Clone, Copy, Debug, PartialEq, Eq)]
+pub struct Written {
+    pub atoms: usize,
+    pub rules: usize,
+    pub words: usize,
 }
 
 // What the translation answers for a table of so many words. Nothing is written.
-pub fn measure(d: Description, laws: [Law; 64], lent: usize, room: usize) -> Translated
-    ensures { outcome_of result ≡ outcome d laws lent room }
+pub fn measure(d: Description, laws: &[Law], room: usize) -> Result<Written, Refusal>
+    ensures { outcome_of result ≡ outcome d laws.now (length laws.now) room }
 {
-    if let Found::At(place) = record_acceptance::bad_record(d, laws, lent) {
-        return Translated::Refused(8, place);
-    }
-    if let Found::At(place) = record_acceptance::bad_horizon(d.horizon) {
-        return Translated::Refused(3, place);
-    }
+    record_acceptance::check(d, laws)?;
     let needed = sizes::sizes_needed(d, laws);
     if room < needed.words {
-        return Translated::Refused(9, needed.words);
+        return Err(Refusal {
+            reason: Reason::ShortTable,
+            place: needed.words,
+        });
     }
-    let atoms = record_acceptance::atom_count(d.fluents, d.actions, d.horizon);
-    Translated::Written(atoms, needed.rules, needed.words)
+    Ok(needed)
 }
 
 // Writes the translation of the laws that the description counts. Nothing is written where the answer is a refusal.
-pub fn translate(d: Description, laws: [Law; 64], lent: usize, table: &mut [u16]) -> Translated
-    ensures answers { outcome_of result ≡ outcome d laws lent (length table.old) }
-    ensures leaves { table.new ≡ table_after d laws lent table.old }
+pub fn translate(d: Description, laws: &[Law], table: &mut [u16]) -> Result<Written, Refusal>
+    ensures answers { outcome_of result ≡ outcome d laws.now (length laws.now) (length table.old) }
+    ensures leaves { table.new ≡ table_after d laws.now (length laws.now) table.old }
 {
-    let measured = measure(d, laws, lent, table.len());
-    match measured {
-        Translated::Refused(number, place) => Translated::Refused(number, place),
-        Translated::Written(atoms, rules, _) => {
-            let words = writers::write_table(table, d, laws);
-            Translated::Written(atoms, rules, words)
-        }
-    }
+    let written = measure(d, laws, table.len())?;
+    writers::write_table(table, d, laws);
+    Ok(written)
 }
 
 // Writes the translation that a history of these values is checked against. Behind its own refusals come 10 and 11 on the
 // values, then what the caller's own tests said; nothing is written where one of them refuses.
 pub fn translate_for_history(
     d: Description,
-    laws: [Law; 64],
-    lent: usize,
+    laws: &[Law],
     values: &[u8],
-    later: Tested,
+    later: Result<(), Refusal>,
     table: &mut [u16],
-) -> Translated
+) -> Result<Written, Refusal>
     ensures answers { outcome_of result
-        ≡ outcome_for d laws lent values.now (tested_of later) (length table.old) }
+        ≡ outcome_for d laws.now (length laws.now) values.now (tested_of later) (length table.old) }
     ensures leaves { table.new
-        ≡ table_after_for d laws lent values.now (tested_of later) table.old }
+        ≡ table_after_for d laws.now (length laws.now) values.now (tested_of later) table.old }
 {
-    let measured = measure(d, laws, lent, table.len());
-    match measured {
-        Translated::Refused(_number, _place) => measured,
-        Translated::Written(atoms, _rules, _words) => {
-            if values.len() != atoms {
-                return Translated::Refused(10, values.len());
-            }
-            if let Found::At(place) = literal_sets::values::bad_value(values) {
-                return Translated::Refused(11, place);
-            }
-            if let Tested::Refused(number, place) = later {
-                return Translated::Refused(number, place);
-            }
-            writers::write_table(table, d, laws);
-            measured
-        }
+    let written = measure(d, laws, table.len())?;
+    if values.len() != written.atoms {
+        return Err(Refusal {
+            reason: Reason::WrongCount,
+            place: values.len(),
+        });
     }
+    literal_sets::values::check_values(values)?;
+    later?;
+    writers::write_table(table, d, laws);
+    Ok(written)
 }

@@ -1,25 +1,29 @@
 -- `completion::check_completion` meets its contract.
 -- Assumes nothing.
-use mathlib.Core.Path.{sym, ap, ◌∙◌}
-use Rattle.basics.specs.Replies.{tested_of}
+use borrow.Author.Rules.{rules}
+use mathlib.Core.Path.{◌≡◌, sym, ap, ◌∙◌}
+use Rattle.basics.specs.Replies.{refused, answered}
+use Rattle.basics.specs.Refusals.{number_of, tested_of}
 use Rattle.rule_tables.proofs.Testing.{accepts}
+use Rattle.completion.specs.Answers.{reply_of}
 use Rattle.completion.proofs.Testing.{says-refused, says-found, judge-ready}
 use Rattle.completion_theory.proofs.Theorems.{keeps-formulas}
 use Rattle.completion.proofs.check_completion.Goals as goal
 
 pub judge-requires : goal.judge-requires
 judge-requires c =
-    let ready = judge-ready _ _ (sym (ap tested_of c.in-Accepted.is) ∙ c.test-result.ensures) in
+    let ready = judge-ready _ _ (sym (ap tested_of c.in_ok-test.was) ∙ c.test.ensures) in
     record { few_values = ready.0; rules_fit = ready.1 }
 
-pub returns-in-Refused : goal.returns-in-Refused
-returns-in-Refused c =
-    let refusal = sym (ap tested_of c.in-Refused.is) ∙ c.test-result.ensures in
-    let kept = keeps-formulas c.args.values.now c.args.table.now (says-refused _ _ refusal) in
+pub returns-in_err-test : goal.returns-in_err-test
+returns-in_err-test c =
+    let refusal = c.in_err-test.field-0.0 in
+    let said : reply_of c.from_residual.result ≡ refused (number_of refusal.reason) refusal.place = search rules in
+    let kept = keeps-formulas _ _ (said ∙ says-refused _ _ c.in_err-test.ensures) in
     record { answers = kept.0; by_formulas = kept.1 }
 
-pub returns-in-Accepted : goal.returns-in-Accepted
-returns-in-Accepted c =
-    let accepted = accepts _ _ (sym (ap tested_of c.in-Accepted.is) ∙ c.test-result.ensures) in
-    let kept = keeps-formulas c.args.values.now c.args.table.now (c.judge.ensures ∙ says-found _ _ accepted) in
+pub returns : goal.returns
+returns c =
+    let accepted = accepts _ _ (sym (ap tested_of c.in_ok-test.was) ∙ c.test.ensures) in
+    let kept = keeps-formulas _ _ (ap answered c.judge.ensures ∙ says-found _ _ accepted) in
     record { answers = kept.0; by_formulas = kept.1 }

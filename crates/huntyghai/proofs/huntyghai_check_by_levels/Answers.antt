@@ -15,7 +15,7 @@ returns c =
     let vs = a.values.now in
     let ws = a.table.now in
     let ls = a.levels.now in
-    let is = c.of_completion.ensures ∙ ap (reply_code formula_code) s.ensures.answers in
+    let is = c.of.ensures ∙ ap (reply_code formula_code) s.ensures.answers in
     record {
       answers = is;
       by_levels = levels-numbered vs ws ls _ is (subst (SaysLevels vs ws ls) s.ensures.answers s.ensures.by_levels);

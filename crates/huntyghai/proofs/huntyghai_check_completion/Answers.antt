@@ -14,7 +14,7 @@ returns c =
     let a = c.args in
     let vs = a.values.now in
     let ws = a.table.now in
-    let is = c.of_completion.ensures ∙ ap (reply_code formula_code) s.ensures.answers in
+    let is = c.of.ensures ∙ ap (reply_code formula_code) s.ensures.answers in
     record {
       answers = is;
       by_formulas = completion-numbered vs ws _ is (subst (SaysFormulas vs ws) s.ensures.answers s.ensures.by_formulas);

@@ -13,7 +13,7 @@ returns c =
     let a = c.args in
     let vs = a.values.now in
     let ws = a.table.now in
-    let is = c.of_answer.ensures ∙ ap (reply_code verdict_code) s.ensures.answers in
+    let is = c.of.ensures ∙ ap (reply_code verdict_code) s.ensures.answers in
     record {
       answers = is;
       demand_2 = set-numbered vs ws _ is (subst (Demand2 vs ws) s.ensures.answers s.ensures.demand_2);

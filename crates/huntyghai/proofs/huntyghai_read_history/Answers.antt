@@ -10,7 +10,7 @@ pub returns : goal.returns
 returns c =
     let rh = c.read_history in
     let a = c.args in
-    let is = c.of_history.ensures ∙ ap (reply_code read_code) rh.ensures.answers in
+    let is = c.of.ensures ∙ ap (reply_code read_code) rh.ensures.answers in
     record {
       answers = is;
       leaves = rh.ensures.leaves;

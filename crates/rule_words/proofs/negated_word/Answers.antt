@@ -6,8 +6,8 @@ use Rattle.rule_words.proofs.negated_word.Goals as goal
 
 pub returns-then-code-eq0 : goal.returns-then-code-eq0
 unfolding complement
-returns-then-code-eq0 c = rw (← c.wide.ensures.0, eq-eqb _ 0 c.if-code-eq0.true)
+returns-then-code-eq0 c = rw (← c.from.ensures, eq-eqb _ 0 c.if-code-eq0.true)
 
 pub returns-else-code-eq0 : goal.returns-else-code-eq0
 unfolding complement
-returns-else-code-eq0 c = rw (← c.wide.ensures.0, ne_eqb _ 0 c.if-code-eq0.false)
+returns-else-code-eq0 c = rw (← c.from.ensures, ne_eqb _ 0 c.if-code-eq0.false)

@@ -1,20 +1,22 @@
 -- `set_faults::first_clash` meets its contract.
 -- Assumes nothing.
-use native.Mathlib.Omega.{arith}
-use mathlib.Core.Path.{◌∙◌}
-use borrow.Author.Tests.{eq-eqb, ne_eqb}
-use Rattle.basics.proofs.Loops.{range-stop, range-go}
-use Rattle.set_faults.proofs.Faults.{both_values-byte}
+use Rattle.std.proofs.Common.{rules, tests, ap, ◌∙◌, ℕ}
+use lib.Dec.{eqb}
+use native.Mathlib.Nat.{zero-add}
+use Rattle.std.proofs.lemmas.Iterator.{YieldsList-from_slice}
+use Rattle.std.proofs.lemmas.Iterator.Search.{position_from_yields_List}
+use Rattle.basics.specs.Refusals.{place_of}
+use Rattle.basics.proofs.Results.{position_first}
+use Rattle.logic_programs.specs.Literals.{set_of}
+use Rattle.answer_set_theory.specs.Verdicts.{both_values}
+use Rattle.set_faults.proofs.Faults.{both_values-byte, by_place}
 use Rattle.set_faults.proofs.first_clash.Goals as goal
 
-pub returns-then-values-atom-eq3 : goal.returns-then-values-atom-eq3
-returns-then-values-atom-eq3 c =
-    range-stop _ _ _ c.loop-atom-test.true c.loop-atom.invariant.1
-    (both_values-byte _ c.loop-atom.atom ∙ eq-eqb _ _ c.if-values-atom-eq3.true)
-
-pub loop-atom-preserved : goal.loop-atom-preserved
-loop-atom-preserved c = (
-  omega arith,
-  range-go _ _ _ c.loop-atom-test.true c.loop-atom.invariant.1
-      (both_values-byte _ c.loop-atom.atom ∙ ne_eqb _ _ c.if-values-atom-eq3.false),
-)
+pub returns : goal.returns
+returns c =
+    let vs = c.args.values.now in
+    let both = λ (v : ℕ). eqb v 3 in
+    let values = YieldsList-from_slice vs cc in
+    ap place_of (position_from_yields_List both _ _ _ c.position.ensures.ran values (λ x b q k. search (rules, tests)))
+    ∙ position_first both vs
+    ∙ by_place 0 both (both_values (set_of vs)) 0 vs (λ i b. rw (zero-add i) (both_values-byte vs i))

@@ -1,16 +1,19 @@
 -- `set_faults::first_unfounded` meets its contract.
 -- Assumes nothing.
 use native.Mathlib.Omega.{arith}
-use mathlib.Core.Path.{sym, ◌∙◌}
+use Rattle.std.proofs.lemmas.Slice.Eq.{slice_eq-Decides}
+use Rattle.std.proofs.lemmas.Bool.Decides.{Decides-eqb}
+use mathlib.Core.Path.{◌≡◌, sym, ◌∙◌}
 use Rattle.basics.specs.Search.{range}
 use Rattle.literal_sets.specs.Marks.{marked}
 use Rattle.basics.proofs.Loops.{range-go}
 use Rattle.set_faults.proofs.Faults.{none-unfounded}
 use Rattle.set_faults.proofs.first_unfounded.Goals as goal
 
-pub returns-then-same : goal.returns-then-same
-returns-then-same c =
-    rw (c.same.ensures.0 c.if-same.true) (none-unfounded (marked c.args.least.now) 0 (range 0 c.args.codes))
+pub returns-then-eq : goal.returns-then-eq
+returns-then-eq c =
+    let same : c.args.x.now ≡ c.args.least.now = (slice_eq-Decides Decides-eqb _ _ _ c.eq.ensures).0 c.if-eq.true in
+    rw same (none-unfounded (marked c.args.least.now) 0 (range 0 c.args.codes))
 
 pub loop-code-preserved : goal.loop-code-preserved
 loop-code-preserved c =

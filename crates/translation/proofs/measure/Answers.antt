@@ -1,48 +1,35 @@
 -- `measure` meets its contract, refusal by refusal.
 -- Assumes nothing.
-use mathlib.Core.Option.{none, some}
-use mathlib.Core.Path.{◌≡◌, refl, ◌∙◌}
+use mathlib.Core.Path.{refl}
 use borrow.Author.Tests.{lt-ltb, le-ltb}
-use Rattle.action_language.proofs.Laws.{accepted-counts, accepted-horizon}
-use Rattle.action_language.proofs.Atoms.{accepted-atoms}
-use Rattle.basics.proofs.Loops.{refused-at, not-refused}
-use Rattle.action_language.specs.Acceptance.{bad_record, bad_horizon}
-use Rattle.translation_rules.specs.Translated.{outcome}
+use Rattle.std.proofs.Common.{rules}
+use Rattle.record_acceptance.proofs.Checked.{both-refused, both-passed}
+use Rattle.translation_rules.specs.Translated.{Written, outcome}
+use Rattle.translation.proofs.Ready.{ready}
 use Rattle.translation.proofs.measure.Goals as goal
 
-pub returns-in-At : goal.returns-in-At
+pub returns-in_err-check : goal.returns-in_err-check
 unfolding outcome
-returns-in-At c =
-    let e : bad_record _ _ _ ≡ some _ = refused-at 8 c.bad_record.ensures c.in-At.is in
-    rw e refl
-
-pub returns-in-At-bad_horizon : goal.returns-in-At-bad_horizon
-unfolding outcome
-returns-in-At-bad_horizon c =
-    let accepted : bad_record _ _ _ ≡ none = not-refused 8 c.bad_record.ensures c.in_default.is in
-    let e : bad_horizon _ ≡ some _ = refused-at 3 c.bad_horizon.ensures c.in-At-bad_horizon.is in
-    rw (accepted, e) refl
+returns-in_err-check c =
+    let said = both-refused _ _ 8 3 c.check.ensures c.in_err-check.was {A = Written} in
+    search (rules, said)
 
 pub sizes_needed-needed-requires : goal.sizes_needed-needed-requires
 sizes_needed-needed-requires c =
-    let accepted : bad_record _ _ _ ≡ none = not-refused 8 c.bad_record.ensures c.in_default.is in
-    let horizon : bad_horizon _ ≡ none = not-refused 3 c.bad_horizon.ensures c.in_default-bad_horizon.is in
-    let counts = accepted-counts _ _ _ accepted in
-    (counts.1, counts.2, counts.3, (accepted-horizon _ horizon).1)
+    let passed = both-passed _ _ 8 3 c.check.ensures c.in_ok-check.was in
+    let fit = ready _ _ _ passed.0 passed.1 in
+    record { limits = fit.limits; lent = fit.held }
 
 pub returns-then-room-needed : goal.returns-then-room-needed
 unfolding outcome
 returns-then-room-needed c =
-    let accepted : bad_record _ _ _ ≡ none = not-refused 8 c.bad_record.ensures c.in_default.is in
-    let horizon : bad_horizon _ ≡ none = not-refused 3 c.bad_horizon.ensures c.in_default-bad_horizon.is in
-    let words = c.sizes_needed-needed.ensures.1 in
-    rw (accepted, horizon, lt-ltb _ _ (rw words at c.if-room-needed.true), words) refl
+    let passed = both-passed _ _ 8 3 c.check.ensures c.in_ok-check.was in
+    let words = c.sizes_needed-needed.ensures.2 in
+    rw (passed.0, passed.1, lt-ltb _ _ (rw words at c.if-room-needed.true), words) refl
 
 pub returns : goal.returns
 unfolding outcome
 returns c =
-    let accepted : bad_record _ _ _ ≡ none = not-refused 8 c.bad_record.ensures c.in_default.is in
-    let horizon : bad_horizon _ ≡ none = not-refused 3 c.bad_horizon.ensures c.in_default-bad_horizon.is in
-    let (counted, words) = c.sizes_needed-needed.ensures in
-    let atoms = c.atom_count-atoms.ensures ∙ accepted-atoms _ _ _ accepted horizon in
-    rw (accepted, horizon, le-ltb _ _ (rw words at c.if-room-needed.false), counted, words, atoms)
+    let passed = both-passed _ _ 8 3 c.check.ensures c.in_ok-check.was in
+    let (atoms, rules, words) = c.sizes_needed-needed.ensures in
+    rw (passed.0, passed.1, le-ltb _ _ (rw words at c.if-room-needed.false), atoms, rules, words)

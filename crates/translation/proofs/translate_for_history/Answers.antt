@@ -1,48 +1,44 @@
 -- `translate_for_history` meets its contract: what `measure` says, then 10, 11 and the caller's own tests, then the words are written.
 -- Assumes nothing.
 use mathlib.Core.Path.{sym, ap, ◌∙◌}
-use Rattle.basics.specs.Replies.{tested_of}
-use Rattle.basics.proofs.Loops.{refused-at, not-refused}
-use Rattle.translation.specs.Answers.{outcome_of}
-use Rattle.translation_rules.proofs.Outcomes.{written-accepted, written-limits}
+use Rattle.std.proofs.Common.{rules}
+use Rattle.basics.specs.Refusals.{tested_of}
+use Rattle.basics.proofs.Results.{refused-at, not-refused}
 use Rattle.translation_rules.proofs.Histories.{first-refused, says-10, says-11, later-refused, all-passed}
+use Rattle.translation.proofs.Ready.{ready-to-write, enough-room}
 use Rattle.translation.proofs.translate_for_history.Goals as goal
 
-pub returns-then-values-atoms : goal.returns-then-values-atoms
-returns-then-values-atoms c =
-    let e = sym c.measure-measured.ensures ∙ ap outcome_of c.in-Written.is in
-    let said = says-10 _ _ _ c.args.values.now _ c.args.table.now e c.if-values-atoms.true in
+pub returns-in_err-written : goal.returns-in_err-written
+returns-in_err-written c =
+    let said = first-refused _ _ _ c.args.values.now _ c.args.table.now (sym c.in_err-written.ensures) in
+    record { answers = search (rules, said); leaves = said.1 }
+
+pub returns-then-values-written : goal.returns-then-values-written
+returns-then-values-written c =
+    let said = says-10 _ _ _ c.args.values.now _ c.args.table.now (sym c.in_ok-written.ensures) c.if-values-written.true in
     record { answers = said.0; leaves = said.1 }
 
-pub returns-in-At : goal.returns-in-At
-returns-in-At c =
-    let e = sym c.measure-measured.ensures ∙ ap outcome_of c.in-Written.is in
-    let said = says-11 _ _ _ c.args.values.now _ c.args.table.now e c.if-values-atoms.false
-    (refused-at 11 c.bad_value.ensures c.in-At.is) in
-    record { answers = said.0; leaves = said.1 }
+pub returns-in_err-check_values : goal.returns-in_err-check_values
+returns-in_err-check_values c =
+    let e = refused-at 11 c.check_values.ensures c.in_err-check_values.was in
+    let said = says-11 _ _ _ c.args.values.now _ c.args.table.now (sym c.in_ok-written.ensures) c.if-values-written.false e.0 in
+    record { answers = search (rules, said, e); leaves = said.1 }
 
-pub returns-in-Refused-later : goal.returns-in-Refused-later
-returns-in-Refused-later c =
-    let e = sym c.measure-measured.ensures ∙ ap outcome_of c.in-Written.is in
-    let said = later-refused _ _ _ c.args.values.now _ c.args.table.now e c.if-values-atoms.false
-    (not-refused 11 c.bad_value.ensures c.in_default.is) (ap tested_of c.in-Refused-later.is) in
-    record { answers = said.0; leaves = said.1 }
+pub returns-in_err-later : goal.returns-in_err-later
+returns-in_err-later c =
+    let said = later-refused _ _ _ c.args.values.now _ c.args.table.now (sym c.in_ok-written.ensures) c.if-values-written.false
+    (not-refused 11 c.check_values.ensures c.in_ok-check_values.was) (ap tested_of c.in_err-later.was) in
+    record { answers = search (rules, said); leaves = said.1 }
 
 pub write_table-requires : goal.write_table-requires
 write_table-requires c =
-    let e = sym c.measure-measured.ensures ∙ ap outcome_of c.in-Written.is in
-    record { fluents_bound = written-limits _ _ _ _ e; laws_in_bounds = (written-accepted _ _ _ _ e).room-enough }
+    let e = c.in_ok-written.ensures in
+    let fit = ready-to-write _ _ _ _ e in
+    record { limits = fit.limits; lent = fit.held; laws_in_bounds = enough-room _ _ _ _ e }
 
-pub returns-in-Refused : goal.returns-in-Refused
-returns-in-Refused c =
-    let said = first-refused _ _ _ _ _ c.args.table.now
-    (sym c.measure-measured.ensures ∙ ap outcome_of c.in-Refused.is) in
-    record { answers = said.0; leaves = said.1 }
-
-pub returns-in_default-later : goal.returns-in_default-later
-returns-in_default-later c =
-    let e = sym c.measure-measured.ensures ∙ ap outcome_of c.in-Written.is in
+pub returns : goal.returns
+returns c =
     let said =
-    all-passed _ _ _ c.args.values.now _ c.args.table.now e c.if-values-atoms.false
-    (not-refused 11 c.bad_value.ensures c.in_default.is) (ap tested_of c.in_default-later.is) in
-    record { answers = said.0; leaves = c.write_table.ensures.table_after ∙ said.1 }
+    all-passed _ _ _ c.args.values.now _ c.args.table.now (sym c.in_ok-written.ensures) c.if-values-written.false
+    (not-refused 11 c.check_values.ensures c.in_ok-check_values.was) (ap tested_of c.in_ok-later.was) in
+    record { answers = said.0; leaves = c.write_table.ensures ∙ said.1 }

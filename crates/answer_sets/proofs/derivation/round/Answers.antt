@@ -12,6 +12,6 @@ loop-i-preserved c =
     c.requires.starts_room c.requires.waits_room c.loop-i-test.true _ c.waits_for-wait.ensures
     c.if-wait.new c.if-wait.starts c.if-wait.waits c.if-wait.left in
     elim c.if-wait.branch [
-      | then-wait w ↦ next (inl (w.if-wait.true, w.new-is, w.starts-is, w.waits-is, w.left-is))
+      | then-wait w ↦ next (inl (w.if-wait.true, rw w.head-head.ensures.0 at w.new-is, w.starts-is, w.waits-is, w.left-is))
       | else-wait w ↦ next (inr (w.if-wait.false, w.new-is, w.starts-is, w.waits-is, w.left-is))
     ]

@@ -1,7 +1,5 @@
 -- `answer_sets::pending::waits_for` meets its contract.
 -- Assumes nothing.
-use mathlib.Core.Path.{sym, ◌∙◌}
-use Rattle.rule_tables.proofs.Fronts.{plain-whole}
 use Rattle.answer_sets.proofs.Outside.{waits-still, waits-none, waits-part}
 use Rattle.answer_sets.proofs.pending.waits_for.Goals as goal
 
@@ -10,10 +8,9 @@ returns-then-still_waits c = waits-still _ _ _ _ c.still_waits.ensures c.if-stil
 
 pub returns-then-has : goal.returns-then-has
 returns-then-has c =
-    waits-none _ _ _ _ _ c.still_waits.ensures c.if-still_waits.false c.has.ensures c.if-has.true
+    waits-none _ _ _ _ _ c.still_waits.ensures c.if-still_waits.false (rw c.head.ensures.0 at c.has.ensures) c.if-has.true
 
 pub returns : goal.returns
 returns c =
-    let parts = c.plain_parts.ensures ∙ sym (plain-whole c.args.rest.now c.requires) in
-    waits-part _ _ _ _ _ c.still_waits.ensures c.if-still_waits.false c.has.ensures c.if-has.false _
-    (rw parts at c.first_outside.ensures)
+    waits-part _ _ _ _ _ c.still_waits.ensures c.if-still_waits.false (rw c.head.ensures.0 at c.has.ensures) c.if-has.false _
+    (rw c.plain.ensures at c.first_outside.ensures)

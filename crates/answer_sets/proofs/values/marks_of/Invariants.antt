@@ -2,7 +2,7 @@
 -- Assumes nothing.
 use mathlib.Core.Path.{◌≡◌}
 use mathlib.Core.Bool.{◌&&◌}
-use Prim.Native.Nat.{ℕ, ◌*◌, ◌≤◌, ◌-◌}
+use Prim.Native.Nat.{ℕ, ◌*◌}
 use lib.Dec.{ltb}
 use lib.ListN.{length}
 use Rattle.literal_sets.specs.Marks.{marked}
@@ -11,7 +11,4 @@ use Rattle.answer_sets.proofs.values.marks_of.Given as goal
 
 abbrev pub invariant-loop-atom : goal.invariant-loop-atom
 invariant-loop-atom l =
-    (l.atom ≤ l.atoms) × (length l.marks ≡ 32) × ((k : ℕ) → marked l.marks k ≡ (ltb k (2 * l.atom) && set_of l.values k))
-
-abbrev pub decreases-loop-atom : goal.decreases-loop-atom
-decreases-loop-atom l = l.atoms - l.atom
+    (length l.marks ≡ 32) × ((k : ℕ) → marked l.marks k ≡ (ltb k (2 * l.atom) && set_of l.values k))

@@ -8,8 +8,8 @@ use Rattle.history_reader.proofs.histories.atom_count.Goals as goal
 
 pub returns : goal.returns
 returns c =
-    let r = c.args.draft in
+    let r = c.args.declared.now in
     let actions = r.names.count - r.fluents in
-    let few : actions ≤ 8 = omega (arith, c.requires.actions) in
-    let is = c.atom_count.ensures ∙ atoms-within r.fluents actions r.horizon c.requires.few few c.requires.time in
-    (is, omega (arith, is, few-atoms r.fluents actions r.horizon c.requires.few few c.requires.time))
+    let few : actions ≤ 8 = omega (arith, r.actions) in
+    let is = c.atom_count.ensures ∙ atoms-within r.fluents actions r.horizon r.few few r.time in
+    (is, omega (arith, is, few-atoms r.fluents actions r.horizon r.few few r.time))

@@ -1,21 +1,16 @@
--- `holds` meets its contract. The loop's invariant: the literals not yet passed hold exactly if all do.
+-- `holds` meets its contract: the library's search over a list for one that fails finds none exactly where all hold.
 -- Assumes nothing.
-use mathlib.Core.Path.{sym, ◌∙◌}
-use native.Mathlib.Omega.{arith}
-use Rattle.basics.proofs.Loops.{all-prefix-stop, all-prefix-go}
+use Rattle.std.proofs.Common.{rules, tests, ◌∙◌}
+use Rattle.std.proofs.lemmas.Iterator.{YieldsList-from_slice}
+use Rattle.std.proofs.lemmas.Iterator.Search.{all_from_yields_List}
+use Rattle.basics.proofs.Results.{list_all_all}
+use Rattle.transitions.specs.Meaning.{satisfies, together}
+use Rattle.law_effects.specs.Applying.{read}
 use Rattle.law_effects.proofs.literals.holds.Goals as goal
 
-pub returns-then-not-satisfies : goal.returns-then-not-satisfies
-returns-then-not-satisfies c =
-    all-prefix-stop _ c.args.codes _ c.loop-i.i _
-    c.loop-i-test.true (omega arith) c.loop-i.invariant.2
-    (sym c.satisfies.ensures ∙ c.if-not-satisfies.true)
-
-pub loop-i-preserved : goal.loop-i-preserved
-loop-i-preserved c = (
-  c.loop-i.invariant.0,
-  c.loop-i.invariant.1,
-  all-prefix-go _ c.args.codes _ c.loop-i.i _
-      c.loop-i-test.true (omega arith) c.loop-i.invariant.2
-      (sym c.satisfies.ensures ∙ c.if-not-satisfies.false),
-)
+pub returns : goal.returns
+returns c =
+    let a = c.args in
+    let test = satisfies (together a.n (read a.old.now) (read a.done.now)) in
+    all_from_yields_List test _ _ _ c.all.ensures.ran (YieldsList-from_slice a.codes.now cc) (λ x b q k. search (rules, tests))
+    ∙ list_all_all test a.codes.now

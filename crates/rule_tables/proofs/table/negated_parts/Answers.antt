@@ -9,4 +9,4 @@ pub returns-then-rest-rule_size : goal.returns-then-rest-rule_size
 returns-then-rest-rule_size c = negated-short c.args.rest.now (omega arith)
 
 pub returns : goal.returns
-returns c = c.whole_negated.ensures ∙ negated-whole c.args.rest.now (omega arith)
+returns c = c.negated.ensures ∙ negated-whole c.args.rest.now (omega arith)

@@ -9,4 +9,4 @@ pub returns-then-rest-rule_size : goal.returns-then-rest-rule_size
 returns-then-rest-rule_size c = plain-short c.args.rest.now (omega arith)
 
 pub returns : goal.returns
-returns c = c.whole_plain.ensures ∙ plain-whole c.args.rest.now (omega arith)
+returns c = c.plain.ensures ∙ plain-whole c.args.rest.now (omega arith)

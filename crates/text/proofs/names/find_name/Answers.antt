@@ -1,19 +1,22 @@
--- `names::find_name` meets its contract. The loop's invariant: the first place of the name is the first of the places not yet passed.
+-- `names::find_name` meets its contract: no bytes are no name, and the library's search goes over the places.
 -- Assumes nothing.
-use native.Mathlib.Omega.{arith}
-use mathlib.Core.Path.{◌≡◌, sym, ◌∙◌}
-use Rattle.basics.proofs.Loops.{range-go}
+use borrow.Author.Tests.{eqb-false}
+use Rattle.std.proofs.Common.{rules, tests, ap, sym, ◌∙◌, take}
+use Rattle.std.proofs.lemmas.Iterator.{YieldsList-from_slice, YieldsList-from_take}
+use Rattle.std.proofs.lemmas.Iterator.Search.{position_from_yields_List}
+use Rattle.basics.specs.Refusals.{place_of}
+use Rattle.basics.proofs.Results.{position_first}
 use Rattle.spelling.specs.Spelling.{same_name}
-use Rattle.text.specs.Internal.{name_at}
-use Rattle.text.proofs.Spelling.{search-starts}
+use Rattle.text.specs.Internal.{at_place}
+use Rattle.text.proofs.Spelling.{search-places}
 use Rattle.text.proofs.names.find_name.Goals as goal
 
-pub loop-i-init : goal.loop-i-init
-loop-i-init c = (omega arith, search-starts _ _ c.args.name.now c.if-name-eq0.false)
-
-pub loop-i-preserved : goal.loop-i-preserved
-loop-i-preserved c =
+pub returns-clause-place : goal.returns-clause-place
+returns-clause-place c =
     let a = c.args in
-    let compared : c.same.result ≡ same_name a.name.now (name_at a.text.now a.names c.loop-i.i) =
-    rw (← c.number_at-start.ensures, ← c.number_at-length.ensures, ← c.part-declared.ensures) c.same.ensures in
-    (omega arith, range-go _ c.loop-i.i _ c.loop-i-test.true c.loop-i.invariant.1 (sym compared ∙ c.if-same.false))
+    ap place_of
+    (position_from_yields_List (λ place. same_name a.name.now (at_place a.text.now place)) _ _ _ c.position.ensures.ran
+    (YieldsList-from_take a.names.now.count (YieldsList-from_slice a.names.now.places cc) cc)
+    (λ x b q k. search (rules, tests)))
+    ∙ position_first (λ place. same_name a.name.now (at_place a.text.now place)) (take a.names.now.count a.names.now.places)
+    ∙ search-places a.text.now a.names.now a.name.now (eqb-false _ _ (sym c.is_empty.ensures ∙ c.if-is_empty.false))

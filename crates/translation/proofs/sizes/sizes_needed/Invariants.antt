@@ -1,12 +1,9 @@
 -- `sizes_needed` meets its contract. The invariant: of rules and of words, what is counted and what the laws not yet passed
 -- have make up the whole.
 -- Assumes nothing.
-use Prim.Native.Nat.{◌-◌}
+use Rattle.action_language.specs.Laws.{laws_of}
 use Rattle.translation.proofs.Sums.{Counting}
 use Rattle.translation.proofs.sizes.sizes_needed.Given as goal
 
-abbrev pub invariant-loop-i : goal.invariant-loop-i
-invariant-loop-i l = Counting l.horizon l.laws l.count l.initial.rules l.initial.words l.rules l.words l.i
-
-abbrev pub decreases-loop-i : goal.decreases-loop-i
-decreases-loop-i l = l.count - l.i
+abbrev pub invariant-loop-law : goal.invariant-loop-law
+invariant-loop-law l = Counting l.d.horizon (laws_of l.d l.laws) l.initial.rules l.initial.words l.rules l.words l.law-index

@@ -1,21 +1,21 @@
 -- `write_table` meets its contract. Four passes, each of which leaves the words of those behind it.
 -- Assumes nothing.
 use mathlib.Core.List.{List, [], ◌++◌}
-use mathlib.Core.Path.{◌≡◌, refl, sym, ◌∙◌}
-use Prim.Native.Nat.{ℕ, ◌+◌, ◌≤◌}
-use native.Mathlib.Nat.{zero-add}
+use mathlib.Core.Path.{refl, sym, ◌∙◌}
+use Prim.Native.Nat.{ℕ}
 use native.Mathlib.Omega.{arith}
-use lib.ListN.{length}
-use lib.Seq.{sets}
+use Rattle.std.proofs.Common.{rules}
 use Rattle.action_language.specs.declared.Law.{Law}
 use Rattle.action_language.specs.declared.Description.{Description}
 use Rattle.action_language.specs.Laws.{laws_of}
 use Rattle.translation_rules.specs.Translated.{table_for}
-use Rattle.translation.proofs.Writing.{Left, front, last, begun, wrote, room, ended, stored, static_words}
+use Rattle.translation.specs.declared.writers.Writer.{Writer}
+use Rattle.translation.specs.Writers.{Wrote}
+use Rattle.translation.proofs.Writing.{Left, front, last, begun, wrote, room, ended, static_words}
 use Rattle.translation.proofs.Writing.{dynamic_words, fluent_words, action_words, passes, sets-front}
 use Rattle.translation.proofs.writers.write_table.Goals as goal
 
-module _ (d : Description) (laws : List Law) (t : List ℕ) where
+module _ (d : Description) (laws : List Law) where
   -- the words of each pass, and of all that come after a pass
   abbrev static : List ℕ
   static = static_words d.fluents d.actions d.horizon (laws_of d laws)
@@ -29,83 +29,70 @@ module _ (d : Description) (laws : List Law) (t : List ℕ) where
   abbrev actions : List ℕ
   actions = action_words d.fluents d.actions d.horizon (laws_of d laws)
 
-  abbrev choice : List ℕ
-  choice = fluents ++ actions
-
   -- what is left before the first pass, and behind each
-  left₀ : Left t 0 (static ++ (dynamic ++ choice)) t 0 (table_for d laws)
-  left₀ = begun _ _ _ _ (sym (passes d.fluents d.actions d.horizon (laws_of d laws)))
+  module _ (start : Writer) where
+    abbrev Remains : Writer → List ℕ → Type 0
+    Remains now ws = Left now ws start (table_for d laws)
 
-  left₁ : (u : List ℕ) (p : ℕ) → p ≡ 0 + length static → u ≡ sets t 0 static → Left u p (dynamic ++ choice) t 0 (table_for d laws)
-  left₁ u p size is = wrote left₀ (front static (dynamic ++ choice)) size is
+    left₀ : Remains start (static ++ (dynamic ++ (fluents ++ actions)))
+    left₀ = begun start _ _ (sym (passes d.fluents d.actions d.horizon (laws_of d laws)))
 
-  left₂ : {t' : List ℕ} {p' : ℕ} → Left t' p' (dynamic ++ choice) t 0 (table_for d laws)
-      → (u : List ℕ) (p : ℕ) → p ≡ p' + length dynamic → u ≡ sets t' p' dynamic → Left u p choice t 0 (table_for d laws)
-  left₂ left u p size is = wrote left (front dynamic choice) size is
+    left₁ : (w₁ : Writer) → Wrote static start w₁ → Remains w₁ (dynamic ++ (fluents ++ actions))
+    left₁ w₁ e₁ = wrote left₀ (front static (dynamic ++ (fluents ++ actions))) e₁
 
-  left₃ : {t' : List ℕ} {p' : ℕ} → Left t' p' choice t 0 (table_for d laws)
-      → (u : List ℕ) (p : ℕ) → p ≡ p' + length fluents → u ≡ sets t' p' fluents → Left u p actions t 0 (table_for d laws)
-  left₃ left u p size is = wrote left (front fluents actions) size is
+    left₂ : (w₁ w₂ : Writer) → Wrote static start w₁ → Wrote dynamic w₁ w₂ → Remains w₂ (fluents ++ actions)
+    left₂ w₁ w₂ e₁ e₂ = wrote (left₁ w₁ e₁) (front dynamic (fluents ++ actions)) e₂
 
-  left₄ : {t' : List ℕ} {p' : ℕ} → Left t' p' actions t 0 (table_for d laws)
-      → (u : List ℕ) (p : ℕ) → p ≡ p' + length actions → u ≡ sets t' p' actions → Left u p [] t 0 (table_for d laws)
-  left₄ left u p size is = wrote left (last actions) size is
+    left₃ : (w₁ w₂ w₃ : Writer) → Wrote static start w₁ → Wrote dynamic w₁ w₂ → Wrote fluents w₂ w₃ → Remains w₃ actions
+    left₃ w₁ w₂ w₃ e₁ e₂ e₃ = wrote (left₂ w₁ w₂ e₁ e₂) (front fluents actions) e₃
 
-pub write_laws-after_static-requires : goal.write_laws-after_static-requires
-write_laws-after_static-requires c =
+    left₄ : (w₁ w₂ w₃ w₄ : Writer) → Wrote static start w₁ → Wrote dynamic w₁ w₂ → Wrote fluents w₂ w₃ → Wrote actions w₃ w₄
+        → Remains w₄ []
+    left₄ w₁ w₂ w₃ w₄ e₁ e₂ e₃ e₄ = wrote (left₃ w₁ w₂ w₃ e₁ e₂ e₃) (last actions) e₄
+
+pub laws-requires : goal.laws-requires
+laws-requires c =
     let d = c.args.d in
-    let ls = c.args.laws in
-    let t = c.args.table.now in
+    let ls = c.args.laws.now in
+    let w : Writer = record { table = c.args.table; at = 0 } in
     record {
-      count_bound = omega arith;
-      laws_in_bounds = room (left₀ d ls t) (front (static d ls t) (dynamic d ls t ++ choice d ls t)) (omega arith);
+      bound = omega arith;
+      room = room (left₀ d ls w) (front (static d ls) (dynamic d ls ++ (fluents d ls ++ actions d ls))) (omega arith);
     }
 
-pub write_laws-after_dynamic-requires : goal.write_laws-after_dynamic-requires
-write_laws-after_dynamic-requires c =
+pub laws-requires-2 : goal.laws-requires-2
+laws-requires-2 c =
     let d = c.args.d in
-    let ls = c.args.laws in
-    let t = c.args.table.now in
-    let a = c.write_laws-after_static in
-    let l1 = left₁ d ls t a.new.table a.result a.ensures.0 a.ensures.1 in
-    record { count_bound = omega arith; laws_in_bounds = room l1 (front (dynamic d ls t) (choice d ls t)) (omega arith) }
+    let ls = c.args.laws.now in
+    record {
+      bound = omega arith;
+      room = room (left₁ d ls _ _ c.laws.ensures) (front (dynamic d ls) (fluents d ls ++ actions d ls)) (omega arith);
+    }
 
-pub write_choices-after_fluents-requires : goal.write_choices-after_fluents-requires
-write_choices-after_fluents-requires c =
+pub choices-requires : goal.choices-requires
+choices-requires c =
     let d = c.args.d in
-    let ls = c.args.laws in
-    let t = c.args.table.now in
-    let a = c.write_laws-after_static in
-    let b = c.write_laws-after_dynamic in
-    let l1 = left₁ d ls t a.new.table a.result a.ensures.0 a.ensures.1 in
-    let l2 = left₂ d ls t l1 b.new.table b.result b.ensures.0 b.ensures.1 in
-    record { count_bound = omega arith; count_in_bounds = room l2 (front (fluents d ls t) (actions d ls t)) (omega arith) }
+    let ls = c.args.laws.now in
+    record {
+      bound = omega arith;
+      room = room (left₂ d ls _ _ _ c.laws.ensures c.laws-2.ensures) (front (fluents d ls) (actions d ls)) (omega arith);
+    }
 
-pub write_actions-requires : goal.write_actions-requires
-write_actions-requires c =
+pub actions-requires : goal.actions-requires
+actions-requires c =
     let d = c.args.d in
-    let ls = c.args.laws in
-    let t = c.args.table.now in
-    let a = c.write_laws-after_static in
-    let b = c.write_laws-after_dynamic in
-    let e = c.write_choices-after_fluents in
-    let l1 = left₁ d ls t a.new.table a.result a.ensures.0 a.ensures.1 in
-    let l2 = left₂ d ls t l1 b.new.table b.result b.ensures.0 b.ensures.1 in
-    let l3 = left₃ d ls t l2 e.new.table e.result e.ensures.0 e.ensures.1 in
-    record { n_bound = omega arith; horizon_in_bounds = room l3 (last (actions d ls t)) (omega arith) }
+    let ls = c.args.laws.now in
+    record {
+      bound = omega arith;
+      room = room (left₃ d ls _ _ _ _ c.laws.ensures c.laws-2.ensures c.choices.ensures) (last (actions d ls)) (omega arith);
+    }
 
 pub returns : goal.returns
 returns c =
     let d = c.args.d in
-    let ls = c.args.laws in
-    let t = c.args.table.now in
-    let a = c.write_laws-after_static in
-    let b = c.write_laws-after_dynamic in
-    let e = c.write_choices-after_fluents in
-    let f = c.write_actions in
-    let l1 = left₁ d ls t a.new.table a.result a.ensures.0 a.ensures.1 in
-    let l2 = left₂ d ls t l1 b.new.table b.result b.ensures.0 b.ensures.1 in
-    let l3 = left₃ d ls t l2 e.new.table e.result e.ensures.0 e.ensures.1 in
-    let l4 = left₄ d ls t l3 f.new.table f.result f.ensures.0 f.ensures.1 in
-    let within : 0 + length (table_for d ls) ≤ length t = omega arith in
-    record { value = ended l4 refl ∙ zero-add _; table_after = stored l4 refl ∙ sets-front (table_for d ls) t within }
+    let ls = c.args.laws.now in
+    let done = left₄ d ls _ _ _ _ _ c.laws.ensures c.laws-2.ensures c.choices.ensures c.actions.ensures in
+    let all = ended done refl in
+    let is = all.stored ∙ sets-front (table_for d ls) c.args.table.now (omega arith) in
+    let same = sym all.same_table in
+    search (rules, is, same)

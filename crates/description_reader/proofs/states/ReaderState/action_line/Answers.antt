@@ -1,0 +1,22 @@
+-- `ReaderState::action_line` meets its contract: a name that passed its tests joins those declared.
+-- Assumes nothing.
+use mathlib.Core.Path.{◌≡◌, refl, sym, ◌∙◌}
+use native.Mathlib.Omega.{arith}
+use borrow.Author.Rules.{rules}
+use lib.ListN.{length}
+use Rattle.text.proofs.Spelling.{spelled-length}
+use Rattle.description_reader.specs.Internal.{draft_of}
+use Rattle.description_reader.proofs.Naming.{named}
+use Rattle.description_reader.proofs.states.ReaderState.action_line.Goals as goal
+
+pub returns-in_err-check_name-clause-step : goal.returns-in_err-check_name-clause-step
+returns-in_err-check_name-clause-step c = simp spelled-length (search rules)
+
+pub returns-clause-step : goal.returns-clause-step
+returns-clause-step c =
+    let s = c.args.self.now in
+    let line = c.args.line.now in
+    let size : length s.names.places ≡ 32 = search rules in
+    rw spelled-length
+    (named line.text.now s.names line.place.start line.place.length (draft_of line.text.now s) refl _ _ _ (omega arith)
+    (sym c.check_name.ensures ∙ c.in_ok-check_name.was))

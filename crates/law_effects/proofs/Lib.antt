@@ -1,3 +1,0 @@
--- The laws that the functions' proofs cite.
-pub mod Interpretations
-pub mod Prefixes
