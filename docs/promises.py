@@ -4,10 +4,12 @@
     docs/promises.py            writes the page
     docs/promises.py --check    writes nothing and fails if the page is not what the sources say
 
-Open to callers is each `pub fn` of a library that stands in lib.rt, or in modules that are all `pub`. Crates come in
-the order of crates.txt; a line there that begins with ## starts a room, which gets a heading. Either way it fails if a
-function open to callers has a `requires`, or if one with several clauses has a clause without a known name: one of the
-names below, a field of the result that the clause speaks of, or both joined.
+Open to callers is each `pub fn` of a library that stands in lib.rt, or in modules that are all `pub`, and each function
+of a trait that is implemented there. Beside them the page has the traits of such modules with their members, and what
+a type's ghost fields say, for who builds a value of it has to prove that. Crates come in the order of crates.txt; a
+line there that begins with ## starts a room, which gets a heading. Either way it fails if a function open to callers
+has a `requires`, or if one with several clauses has a clause without a known name: one of the names below, a field of
+the result that the clause speaks of, or both joined.
 """
 
 import pathlib
@@ -22,6 +24,7 @@ WIDTH = 119
 
 NAMES = {
     "answers": "the result, or the answer in it, is what a definition gives",
+    "numbered": "a refusal's reason is the one that has its number, none of a caller's own",
     "leaves": "what lent memory holds afterwards",
     "writes": "which bytes the lent buffer holds afterwards, as far as it goes; the result is how many there are",
     "demand_2": "the answer is right by answer sets, the reduct and its least closed set",
@@ -37,6 +40,7 @@ NAMES = {
     "bounded": "a limit of the result",
     "padded": "what stands behind the values is 0",
     "lies": "where in the lent text that lies which is returned",
+    "number": "a refusal's number is above 0",
 }
 
 ABOUT = """\
@@ -45,7 +49,7 @@ ABOUT = """\
 Made by docs/promises.py from the sources; do not edit.
 
 This page has every function open to callers, {functions} in {crates} crates, with what it promises: {clauses} clauses.
-Each is proved of every input. {owed}
+Each is proved of every input. {owed}{typed}
 
 ## How to read a clause
 
@@ -66,8 +70,15 @@ A function with several clauses has a name for each. The name of a field of the 
 
 NOTHING_OWED = "None of these functions has a `requires`: a caller owes them nothing."
 
+TYPES = """\
+A type whose values have facts of their own says them under **ghost** at its name ({types}): a function that is handed
+such a value relies on them, and who builds one proves them."""
+
 FUNCTION = re.compile(r'^ *pub (?:(?:const|unsafe|extern "C") )*fn (\w+)', re.M)
 CLAUSE = re.compile(r"\s*(requires|ensures|ghost)\b\*?(?: (\w+))? *(?=\{)")
+ITEM = re.compile(r"^(?:pub (trait|struct|enum) (\w+)|impl(?:<[^>]*>)? ([\w:]+(?:<\w+>)?) for ([\w:()]+))[^;{]*\{", re.M)
+MEMBER = re.compile(r"^ +(?:pub )?ghost (\w+)(?::| =) *(?=\{)", re.M)
+METHOD = re.compile(r"^ +fn (\w+)", re.M)
 USE = re.compile(r"^ghost use Rattle\.(\w+)\.specs\.([\w.]+?)(?:\.\{([^}]*)\}| as (\w+))?;", re.M)
 
 
@@ -83,6 +94,7 @@ class Function(NamedTuple):
     signature: str
     comment: str
     clauses: list
+    kind: str  # function, trait, struct or enum
 
 
 def read_rooms():
@@ -173,24 +185,60 @@ def contract(text, at, bound, brought):
         said = text[start.end() + 1 : end].strip()
         found.append(Clause(start[1], start[2] or "", said, cited(said, bound, *brought)))
         at = end + 1
-    if not re.match(r"\s*\{", text[at:]):
+    if not re.match(r"\s*[{;]", text[at:]):
         sys.exit("neither a clause nor a body: " + text[at : at + 60].strip())
     return found
 
 
+def signature_at(text, start):
+    """A function's signature in one line, and where its clauses begin."""
+    end = re.compile(r"\s*(?:\{|;$|\b(?:requires|ensures|ghost)\b)", re.M).search(text, start.end()).start()
+    return " ".join(text[start.start() : end].split()).replace("( ", "(").replace(", )", ")"), end
+
+
+def members(text, brought):
+    """The ghost members or fields that stand in the text of an item."""
+    found = []
+    for start in MEMBER.finditer(text):
+        said = text[start.end() + 1 : closing(text, start.end())].strip()
+        found.append(Clause("ghost", start[1], said, cited(said, set(), *brought)))
+    return found
+
+
+def open_items(module, text, brought):
+    """Traits with their members, types with ghost fields, and the functions of traits for a type, by the place of each."""
+    found = []
+    for start in ITEM.finditer(text):
+        body = text[start.end() : closing(text, start.end() - 1)]
+        facts, comment = members(body, brought), comment_above(text, start.start())
+        methods = [(method[1], *signature_at(body, method)) for method in METHOD.finditer(body)]
+        if start[3]:
+            for name, signature, end in methods:
+                named = f"{module}::<{start[4]} as {start[3]}>::{name}"
+                clauses = facts + contract(body, end, set(), brought)
+                found.append((start.start(), Function(named, signature, comment, clauses, "function")))
+        elif facts:
+            clauses = facts + [clause for *_, end in methods for clause in contract(body, end, set(), brought)]
+            signature = f"{start[1]} {start[2]}" + "".join(f": {signature}" for _, signature, _ in methods)
+            found.append((start.start(), Function(f"{module}::{start[2]}", signature, comment, clauses, start[1])))
+    return found
+
+
 def open_functions(crate):
-    """The functions of a crate that are open to callers; a program has none."""
+    """The functions of a crate that are open to callers, and its traits and types with facts; a program has none."""
     found, root = [], ROOT / "crates" / crate / "src" / "lib.rt"
     for file, module in open_modules(root, crate) if root.is_file() else []:
         text = file.read_text()
         brought = brought_in(text)
+        here = open_items(module, text, brought)
         for start in FUNCTION.finditer(text):
-            end = re.compile(r"\s*(?:\{|\b(?:requires|ensures|ghost)\b)").search(text, start.end()).start()
-            signature = " ".join(text[start.start() : end].split()).replace("( ", "(").replace(", )", ")")
+            signature, end = signature_at(text, start)
             bound = set(re.findall(r"(\w+):(?!:)", signature))
             name = f"{module}::{type_around(text, start.start())}{start[1]}"
             clauses = contract(text, end, bound, brought)
-            found.append(Function(name, signature, comment_above(text, start.start()), clauses))
+            comment = comment_above(text, start.start())
+            here.append((start.start(), Function(name, signature, comment, clauses, "function")))
+        found += [function for _, function in sorted(here, key=lambda one: one[0])]
     return found
 
 
@@ -238,7 +286,7 @@ def head_of(signature):
         return [f"`{signature}`"]
     name, rest = signature.split("(", 1)
     parameters, result = rest.rsplit(")", 1)
-    rows = [f"    {parameter}," for parameter in parameters.split(", ")]
+    rows = [f"    {parameter}," for parameter in re.split(r", (?![^<]*>)", parameters)]
     return ["```", f"{name}(", *rows, f"){result}", "```"]
 
 
@@ -275,13 +323,16 @@ def faults(functions):
 
 def top(functions):
     """The page's beginning: how many functions there are, how to read a clause, and what the names say."""
-    every = [function for some in functions.values() for function in some]
+    all_items = [item for some in functions.values() for item in some]
+    every = [item for item in all_items if item.kind == "function"]
+    types = [f"`{item.name}`" for item in all_items if item.kind in ("struct", "enum")]
     owing = [function.name for function in every if owes(function)]
     lines = ABOUT.format(
         functions=len(every),
-        crates=sum(bool(some) for some in functions.values()),
+        crates=sum(any(item.kind == "function" for item in some) for some in functions.values()),
         clauses=sum(len(function.clauses) for function in every),
         owed=f"These have a `requires`: {', '.join(owing)}." if owing else NOTHING_OWED,
+        typed="\n\n" + "\n".join(wrapped(TYPES.format(types=", ".join(types)))) if types else "",
     ).splitlines()
     lines += ["| Name | What the clause says |", "|---|---|"]
     return lines + [f"| `{name}` | {what} |" for name, what in NAMES.items()] + [""]

@@ -6,12 +6,14 @@ use mathlib.Core.Option.{none}
 use Prim.Native.Nat.{ℕ, ◌+◌, ◌*◌, ◌≤◌}
 use native.Mathlib.Nat.{mul-le-mul}
 use native.Mathlib.Omega.{arith}
-use borrow.Author.Tests.{le-leb}
+use borrow.Author.Tests.{le-leb, leb-true}
 use Rattle.action_language.specs.declared.Law.{Law}
 use Rattle.action_language.specs.declared.Description.{Description}
 use Rattle.action_language.specs.Atoms.{atom_count, atoms_within}
 use Rattle.action_language.specs.Acceptance.{bad_record, bad_horizon}
 use Rattle.action_language.proofs.Laws.{accepted-counts, accepted-horizon}
+use mathlib.Core.Bool.{Bool, true, false, cond, ◌&&◌, and-eq-true_iff}
+use lib.Dec.{leb}
 
 module _ (n m T : ℕ) where
   module _ (fluents : n ≤ 24) (actions : m ≤ 8) (time : T ≤ 30) where
@@ -32,3 +34,16 @@ module _ (d : Description) (ls : List Law) (lent : ℕ) (taken : bad_record d ls
   accepted-atoms =
       let counts = accepted-counts d ls lent taken in
       atoms-within d.fluents d.actions d.horizon counts.1 counts.2 (accepted-horizon d.horizon horizon).1
+
+-- past the limits there is no atom
+module _ (n m T : ℕ) where
+  pub atoms-past : ((n ≤ 24) × (m ≤ 8) × (T ≤ 30) → ⊥) → atoms_within n m T ≡ 0
+  unfolding atoms_within
+  atoms-past out = go (leb n 24 && leb m 8 && leb T 30) refl
+    where
+      go : (b : Bool) → (leb n 24 && leb m 8 && leb T 30) ≡ b → cond b (atom_count n m T) 0 ≡ 0
+      go true e =
+          let t = (and-eq-true_iff (leb n 24 && leb m 8) (leb T 30)).0 e in
+          let f = (and-eq-true_iff (leb n 24) (leb m 8)).0 t.0 in
+          absurd (out (leb-true n 24 f.0, leb-true m 8 f.1, leb-true T 30 t.1))
+      go false e = refl

@@ -95,3 +95,33 @@ module _ (n m : ℕ) (l : Law) (fits : law_fits n m l ≡ true) where
           → (l.after_count ≤ 6) × (codes_below (2 * (n + m)) (after_list l) ≡ true)
       after-limits Static e h = let z : ◌≡◌ {A = ℕ} 0 1 = cc in absurd (omega arith)
       after-limits Dynamic e h = let t = last (leb l.after_count 6) h in (leb-true _ _ t.0, t.1)
+
+-- and a horizon past the limits is refused
+pub horizon-refused : (T : ℕ) → ((1 ≤ T) × (T ≤ 30) → ⊥) → bad_horizon T ≡ some 0
+unfolding bad_horizon
+horizon-refused T out = go (leb 1 T && leb T 30) refl
+  where
+    go : (b : Bool) → (leb 1 T && leb T 30) ≡ b → cond {A = Option ℕ} b none (some 0) ≡ some 0
+    go true e = let t = last (leb 1 T) e in absurd (out (leb-true _ _ t.0, leb-true _ _ t.1))
+    go false e = refl
+
+-- within the limits the counts fit
+pub counts-true : (d : Description) (lent : ℕ) → 1 ≤ d.fluents → d.fluents ≤ 24 → d.actions ≤ 8 → d.laws ≤ 64 → d.laws ≤ lent
+    → counts_fit d lent ≡ true
+counts-true d lent one few actions laws held =
+    simp (
+      le-leb 1 d.fluents one,
+      le-leb d.fluents 24 few,
+      le-leb d.actions 8 actions,
+      le-leb d.laws 64 laws,
+      le-leb d.laws lent held,
+    )
+
+-- and past them they do not
+pub counts-false : (d : Description) (lent : ℕ)
+    → ((1 ≤ d.fluents) × (d.fluents ≤ 24) × (d.actions ≤ 8) × (d.laws ≤ 64) × (d.laws ≤ lent) → ⊥) → counts_fit d lent ≡ false
+counts-false d lent out = go (counts_fit d lent) refl
+  where
+    go : (b : Bool) → counts_fit d lent ≡ b → b ≡ false
+    go true e = absurd (out (counts-limits d lent e))
+    go false e = refl

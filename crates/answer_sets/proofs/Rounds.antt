@@ -213,3 +213,18 @@ module _ (table : List ℕ) (X : Lits) (starts waits : List ℕ) (count : ℕ) (
         λ Z up sub c. let wide : Subset (marked marks) Z = λ d t. up d (rw (made.added d, t)) in
         rw (← e) (made.kept Z wide c) ∙ inv.covers Z wide sub c;
   }
+
+-- before the first rule that waits
+pub turn-start : (table : List ℕ) (old starts waits : List ℕ) (count : ℕ) → length old ≡ 32 → EachWaiting table starts waits count
+    → Turned table (marked old) (take count starts) (length starts) (length waits) count old starts waits 0 0
+turn-start table old starts waits count size each = record {
+  packed = omega arith;
+  within = omega arith;
+  marks-size = size;
+  starts-size = refl;
+  waits-size = refl;
+  done = λ j l. absurd (omega arith);
+  ahead = λ j l h. each j h;
+  bodies = λ c. refl;
+  same = λ Z sub c. refl;
+}

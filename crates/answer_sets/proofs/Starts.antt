@@ -189,3 +189,21 @@ module _ (table : List ℕ) (X : Lits) (n : ℕ) (starts rest : List ℕ) (at ru
     waiting = inv.waiting;
     enough = λ Z sub c. sym (or-false _) ∙ (rw (rules-end rest h) at (inv.enough Z sub c));
   }
+
+-- before the first rule of the table
+pub scan-start : (table : List ℕ) (X : Lits) (starts : List ℕ) → Sound table → Roomy table (length starts)
+    → Scanned table X (length starts) starts table 0 0 0
+scan-start table X starts s roomy = record {
+  behind = refl;
+  sound = s;
+  numbered = omega arith;
+  few = omega arith;
+  fits = omega arith;
+  low = omega arith;
+  high = omega arith;
+  size = refl;
+  roomy = roomy;
+  unbroken = refl;
+  waiting = λ j l. absurd (omega arith);
+  enough = λ Z sub c. refl;
+}

@@ -3,7 +3,7 @@
 use mathlib.Core.Path.{◌≡◌, refl, sym, ◌∙◌, ap}
 use mathlib.Core.List.{List}
 use mathlib.Core.Option.{Option, none, some}
-use Prim.Native.Nat.{ℕ, suc, ◌+◌, ◌-◌, ◌<◌}
+use Prim.Native.Nat.{ℕ, suc, ◌+◌, ◌-◌, ◌<◌, ◌≤◌}
 use native.Mathlib.Numerals.{add-one}
 use native.Mathlib.Omega.{arith}
 use Rattle.basics.specs.Search.{first, range}
@@ -63,3 +63,9 @@ module _ (n m : ℕ) (ls : List Law) (vs : List ℕ) (t T : ℕ) where
     steps-go r h inv told e =
         let rest = steps_from n m ls vs (suc t) (T - suc t) in
         rw (add-one t) (ap (λ x. first_fault x rest) (sym (ap verdict_of told) ∙ e) ∙ sym (steps-cons h) ∙ inv)
+
+-- where no step is left
+module _ (n m : ℕ) (ls : List Law) (vs : List ℕ) (t T : ℕ) where
+  module _ {R : Causal} where
+    pub steps-done : T ≤ t → steps_from n m ls vs t (T - t) ≡ R → path ≡ R
+    steps-done h inv = let none_left : T - t ≡ 0 = omega arith in rw none_left at inv

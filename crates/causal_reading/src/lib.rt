@@ -5,7 +5,7 @@ mod history;
 
 ghost use Rattle.std.specs.Prelude.{◌≡◌, length};
 ghost use Rattle.basics.specs.Search.{first};
-ghost use Rattle.basics.specs.Refusals.{place_of};
+ghost use Rattle.basics.specs.Refusals.{place_of, Numbered};
 ghost use Rattle.law_effects.specs.Applying.{read};
 ghost use Rattle.causal_reading.specs.Verdicts.{path, step_verdict};
 ghost use Rattle.causal_reading.specs.Readings.{verdict_of, reply_of, not_one_value, reading};
@@ -48,7 +48,8 @@ fn bad_value(values: &[u8]) -> Option<usize>
 // Refusals 8, 3, 10 and 11 in this order, then the verdict.
 #[tactic(auto, unfolding(crate::specs::Readings::reading))]
 pub fn causal_reading(d: Description, laws: &[Law], values: &[u8]) -> Result<Reading, Refusal>
-    ensures { reply_of result ≡ reading d laws.now (length laws.now) values.now }
+    ensures answers { reply_of result ≡ reading d laws.now (length laws.now) values.now }
+    ensures numbered { Numbered result }
 {
     record_acceptance::check_record(d, laws)?;
     record_acceptance::check_horizon(d.horizon)?;

@@ -24,18 +24,24 @@ fn complement(code: usize) -> usize
 fn parts_hold(parts: &[u16], values: &[u8]) -> bool
     ensures { result ≡ all (set_of values.now) parts.now }
 {
-    parts
-        .iter()
-        .all(|part| values::has(values, usize::from(*part)))
+    for part in parts {
+        if !values::has(values, usize::from(*part)) {
+            return false;
+        }
+    }
+    true
 }
 
 // Whether the complement of each part is.
 fn complements_hold(parts: &[u16], values: &[u8]) -> bool
     ensures { result ≡ all (λ c. set_of values.now (complement c)) parts.now }
 {
-    parts
-        .iter()
-        .all(|part| values::has(values, complement(usize::from(*part))))
+    for part in parts {
+        if !values::has(values, complement(usize::from(*part))) {
+            return false;
+        }
+    }
+    true
 }
 
 // Whether the body of a rule holds.

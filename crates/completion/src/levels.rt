@@ -2,7 +2,7 @@
 ghost use Rattle.std.specs.Prelude.{◌≡◌, not, ◌≤◌, length};
 ghost use Rattle.basics.specs.Search.{all, first};
 ghost use Rattle.basics.specs.Replies.{refusal};
-ghost use Rattle.basics.specs.Refusals.{place_of, tested_of};
+ghost use Rattle.basics.specs.Refusals.{place_of, tested_of, Numbered};
 ghost use Rattle.logic_programs.specs.Words.{rule_at, rule_size, rules_of};
 ghost use Rattle.rule_tables.specs.Internal.{Sound};
 ghost use Rattle.completion_theory.specs.LevelLists.{is_below, stands_above, wrong_count, bad_levels};
@@ -62,7 +62,8 @@ fn bad_levels(table: &[u16], levels: &[u16], atoms: usize) -> Option<usize>
 pub(crate) fn check_levels(table: &[u16], levels: &[u16], atoms: usize) -> Result<(), Refusal>
     requires few_atoms { atoms ≤ 1024 }
     requires sound { Sound table.now }
-    ensures { tested_of result ≡ refusal 13 (bad_levels atoms table.now levels.now) }
+    ensures answers { tested_of result ≡ refusal 13 (bad_levels atoms table.now levels.now) }
+    ensures numbered { Numbered result }
 {
     match bad_levels(table, levels, atoms) {
         Some(place) => Err(Refusal {

@@ -8,6 +8,7 @@ mod levels;
 
 ghost use Rattle.std.specs.Prelude.{◌≡◌, ◌≤◌, length};
 ghost use Rattle.std.proofs.Math.Option.{none};
+ghost use Rattle.basics.specs.Refusals.{Numbered};
 ghost use Rattle.logic_programs.specs.Literals.{set_of};
 ghost use Rattle.logic_programs.specs.Words.{rules_of, bad_rule};
 ghost use Rattle.completion_theory.specs.Findings.{judged_by_formulas, formula_finding};
@@ -61,6 +62,7 @@ fn judge(values: &[u8], table: &[u16]) -> Finding
 // The answer to value bytes, one an atom, and the words of a rule table: a refusal, or what is found. Nothing that is lent changes.
 pub fn check_completion(values: &[u8], table: &[u16]) -> Result<Finding, Refusal>
     ensures answers { reply_of result ≡ answer values.now table.now }
+    ensures numbered { Numbered result }
     ensures by_formulas { SaysFormulas values.now table.now (reply_of result) }
 {
     acceptance::test(values, table)?;
@@ -70,6 +72,7 @@ pub fn check_completion(values: &[u8], table: &[u16]) -> Result<Finding, Refusal
 // The same with a level for each literal code, which show that the table is tight: then it holds exactly if the engine passes.
 pub fn check_by_levels(values: &[u8], table: &[u16], levels: &[u16]) -> Result<Finding, Refusal>
     ensures answers { reply_of result ≡ answer_by_levels values.now table.now levels.now }
+    ensures numbered { Numbered result }
     ensures by_levels { SaysLevels values.now table.now levels.now (reply_of result) }
 {
     acceptance::test(values, table)?;

@@ -2,11 +2,11 @@
 -- `read_description`, nor of the history reader, rests on it; a reader may pass it over.
 -- Assumes nothing.
 use Rattle.std.proofs.Math.Option as found
-use Rattle.std.specs.Prelude.{◌≡◌, Bool, cond, ◌&&◌, ◌||◌, List, [], ℕ, ◌+◌, ◌≤◌, eqb, ltb, length, take, drop}
-use Rattle.std.specs.Prelude.{Option, Some, None, Result, Ok, Err}
+use Rattle.std.specs.Prelude.{◌≡◌, Bool, false, cond, ◌&&◌, ◌||◌, List, [], ℕ, ◌+◌, ◌≤◌, eqb, ltb, length, take, drop}
+use Rattle.std.specs.Prelude.{Option, Some, None, Result, Ok, Err, IfErr}
 use Rattle.basics.specs.declared.Reason.{Reason}
 use Rattle.basics.specs.declared.Reason.TheVariants.{BadLiteral}
-use Rattle.basics.specs.Refusals.{number_of}
+use Rattle.basics.specs.Refusals.{number_of, is_own}
 use Rattle.action_language.specs.declared.Law.{Law}
 use Rattle.description_reader.specs.declared.states.ReaderState.{ReaderState}
 use Rattle.description_reader.specs.declared.states.Line.{Line}
@@ -41,6 +41,10 @@ codes_in list = take list.places.count list.places.codes
 abbrev pub listed_of : Result Unit Reason → Codes → Listed
 listed_of (Ok taken) list = codes (codes_in list)
 listed_of (Err reason) list = lists.refused (number_of reason)
+
+-- a line's refusal has a reason of its own number: none is a caller's own
+abbrev pub NumberedReason : {R : Type 0} → Result R Reason → Type 0
+NumberedReason result = IfErr result (λ reason. is_own reason ≡ false)
 
 -- one more item behind those of a list: refusal 5 of a seventh, then 6
 abbrev pub one_more : List ℕ → found.Option ℕ → Listed

@@ -17,7 +17,7 @@ impl Codes {
     ghost use Rattle.std.specs.Prelude.{[]};
     ghost use Rattle.basics.specs.Refusals.{place_of};
     ghost use Rattle.text.specs.Internal.{CodeFits};
-    ghost use Rattle.description_reader.specs.Internal.{codes_in, listed_of, one_more};
+    ghost use Rattle.description_reader.specs.Internal.{codes_in, listed_of, one_more, NumberedReason};
 
     // No codes yet.
     pub fn none() -> Codes
@@ -34,7 +34,8 @@ impl Codes {
     // One more item: a seventh has no place, and each is to be a literal of the allowed sort.
     pub fn push(&mut self, code: Option<usize>) -> Result<(), Reason>
         requires { CodeFits (place_of code) }
-        ensures { listed_of result self.new ≡ one_more (codes_in self.old) (place_of code) }
+        ensures answers { listed_of result self.new ≡ one_more (codes_in self.old) (place_of code) }
+        ensures numbered { NumberedReason result }
     {
         if 6 <= self.places.count {
             return Err(Reason::NoRoom);

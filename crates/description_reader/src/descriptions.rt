@@ -1,6 +1,6 @@
 // Reading a description, line by line; the first bad line decides.
-ghost use Rattle.std.specs.Prelude.{◌≡◌, ◌≤◌, length, IfOk};
-ghost use Rattle.basics.specs.Refusals.{reply_by};
+ghost use Rattle.std.specs.Prelude.{◌≡◌, ◌≤◌, ◌<◌, length, IfOk, IfErr};
+ghost use Rattle.basics.specs.Refusals.{reply_by, number_of, Numbered};
 ghost use Rattle.description_lines.specs.Descriptions.{described};
 ghost use Rattle.description_reader.specs.Declarations.{declared_of, declarations};
 ghost use Rattle.description_reader.specs.Internal.{taken_by, Ended, Declares};
@@ -35,6 +35,7 @@ fn read_lines(text: &[u8], lent: usize) -> Result<Ending, Refusal>
     requires { length text.now ≤ 65535 }
     ensures answers { reply_by (taken_by text.now) result ≡ described lent text.now }
     ensures ended { IfOk result (λ e. Ended lent text.now e) }
+    ensures numbered { Numbered result }
 {
     let mut state = ReaderState::begun(lent);
     let mut at: usize = 0;
@@ -74,6 +75,7 @@ fn read_lines(text: &[u8], lent: usize) -> Result<Ending, Refusal>
 pub(crate) fn read(text: &[u8], lent: usize) -> Result<Ending, Refusal>
     ensures answers { reply_by (taken_by text.now) result ≡ described lent text.now }
     ensures ended { IfOk result (λ e. Ended lent text.now e) }
+    ensures numbered { Numbered result }
 {
     if 65535 < text.len() {
         return Err(refused(Reason::LongText, 0));
@@ -85,6 +87,8 @@ pub(crate) fn read(text: &[u8], lent: usize) -> Result<Ending, Refusal>
 pub fn read_alone(text: &[u8]) -> Result<Declarations, Refusal>
     ensures answers { reply_by declared_of result ≡ declarations text.now (described 64 text.now) }
     ensures bounded { IfOk result (λ r. Declares text.now r) }
+    ensures numbered { Numbered result }
+    ensures number { IfErr result (λ refusal. 0 < number_of refusal.reason) }
 {
     let end = read(text, 64)?;
     Ok(Declarations {

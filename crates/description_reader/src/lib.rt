@@ -9,6 +9,7 @@ mod states;
 mod steps;
 
 ghost use Rattle.std.specs.Prelude.{◌≡◌, IfOk, length};
+ghost use Rattle.basics.specs.Refusals.{Numbered};
 ghost use Rattle.description_lines.specs.Descriptions.{described};
 ghost use Rattle.description_lines.specs.Answers.{replied, record_of, laws_left};
 ghost use Rattle.description_reader.specs.Answers.{reply_of};
@@ -29,6 +30,7 @@ pub fn read_description(text: &[u8], laws: &mut [Law]) -> Result<Read, Refusal>
     ensures answers { reply_of result ≡ replied text.now (described (length laws.old) text.now) }
     ensures description { IfOk result (λ read. read.description ≡ record_of (described (length laws.old) text.now)) }
     ensures leaves { laws.new ≡ laws_left (described (length laws.old) text.now) laws.old }
+    ensures numbered { Numbered result }
 {
     let end = descriptions::read(text, laws.len())?;
     let state = &end.state;

@@ -14,6 +14,7 @@ ghost use Rattle.description_lines.specs.LineSteps.{whole, read_head, if_line, e
 ghost use Rattle.description_lines.specs.Descriptions.{blank};
 ghost use Rattle.description_reader.specs.declared.states.Due as code;
 ghost use Rattle.description_reader.specs.Internal.{due_of, draft_of, step_of, Keeps, value_in, read_or, codes_in, later_line, step_with};
+ghost use Rattle.description_reader.specs.Internal.{NumberedReason};
 
 use crate::codes::Codes;
 use crate::states::{Due, Line, ReaderState};
@@ -66,6 +67,7 @@ impl ReaderState {
         ensures step { step_of line.now.text.now result self.new
             ≡ horizon_line (draft_of line.now.text.now self.old) (horizon_of (value_in line.now)) }
         ensures keeps { Keeps self.old self.new }
+        ensures numbered { NumberedReason result }
     {
         let Some(horizon) = horizons::horizon_of(line.value()) else {
             return Err(Reason::BadHorizon);
@@ -77,10 +79,11 @@ impl ReaderState {
 
     // A name: 5 where there is no place for it, before its spelling, then 4.
     fn check_name(&self, line: &Line, fits: bool) -> Result<(), Reason>
-        ensures { result
+        ensures answers { result
             ≡ cond fits
             (cond (is_new (spelled line.now.text.now self.now.names) (value_in line.now)) (Ok tt) (Err BadName))
             (Err NoRoom) }
+        ensures numbered { NumberedReason result }
     {
         if !fits {
             return Err(Reason::NoRoom);
@@ -98,6 +101,7 @@ impl ReaderState {
         ensures names { OnOk result (self.new.names
             ≡ with_name self.old.names line.now.place.start line.now.place.length) }
         ensures lent { self.new.lent ≡ self.old.lent }
+        ensures numbered { NumberedReason result }
     {
         self.check_name(line, self.fluents < 24)?;
         self.names.places[self.names.count] = line.place;
@@ -114,6 +118,7 @@ impl ReaderState {
         ensures names { OnOk result (self.new.names
             ≡ with_name self.old.names line.now.place.start line.now.place.length) }
         ensures lent { self.new.lent ≡ self.old.lent }
+        ensures numbered { NumberedReason result }
     {
         self.check_name(line, self.names.count < self.fluents + 8)?;
         self.names.places[self.names.count] = line.place;
@@ -124,8 +129,9 @@ impl ReaderState {
 
     // The code of a fluent literal, or refusal 6.
     fn fluent_literal(&self, line: &Line) -> Result<u8, Reason>
-        ensures { result
+        ensures answers { result
             ≡ read_or (literal (spelled line.now.text.now self.now.names) 0 self.now.fluents (value_in line.now)) }
+        ensures numbered { NumberedReason result }
     {
         let Some(code) = names::literal(line.text, &self.names, line.value(), 0, self.fluents)
         else {
@@ -141,6 +147,7 @@ impl ReaderState {
             (read_or (literal (spelled line.now.text.now self.now.names) 0 self.now.fluents (value_in line.now)))
             (Err NoRoom) }
         ensures room { OnOk result (self.now.count < min 64 self.now.lent) }
+        ensures numbered { NumberedReason result }
     {
         if !self.has_room() {
             return Err(Reason::NoRoom);
@@ -156,6 +163,7 @@ impl ReaderState {
             (read_or (read_head (spelled line.now.text.now self.now.names) self.now.fluents (value_in line.now)))
             (Err NoRoom) }
         ensures room { OnOk result (self.now.count < min 64 self.now.lent) }
+        ensures numbered { NumberedReason result }
     {
         if !self.has_room() {
             return Err(Reason::NoRoom);
@@ -205,6 +213,7 @@ impl ReaderState {
         ensures step { step_of line.now.text.now result self.new
             ≡ end_line (draft_of line.now.text.now self.old) (value_in line.now) }
         ensures keeps { Keeps self.old self.new }
+        ensures numbered { NumberedReason result }
     {
         if !line.value().is_empty() {
             return Err(Reason::WrongLine);
@@ -222,6 +231,7 @@ impl ReaderState {
             ≡ joined (declares_name (number_of_key line.now.key)) line.now.place.start line.now.place.length
             self.old.names) }
         ensures lent { self.new.lent ≡ self.old.lent }
+        ensures numbered { NumberedReason result }
     {
         match line.key {
             Key::Fluent => return self.fluent_line(line),
@@ -252,6 +262,7 @@ impl ReaderState {
             ≡ joined (declares_name (number_of_key line.now.key)) line.now.place.start line.now.place.length
             self.old.names) }
         ensures lent { self.new.lent ≡ self.old.lent }
+        ensures numbered { NumberedReason result }
     {
         let due = self.due.ok_or(Reason::WrongLine)?;
         if !due.allows(line.key) {

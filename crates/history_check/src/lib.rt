@@ -2,6 +2,7 @@
 #![tactic(auto)]
 
 ghost use Rattle.std.specs.Prelude.{◌≡◌, length};
+ghost use Rattle.basics.specs.Refusals.{Numbered};
 ghost use Rattle.answer_sets.specs.Answers.{verdict_of};
 ghost use Rattle.history_check.specs.Checks.{judged, finding_of, of_fault, reply_of, finding, checked, table_after};
 
@@ -48,7 +49,8 @@ impl From<Fault> for Finding {
 
 // Missing or clash at the lowest atom without one value, or what the engine says of these words.
 pub fn verdict(values: &[u8], words: &[u16]) -> Result<Finding, Refusal>
-    ensures { reply_of result ≡ finding values.now words.now }
+    ensures answers { reply_of result ≡ finding values.now words.now }
+    ensures numbered { Numbered result }
 {
     if let Some(fault) = literal_sets::values::first_fault(values) {
         return Ok(fault.into());
@@ -66,6 +68,7 @@ pub fn check_history(
     table: &mut [u16],
 ) -> Result<Finding, Refusal>
     ensures answers { reply_of result ≡ checked d laws.now (length laws.now) values.now (length table.old) }
+    ensures numbered { Numbered result }
     ensures leaves { table.new ≡ table_after d laws.now (length laws.now) values.now table.old }
 {
     let written = translation::translate_for_history(d, laws, values, Ok(()), table)?;

@@ -21,6 +21,7 @@ use Rattle.description_lines.specs.LineSteps.{Draft}
 use Rattle.history_values.specs.Values.{with_true, with_false, with_literals}
 use Rattle.history_reader.specs.Histories.{history_end, listed, list_line, undone_false, act_line, most, states_from}
 use Rattle.history_reader.specs.Internal.{record_from, is_state, key_at, place_from}
+use native.Mathlib.Nat.{mul-le-mul_left}
 
 -- one literal after others
 pub marked_more : (base : ℕ) (vs : List ℕ) (done : List ℕ) (c : ℕ)
@@ -152,3 +153,8 @@ key_below line = go (is_state line)
     go : (b : Bool) → cond b 7 8 < no_key
     go true = omega arith
     go false = omega arith
+
+-- where the atoms of a line begin
+pub base-bound : (count line : ℕ) (t : ℕ) → (line - 1) / 2 ≤ t → count ≤ 32 → (line - 1) / 2 * count ≤ t * 32
+base-bound count line t h few =
+    omega (arith, mul-le-mul_left ((line - 1) / 2) few)

@@ -35,6 +35,7 @@ use Rattle.text.proofs.Spelling.{spelled-length}
 use Rattle.text.proofs.Items.{next-later}
 use Rattle.history_reader.proofs.Marking.{marked_more, item-marked, item_refused, list_done, list_all}
 use Rattle.history_reader.proofs.Marking.{line_other, line-due, key_below, states-lines}
+use lib.Dec.{ltb}
 
 -- the items passed, the values that they marked, and the items left
 pub record Marked (names : List (List ℕ)) (w : Wanted) (list : List ℕ) (start i : ℕ) (old new : List ℕ) : Type 0 where
@@ -181,3 +182,15 @@ pub first-zeros : (n m : ℕ) → n ≤ m → take {A = ℕ} n (replicate m 0) �
 first-zeros zero m h = refl
 first-zeros (suc n) zero h = absurd (omega arith)
 first-zeros (suc n) (suc m) h = ap (λ xs. 0 ∷ xs) (first-zeros n m (omega arith))
+
+-- a list is read from 0 or not at all
+pub place-bound : (size : ℕ) → place_from size ≤ size + 1
+place-bound size = go (ltb 0 size)
+  where
+    go : (b : Bool) → cond b 0 (size + 1) ≤ size + 1
+    go true = omega arith
+    go false = omega arith
+
+-- before the first item
+pub marked-none : (names : List (List ℕ)) (w : Wanted) (list : List ℕ) (i : ℕ) (old : List ℕ) → Marked names w list i i old old
+marked-none names w list i old = record { done = []; few = omega arith; values = refl; left = refl }

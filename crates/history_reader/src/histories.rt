@@ -1,12 +1,13 @@
 // Reading a history: state and act lines in turn, then the end line.
 ghost use Rattle.std.specs.Prelude.{◌≡◌, List, ℕ, ◌+◌, ◌≤◌, ◌<◌, length, drop};
+ghost use Rattle.basics.specs.Refusals.{Numbered};
 ghost use Rattle.basics.specs.Replies.{Reply};
 ghost use Rattle.text_forms.specs.Lines.{first_line};
 ghost use Rattle.text_forms.specs.Lists.{list_of};
 ghost use Rattle.text.specs.Internal.{spelled};
 ghost use Rattle.history_reader.specs.Histories.{most, listed, history_end, states_from};
 ghost use Rattle.history_reader.specs.Internal.{wanted_at, place_from, marked_by, read_as, atoms_of};
-ghost use Rattle.description_reader.specs.Internal.{draft_by};
+ghost use Rattle.description_reader.specs.Internal.{draft_by, NumberedReason};
 ghost use Rattle.action_language.specs.declared.Law.{Law};
 
 use basics::{Reason, Refusal};
@@ -17,7 +18,8 @@ use text_forms::{Key, Names};
 // The end line: 2 where it is lacking or has a value, 7 where bytes remain behind it.
 fn check_end(text: &[u8], at: usize, line: usize) -> Result<(), Refusal>
     requires { line < 100 }
-    ensures { (vs : List ℕ) → read_as result vs ≡ history_end (first_line (drop at text.now)) line vs }
+    ensures answers { (vs : List ℕ) → read_as result vs ≡ history_end (first_line (drop at text.now)) line vs }
+    ensures numbered { Numbered result }
 {
     let l = lines::line_at(text, at);
     if l.key != Some(Key::End) || l.from < l.to {
@@ -83,9 +85,10 @@ fn mark_list(
     values: &mut [u8],
 ) -> Result<(), Reason>
     requires { length list.now ≤ 65535 }
-    ensures { (line : ℕ) (next : List ℕ → Reply (List ℕ))
+    ensures answers { (line : ℕ) (next : List ℕ → Reply (List ℕ))
         → marked_by result line (next values.new)
         ≡ listed (list_of (spelled description.now names.now) w.now.low w.now.high most list.now) line w.now.base values.old next }
+    ensures numbered { NumberedReason result }
 {
     let mut i = first_place(list.len());
     while i <= list.len() {
@@ -108,9 +111,10 @@ pub(crate) fn read(
     values: &mut [u8],
 ) -> Result<(), Refusal>
     requires { length text.now ≤ 65535 }
-    ensures { (laws : List Law)
+    ensures answers { (laws : List Law)
         → read_as result values.new
         ≡ states_from declared.now.horizon (draft_by description.now laws declared.now) 0 1 values.old text.now }
+    ensures numbered { Numbered result }
 {
     let last = 2 * declared.horizon + 1;
     let mut at: usize = 0;

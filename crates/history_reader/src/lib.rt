@@ -4,6 +4,7 @@
 mod histories;
 
 ghost use Rattle.std.specs.Prelude.{◌≡◌, length};
+ghost use Rattle.basics.specs.Refusals.{Numbered};
 ghost use Rattle.history_reader.specs.Histories.{read_history, values_left, history_reply_of, history_replied, ActionsFilled};
 
 use basics::{Reason, Refusal};
@@ -17,6 +18,7 @@ pub fn read_history(description: &[u8], text: &[u8], values: &mut [u8]) -> Resul
         ≡ values_left (read_history description.now text.now (length values.old))
         values.old }
     ensures filled { ActionsFilled description.now result values.new }
+    ensures numbered { Numbered result }
 {
     let declared = descriptions::read_alone(description)?;
     let room = values.len();

@@ -121,3 +121,7 @@ filled-valued at (suc k) vs i low high inside e =
         let kept : get_or next i 0 ≡ 0 = filled_zero (suc at) k next i e in
         or-false (get_or vs at 0) (sym (get_or-set_same vs at (or_false (get_or vs at 0)) 0 (omega arith)) ∙ (rw here at kept))
     go false other behind = behind (omega (arith, eqb-false i at other))
+
+-- a literal past the values marks nothing
+pub marked-outside : (base : ℕ) (vs : List ℕ) (c : ℕ) → length vs ≤ base + c / 2 → vs ≡ with_literals base vs (c ∷ [])
+marked-outside base vs c h = sym (set_out vs (base + c / 2) _ h)

@@ -2,6 +2,7 @@
 #![tactic(auto)]
 
 ghost use Rattle.std.specs.Prelude.{◌≡◌, ◌-◌, ◌≤◌, length, take, drop, replicate};
+ghost use Rattle.basics.specs.Refusals.{Numbered};
 ghost use Rattle.action_language.specs.Atoms.{atom_count};
 ghost use Rattle.description_lines.specs.Descriptions.{described};
 ghost use Rattle.description_lines.specs.Answers.{record_of, laws_left};
@@ -24,7 +25,8 @@ fn no_values() -> [u8; 1024]
 // length of refusal 10 are not.
 fn moved_up(lines: usize, said: Result<(), Refusal>) -> Result<(), Refusal>
     requires { CanMove lines (history_reply_of said) }
-    ensures { history_reply_of result ≡ moved_by lines (history_reply_of said) }
+    ensures answers { history_reply_of result ≡ moved_by lines (history_reply_of said) }
+    ensures numbered { Numbered said → Numbered result }
 {
     let Refusal { reason, place } = match said {
         Err(refusal) => refusal,
@@ -62,6 +64,7 @@ pub fn read_input(input: &[u8]) -> Input
     ensures values { take result.atoms result.values ≡ values_left (recorded_in input.now) (replicate result.atoms 0) }
     ensures padded { drop result.atoms result.values ≡ replicate (1024 - result.atoms) 0 }
     ensures bounded { (result.atoms ≤ 1024) × (length result.values ≡ 1024) }
+    ensures numbered { Numbered result.answer }
 {
     let mut laws = law_runs::no_laws();
     let mut values = no_values();

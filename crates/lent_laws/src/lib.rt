@@ -3,6 +3,7 @@
 #![tactic(auto)]
 
 ghost use Rattle.std.specs.Prelude.{◌≡◌, IfOk, length};
+ghost use Rattle.basics.specs.Refusals.{Numbered};
 ghost use Rattle.translation.specs.Answers.{outcome_of};
 ghost use Rattle.translation_rules.specs.Translated.{outcome, table_after};
 ghost use Rattle.history_check.specs.Checks;
@@ -27,6 +28,7 @@ pub fn read_description(text: &[u8], laws: &mut [Law]) -> Result<Read, Refusal>
     ensures description { IfOk result (λ read. read.description ≡ record_of (described (length laws.old) text.now)) }
     ensures leaves { laws.new ≡ laws_left (described (length laws.old) text.now) laws.old }
     ensures accepted { IfOk result (λ read. TakesAccepted (reply_of result) read.description laws.new) }
+    ensures numbered { Numbered result }
 {
     description_reader::read_description(text, laws)
 }
@@ -34,6 +36,7 @@ pub fn read_description(text: &[u8], laws: &mut [Law]) -> Result<Read, Refusal>
 // Writes the translation of the laws that the description counts, of those lent.
 pub fn translate(d: Description, laws: &[Law], table: &mut [u16]) -> Result<Written, Refusal>
     ensures answers { outcome_of result ≡ outcome d laws.now (length laws.now) (length table.old) }
+    ensures numbered { Numbered result }
     ensures leaves { table.new ≡ table_after d laws.now (length laws.now) table.old }
     ensures demand_3 { TranslatesExactly d laws.now (length laws.now) table.old table.new }
 {
@@ -51,6 +54,7 @@ pub fn check_history(
     ensures answers { Checks.reply_of result
         ≡ Checks.checked d laws.now (length laws.now) values.now
         (length table.old) }
+    ensures numbered { Numbered result }
     ensures leaves { table.new
         ≡ Checks.table_after d laws.now (length laws.now) values.now table.old }
     ensures demand_3 { PassesExactly d laws.now (length laws.now) values.now (length table.old) result }
@@ -63,6 +67,7 @@ pub fn check_history(
 pub fn causal_reading(d: Description, laws: &[Law], values: &[u8]) -> Result<Reading, Refusal>
     ensures answers { Readings.reply_of result
         ≡ Readings.reading d laws.now (length laws.now) values.now }
+    ensures numbered { Numbered result }
     ensures demand_3 { PathExactly d laws.now (length laws.now) values.now result }
     ensures fault { NamesFault d laws.now (length laws.now) values.now result }
 {
@@ -82,6 +87,8 @@ pub fn judge(d: Description, laws: &[Law], values: &[u8], table: &mut [u16]) -> 
     ensures checked { Checks.reply_of result.checked
         ≡ Checks.checked d laws.now (length laws.now) values.now (length table.old) }
     ensures reading { Readings.reply_of result.reading ≡ Readings.reading d laws.now (length laws.now) values.now }
+    ensures numbered_checked { Numbered result.checked }
+    ensures numbered_reading { Numbered result.reading }
     ensures leaves { table.new ≡ Checks.table_after d laws.now (length laws.now) values.now table.old }
     ensures demand_3_checked { PassesExactly d laws.now (length laws.now) values.now (length table.old) result.checked }
     ensures by_values_checked { SaysByValues d laws.now (length laws.now) values.now (length table.old) result.checked }

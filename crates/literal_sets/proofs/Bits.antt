@@ -4,13 +4,13 @@ use mathlib.Core.Path.{◌≡◌, refl, sym, ◌∙◌, ap}
 use mathlib.Core.Bool.{Bool, true, false, ◌||◌}
 use mathlib.Core.List.{List}
 use mathlib.Core.Logic.{◌≢◌}
-use Prim.Native.Nat.{ℕ, zero, suc, ◌+◌, ◌-◌, ◌*◌, ◌/◌, ◌%◌, ◌^◌, ◌<◌, max}
+use Prim.Native.Nat.{ℕ, zero, suc, ◌+◌, ◌-◌, ◌*◌, ◌/◌, ◌%◌, ◌^◌, ◌<◌, max, ◌≤◌}
 use native.Mathlib.Nat.{zero-div, div-eq_of_lt, div_self, pow-suc, one-mul}
 use native.Mathlib.Omega.{arith}
 use borrow.Author.Tests.{eqb-true, eqb-false, eq-eqb, ne_eqb, ltb-true, ltb-false}
 use lib.Bits.{bit_or, or_step, or_shr, or_comm}
 use lib.Dec.{eqb, ltb, lit<}
-use lib.ListN.{length, get_or, set, replicate, length-set}
+use lib.ListN.{length, get_or, set, replicate, length-set, get_or-eq_default}
 use lib.Pow.{pow_pos, pow-lt, pow-add, shl_exact, shl-shr}
 use lib.Seq.{get_or-set_same, get_or-set_other}
 use Rattle.literal_sets.specs.Marks.{bit, marked}
@@ -105,3 +105,8 @@ in-stored ws code h d = go (eqb (d / 64) (code / 64)) refl
 
 pub length-with : (ws : List ℕ) (code : ℕ) → length (with_mark ws code) ≡ length ws
 length-with ws code = length-set ws (code / 64) (with_bit (get_or ws (code / 64) 0) (code % 64))
+
+-- no literal past the last word is in the set
+pub in-past : (ws : List ℕ) (c : ℕ) → length ws ≤ c / 64 → marked ws c ≡ false
+unfolding marked
+in-past ws c h = rw (get_or-eq_default ws 0 h) (bit-zero (c % 64))

@@ -23,12 +23,22 @@ pub fn has(marks: &[u64], code: usize) -> bool
 pub fn all_in(parts: &[u16], marks: &[u64]) -> bool
     ensures { result ≡ all (marked marks.now) parts.now }
 {
-    parts.iter().all(|part| has(marks, usize::from(*part)))
+    for part in parts {
+        if !has(marks, usize::from(*part)) {
+            return false;
+        }
+    }
+    true
 }
 
 // Whether no part is in the set.
 pub fn none_in(parts: &[u16], marks: &[u64]) -> bool
     ensures { result ≡ all (λ c. not (marked marks.now c)) parts.now }
 {
-    parts.iter().all(|part| !has(marks, usize::from(*part)))
+    for part in parts {
+        if has(marks, usize::from(*part)) {
+            return false;
+        }
+    }
+    true
 }

@@ -2,7 +2,7 @@
 ghost use Rattle.std.specs.Prelude.{◌≡◌};
 ghost use Rattle.basics.specs.Search.{first};
 ghost use Rattle.basics.specs.Replies.{refusal};
-ghost use Rattle.basics.specs.Refusals.{place_of, tested_of};
+ghost use Rattle.basics.specs.Refusals.{place_of, tested_of, Numbered};
 ghost use Rattle.logic_programs.specs.Literals.{set_of, holds_true, holds_false, none_or_both, bad_value};
 ghost use Rattle.logic_programs.specs.ValueFaults.{value_fault};
 ghost use Rattle.literal_sets.specs.Faults.{fault_of};
@@ -18,7 +18,8 @@ fn bad_value(values: &[u8]) -> Option<usize>
 
 // Refusal 11: the lowest index of a byte over 3.
 pub fn check_values(values: &[u8]) -> Result<(), Refusal>
-    ensures { tested_of result ≡ refusal 11 (bad_value values.now) }
+    ensures answers { tested_of result ≡ refusal 11 (bad_value values.now) }
+    ensures numbered { Numbered result }
 {
     match bad_value(values) {
         Some(place) => Err(Refusal {
@@ -75,7 +76,9 @@ fn is_false(value: u8) -> bool
 pub fn has(values: &[u8], code: usize) -> bool
     ensures { result ≡ set_of values.now code }
 {
-    let value = values.get(code / 2).copied().unwrap_or(0);
+    let Some(value) = values.get(code / 2).copied() else {
+        return false;
+    };
     if code % 2 == 0 {
         return is_true(value);
     }

@@ -2,7 +2,7 @@
 #![tactic(auto)]
 
 ghost use Rattle.std.specs.Prelude.{◌≡◌, ◌&&◌, ℕ, ◌+◌, ◌*◌, ◌≤◌, length, leb, take};
-ghost use Rattle.basics.specs.Refusals.{place_of, tested_of};
+ghost use Rattle.basics.specs.Refusals.{place_of, tested_of, Numbered};
 ghost use Rattle.basics.specs.Replies.{refusal, unless_refused};
 ghost use Rattle.action_language.specs.Atoms.{atoms_within};
 ghost use Rattle.action_language.specs.Acceptance.{codes_below, head_fits, after_fits, law_fits, bad_law};
@@ -67,7 +67,8 @@ fn counts_fit(d: Description, lent: usize) -> bool
 // Refusal 8: place 64 for the counts, tested first, else the lowest law outside the limits.
 #[tactic(auto, unfolding(action_language::specs::Acceptance::bad_record))]
 pub fn check_record(d: Description, laws: &[Law]) -> Result<(), Refusal>
-    ensures { tested_of result ≡ refusal 8 (bad_record d laws.now (length laws.now)) }
+    ensures answers { tested_of result ≡ refusal 8 (bad_record d laws.now (length laws.now)) }
+    ensures numbered { Numbered result }
 {
     let reason = Reason::BadRecord;
     if !counts_fit(d, laws.len()) {
@@ -82,7 +83,8 @@ pub fn check_record(d: Description, laws: &[Law]) -> Result<(), Refusal>
 // Refusal 3, from a record: place 0.
 #[tactic(auto, unfolding(action_language::specs::Acceptance::bad_horizon))]
 pub fn check_horizon(horizon: usize) -> Result<(), Refusal>
-    ensures { tested_of result ≡ refusal 3 (bad_horizon horizon) }
+    ensures answers { tested_of result ≡ refusal 3 (bad_horizon horizon) }
+    ensures numbered { Numbered result }
 {
     if (1..=30).contains(&horizon) {
         Ok(())
@@ -96,8 +98,9 @@ pub fn check_horizon(horizon: usize) -> Result<(), Refusal>
 
 // Both, the record first.
 pub fn check(d: Description, laws: &[Law]) -> Result<(), Refusal>
-    ensures { tested_of result
+    ensures answers { tested_of result
         ≡ unless_refused (refusal 8 (bad_record d laws.now (length laws.now))) (refusal 3 (bad_horizon d.horizon)) }
+    ensures numbered { Numbered result }
 {
     check_record(d, laws)?;
     check_horizon(d.horizon)

@@ -36,7 +36,12 @@ fn head_fits(head: usize, atoms: usize) -> bool
 fn parts_fit(parts: &[u16], atoms: usize) -> bool
     ensures { result ≡ parts_fit atoms parts.now }
 {
-    parts.iter().all(|part| usize::from(*part) / 2 < atoms)
+    for part in parts {
+        if atoms <= usize::from(*part) / 2 {
+            return false;
+        }
+    }
+    true
 }
 
 // Whether the rule at the front is whole and has no code of 2 times atoms or more.

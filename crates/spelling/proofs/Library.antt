@@ -1,11 +1,12 @@
 -- The library's tests and lowering of bytes are those of the definitions.
 -- Assumes nothing.
-use mathlib.Core.Path.{◌≡◌, refl, sym, ◌∙◌}
+use mathlib.Core.Path.{◌≡◌, refl, sym, ◌∙◌, ap}
 use mathlib.Core.Bool.{Bool, true, false, ◌||◌}
 use mathlib.Core.List.{List, [], ◌∷◌, map}
 use Prim.Native.Nat.{ℕ}
 use native.Mathlib.Omega.{arith}
 use lib.Dec.{eqb}
+use lib.ListN.{length, length-map}
 use Rattle.std.specs.Char.{to_ascii_lowercase, is_ascii_alphanumeric}
 use Rattle.std.specs.Prelude.{IsTrue, ◌↔◌}
 use Rattle.std.proofs.lemmas.Bool.Decides.{nat_tests}
@@ -46,3 +47,13 @@ same-in-any-case r xs ys h = go (same_name xs ys) refl
         false_of_not r (λ t.
         let equal : map lowered xs ≡ map lowered ys = sym (all-lowered xs) ∙ h.0 t ∙ all-lowered ys in
         not-both (rw equal (same_refl (map lowered ys))) e)
+
+-- names of different lengths are different
+pub other-length : (xs ys : List ℕ) → (length xs ≡ length ys → ⊥) → false ≡ same_name xs ys
+other-length xs ys h = go (same_name xs ys) refl
+  where
+    go : (b : Bool) → same_name xs ys ≡ b → false ≡ b
+    go false e = refl
+    go true e =
+        let equal = same-equal (map lowered xs) (map lowered ys) e in
+        absurd (h (sym (length-map xs lowered) ∙ ap length equal ∙ length-map ys lowered))

@@ -13,11 +13,20 @@ pub fn same(a: &[u8], b: &[u8]) -> bool
     a == b
 }
 
-// Whether two runs have the same bytes after lowering.
+// Whether two runs have the same bytes after lowering. Most are the same as they are up to where two names differ, so that is
+// asked first.
 pub fn same_name(a: &[u8], b: &[u8]) -> bool
     ensures { result ≡ same_name a.now b.now }
 {
-    a.eq_ignore_ascii_case(b)
+    if a.len() != b.len() {
+        return false;
+    }
+    for i in 0..a.len() {
+        if a[i] != b[i] {
+            return a[i..].eq_ignore_ascii_case(&b[i..]);
+        }
+    }
+    true
 }
 
 // Whether a byte is a digit, 0 to 9.

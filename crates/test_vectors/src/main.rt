@@ -47,23 +47,23 @@ fn run_arguments(rt: &impl Runtime) -> io::Result<()> {
 }
 
 // The file every_byte with the byte at a place replaced: places 17 and 18 are the first and the second byte of the name that it
-// declares.
-fn run_byte(rt: &impl Runtime, place: usize, value: u8) -> io::Result<()>
+// declares. The file is read before anything is written, so what is said of one that cannot be opened stands in front.
+fn run_byte(rt: &impl Runtime, words: &[u8], place: usize, value: u8) -> io::Result<()>
     requires { place < 4096 }
 {
     let mut input = [0; 4096];
     let got = files::read_file(rt, b"every_byte", &mut input);
     input[place] = value;
-    println!(rt; "byte {value}")?;
+    rt.write_all(words)?;
+    println!(rt; "{value}")?;
     write_report(rt, &input[..got])
 }
 
 fn main(rt: HostRuntime) -> io::Result<()> {
     run_arguments(&rt)?;
     for value in 0..=u8::MAX {
-        print!(rt; "first ")?;
-        run_byte(&rt, 17, value)?;
-        run_byte(&rt, 18, value)?;
+        run_byte(&rt, b"first byte ", 17, value)?;
+        run_byte(&rt, b"byte ", 18, value)?;
     }
     Ok(())
 }

@@ -9,7 +9,7 @@ use lib.ListN.{length, get_or, drop, drop_of_length-le}
 use lib.Seq.{drop-cons}
 use Rattle.translation.specs.declared.writers.Writer.{Writer}
 use Rattle.translation.specs.Writers.{Wrote}
-use Rattle.translation.proofs.Writing.{Left, Split, begun, wrote, room, ended}
+use Rattle.translation.proofs.Writing.{Left, Split, begun, wrote, room}
 
 -- the words that turn i stores, and those left before it: none from turn k on
 pub record Turns (Goes : ℕ → Type 0) (k : ℕ) : Type 0 where

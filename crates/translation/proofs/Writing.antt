@@ -2,14 +2,14 @@
 -- Assumes nothing.
 use mathlib.Core.Path.{◌≡◌, refl, sym, ap, ◌∙◌}
 use mathlib.Core.List.{List, [], ◌∷◌, ◌++◌, append_assoc, append-nil}
-use Prim.Native.Nat.{ℕ, suc, ◌+◌, ◌*◌, ◌≤◌}
+use Prim.Native.Nat.{ℕ, suc, ◌+◌, ◌*◌, ◌≤◌, zero, ◌-◌, ◌/◌, ◌%◌, ◌<◌}
 use native.Mathlib.Nat.{mul-le-mul, add-zero, zero-add, add-suc, suc-add}
 use native.Mathlib.Omega.{arith}
 use native.Mathlib.Numerals.{add-one}
-use lib.ListN.{length, drop, length-append}
+use lib.ListN.{length, drop, length-append, get_or, get_or-append}
 use borrow.Rule.Slice.PartMut.{put_mid}
 use Rattle.std.proofs.lemmas.Slice.{put_mid-paste}
-use lib.Seq.{take_all, sets, length-sets, sets-eq}
+use lib.Seq.{take_all, sets, length-sets, sets-eq, get_or-append-add}
 use Rattle.basics.specs.Search.{range}
 use Rattle.action_language.specs.declared.Kind.{Kind}
 use Rattle.action_language.specs.declared.Kind.TheVariants.{Static, Dynamic}
@@ -22,6 +22,10 @@ use Rattle.translation.specs.Writers.{Wrote}
 use Rattle.logic_programs.specs.Rules.{Rule}
 use Rattle.logic_programs.specs.Words.{words}
 use Rattle.translation_rules.proofs.Counts.{words_append}
+use mathlib.Core.Logic.{⊎_elim}
+use borrow.Author.Tests.{ltb-true, ltb-false}
+use lib.Dec.{ltb}
+use Rattle.basics.proofs.Tests.{true-or-false}
 
 pub product-bound : (t n a b : ℕ) → t ≤ a → n ≤ b → t * n ≤ a * b
 product-bound t n a b p q = mul-le-mul p q
@@ -120,3 +124,31 @@ module _ (n m T : ℕ) (ls : List Law) where
 -- stores from the first place on replace the front
 pub sets-front : (ws l : List ℕ) → 0 + length ws ≤ length l → sets l 0 ws ≡ ws ++ drop (length ws) l
 sets-front ws l h = sets-eq ws l 0 h ∙ rw (zero-add (length ws))
+
+-- a word of the choices of a range is one of the choices of an atom
+pub choices-at : (first count i : ℕ) → i < 8 * count
+    → get_or (words (choices (range first count))) i 0 ≡ get_or (words (choices ((first + i / 8) ∷ []))) (i % 8) 0
+choices-at first zero i h = absurd (omega arith)
+choices-at first (suc count) i h =
+    ⊎_elim (λ t. here (ltb-true i 8 t)) (λ f. later (ltb-false i 8 f) (choices-at (suc first) count (i - 8))) (true-or-false (ltb i 8))
+  where
+    this : List ℕ
+    this = words (choices (first ∷ []))
+
+    rest : List ℕ
+    rest = words (choices (range (suc first) count))
+
+    here : i < 8 → get_or (this ++ rest) i 0 ≡ get_or (words (choices ((first + i / 8) ∷ []))) (i % 8) 0
+    here b =
+        let time : first + i / 8 ≡ first = omega arith in
+        let place : i % 8 ≡ i = omega arith in
+        rw (time, place) (get_or-append this rest 0 i b)
+
+    later : 8 ≤ i
+        → (i - 8 < 8 * count → get_or rest (i - 8) 0 ≡ get_or (words (choices ((suc first + (i - 8) / 8) ∷ []))) ((i - 8) % 8) 0)
+        → get_or (this ++ rest) i 0 ≡ get_or (words (choices ((first + i / 8) ∷ []))) (i % 8) 0
+    later b next =
+        let time : suc first + (i - 8) / 8 ≡ first + i / 8 = omega arith in
+        let place : (i - 8) % 8 ≡ i % 8 = omega arith in
+        let behind : 8 + (i - 8) ≡ i = omega arith in
+        rw behind at (get_or-append-add this rest (i - 8) 0) ∙ rw (time, place) at (next (omega arith))

@@ -2,7 +2,7 @@
 #![tactic(auto)]
 
 ghost use Rattle.std.specs.Prelude.{◌≡◌, length};
-ghost use Rattle.basics.specs.Refusals.{tested_of};
+ghost use Rattle.basics.specs.Refusals.{tested_of, Numbered};
 ghost use Rattle.translation.specs.Answers.{outcome_of};
 ghost use Rattle.translation_rules.specs.Translated.{outcome, table_after, outcome_for, table_after_for};
 
@@ -22,7 +22,8 @@ pub struct Written {
 
 // What the translation answers for a table of so many words. Nothing is written.
 pub fn measure(d: Description, laws: &[Law], room: usize) -> Result<Written, Refusal>
-    ensures { outcome_of result ≡ outcome d laws.now (length laws.now) room }
+    ensures answers { outcome_of result ≡ outcome d laws.now (length laws.now) room }
+    ensures numbered { Numbered result }
 {
     record_acceptance::check(d, laws)?;
     let needed = sizes::sizes_needed(d, laws);
@@ -38,6 +39,7 @@ pub fn measure(d: Description, laws: &[Law], room: usize) -> Result<Written, Ref
 // Writes the translation of the laws that the description counts. Nothing is written where the answer is a refusal.
 pub fn translate(d: Description, laws: &[Law], table: &mut [u16]) -> Result<Written, Refusal>
     ensures answers { outcome_of result ≡ outcome d laws.now (length laws.now) (length table.old) }
+    ensures numbered { Numbered result }
     ensures leaves { table.new ≡ table_after d laws.now (length laws.now) table.old }
 {
     let written = measure(d, laws, table.len())?;
@@ -56,6 +58,7 @@ pub fn translate_for_history(
 ) -> Result<Written, Refusal>
     ensures answers { outcome_of result
         ≡ outcome_for d laws.now (length laws.now) values.now (tested_of later) (length table.old) }
+    ensures numbered { Numbered later → Numbered result }
     ensures leaves { table.new
         ≡ table_after_for d laws.now (length laws.now) values.now (tested_of later) table.old }
 {

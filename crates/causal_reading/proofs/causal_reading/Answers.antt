@@ -32,27 +32,27 @@ accepted d ls of_record record_passed of_horizon horizon_passed counted =
     let horizon : bad_horizon d.horizon ≡ none = not-refused 3 of_horizon horizon_passed in
     (taken, horizon, counted ∙ accepted-atoms d ls (length ls) taken horizon)
 
-pub returns-then-values-atom_count : goal.returns-then-values-atom_count
+pub returns-then-values-atom_count-clause-answers : goal.returns-then-values-atom_count-clause-answers
 unfolding reading
-returns-then-values-atom_count c =
-    let taken = accepted c.args.d c.args.laws.now c.check_record.ensures c.in_ok-check_record.was
-    c.check_horizon.ensures c.in_ok-check_horizon.was c.atom_count.ensures in
+returns-then-values-atom_count-clause-answers c =
+    let taken = accepted c.args.d c.args.laws.now c.check_record.ensures.answers c.in_ok-check_record.was
+    c.check_horizon.ensures.answers c.in_ok-check_horizon.was c.atom_count.ensures in
     rw (taken.0, taken.1, ne_eqb _ _ (λ e. c.if-values-atom_count.true (e ∙ sym taken.2)))
 
-pub returns-in-Some : goal.returns-in-Some
+pub returns-in-Some-clause-answers : goal.returns-in-Some-clause-answers
 unfolding reading
-returns-in-Some c =
-    let taken = accepted c.args.d c.args.laws.now c.check_record.ensures c.in_ok-check_record.was
-    c.check_horizon.ensures c.in_ok-check_horizon.was c.atom_count.ensures in
+returns-in-Some-clause-answers c =
+    let taken = accepted c.args.d c.args.laws.now c.check_record.ensures.answers c.in_ok-check_record.was
+    c.check_horizon.ensures.answers c.in_ok-check_horizon.was c.atom_count.ensures in
     rw (taken.0, taken.1, eq-eqb _ _ (c.if-values-atom_count.false ∙ taken.2), at_place c.bad_value.ensures c.in-Some.is)
 
 pub slice_bounds-laws-end : goal.slice_bounds-laws-end
 slice_bounds-laws-end c =
-    let taken : bad_record _ _ _ ≡ none = not-refused 8 c.check_record.ensures c.in_ok-check_record.was in
+    let taken : bad_record _ _ _ ≡ none = not-refused 8 c.check_record.ensures.answers c.in_ok-check_record.was in
     omega (arith, length-take c.args.d.laws c.args.laws.now, accepted-counts _ _ _ taken)
 
 pub invariant_of-history : goal.invariant_of-history
 invariant_of-history c =
-    let taken = accepted c.args.d c.args.laws.now c.check_record.ensures c.in_ok-check_record.was
-    c.check_horizon.ensures c.in_ok-check_horizon.was c.atom_count.ensures in
+    let taken = accepted c.args.d c.args.laws.now c.check_record.ensures.answers c.in_ok-check_record.was
+    c.check_horizon.ensures.answers c.in_ok-check_horizon.was c.atom_count.ensures in
     record { few_steps = (accepted-horizon _ taken.1).1; complete = c.if-values-atom_count.false ∙ taken.2 }

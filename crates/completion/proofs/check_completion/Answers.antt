@@ -12,18 +12,18 @@ use Rattle.completion.proofs.check_completion.Goals as goal
 
 pub judge-requires : goal.judge-requires
 judge-requires c =
-    let ready = judge-ready _ _ (sym (ap tested_of c.in_ok-test.was) ∙ c.test.ensures) in
+    let ready = judge-ready _ _ (sym (ap tested_of c.in_ok-test.was) ∙ c.test.ensures.answers) in
     record { few_values = ready.0; rules_fit = ready.1 }
 
 pub returns-in_err-test : goal.returns-in_err-test
 returns-in_err-test c =
     let refusal = c.in_err-test.field-0.0 in
     let said : reply_of c.from_residual.result ≡ refused (number_of refusal.reason) refusal.place = search rules in
-    let kept = keeps-formulas _ _ (said ∙ says-refused _ _ c.in_err-test.ensures) in
-    record { answers = kept.0; by_formulas = kept.1 }
+    let kept = keeps-formulas _ _ (said ∙ says-refused _ _ c.in_err-test.ensures.answers) in
+    record { answers = kept.0; numbered = search rules; by_formulas = kept.1 }
 
 pub returns : goal.returns
 returns c =
-    let accepted = accepts _ _ (sym (ap tested_of c.in_ok-test.was) ∙ c.test.ensures) in
+    let accepted = accepts _ _ (sym (ap tested_of c.in_ok-test.was) ∙ c.test.ensures.answers) in
     let kept = keeps-formulas _ _ (ap answered c.judge.ensures ∙ says-found _ _ accepted) in
-    record { answers = kept.0; by_formulas = kept.1 }
+    record { answers = kept.0; numbered = search rules; by_formulas = kept.1 }

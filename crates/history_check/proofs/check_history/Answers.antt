@@ -28,8 +28,10 @@ returns-in_err-written c =
     let a = c.args in
     let e = sym c.in_err-written.ensures.answers in
     let said = says-refused _ _ _ a.values.now a.table.now e in
+    let kept = c.in_err-written.ensures.numbered tt in
     record {
       answers = search (rules, said);
+      numbered = search (rules, kept);
       leaves = c.translate_for_history.ensures.leaves ∙ refused-left _ _ _ _ _ a.table.now e ∙ said.1;
     }
 
@@ -43,6 +45,7 @@ returns c =
     let left = c.translate_for_history.ensures.leaves ∙ written-left _ _ _ _ _ table e in
     let front = ap (take c.in_ok-written.written.words) left ∙ words-front _ table _ words in
     record {
-      answers = says-verdict _ _ _ vs table e _ (c.verdict.ensures ∙ ap (finding vs) front);
+      answers = says-verdict _ _ _ vs table e _ (c.verdict.ensures.answers ∙ ap (finding vs) front);
+      numbered = c.verdict.ensures.numbered;
       leaves = left ∙ leaves_table _ _ _ vs table e;
     }

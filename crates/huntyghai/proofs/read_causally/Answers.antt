@@ -24,6 +24,7 @@ returns c =
     let e = c.read_input-whole.ensures in
     let whole = c.read_input-whole.result in
     ap (reply_code causal_code)
-    (c.causal_reading.ensures ∙ ap (λ (n : ℕ). reading whole.description whole.laws n (take whole.atoms whole.values)) e.bounded_laws)
+    (c.causal_reading.ensures.answers
+    ∙ ap (λ (n : ℕ). reading whole.description whole.laws n (take whole.atoms whole.values)) e.bounded_laws)
     ∙ reading-read c.args.input.now (replicate whole.atoms 0) e.description e.laws e.values
     (sym (ap history_reply_of c.in_ok-whole.was) ∙ e.answers)

@@ -113,7 +113,7 @@ returns-in-Ok c =
     let vs = values-read input k k.part enough m zs last atoms.1 clear whole c.read_history-said.ensures.leaves in
     record {
       answers =
-          c.moved_up.ensures
+          c.moved_up.ensures.answers
           ∙ says input k k.part enough (history_reply_of c.read_history-said.result) c.read_history-said.ensures.answers;
       description = d;
       laws = said.leaves ∙ left-64 input long _ ∙ ap (laws_left (described 64 input)) c.no_laws-laws.ensures.answers;
@@ -125,4 +125,5 @@ returns-in-Ok c =
         atoms.1,
         omega (arith, length-append last (drop m zs), length-drop m zs, whole, atoms.1, ap length clear),
       );
+      numbered = c.moved_up.ensures.numbered c.read_history-said.ensures.numbered;
     }

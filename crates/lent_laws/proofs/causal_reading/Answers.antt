@@ -7,8 +7,10 @@ use Rattle.lent_laws.proofs.causal_reading.Goals as goal
 
 pub returns-clause-demand_3 : goal.returns-clause-demand_3
 returns-clause-demand_3 c =
-    path-exactly c.args.d c.args.laws.now (length c.args.laws.now) c.args.values.now c.causal_reading.result c.causal_reading.ensures
+    let a = c.args in
+    path-exactly a.d a.laws.now (length a.laws.now) a.values.now c.causal_reading.result c.causal_reading.ensures.answers
 
 pub returns-clause-fault : goal.returns-clause-fault
 returns-clause-fault c =
-    names-fault c.args.d c.args.laws.now (length c.args.laws.now) c.args.values.now c.causal_reading.result c.causal_reading.ensures
+    let a = c.args in
+    names-fault a.d a.laws.now (length a.laws.now) a.values.now c.causal_reading.result c.causal_reading.ensures.answers

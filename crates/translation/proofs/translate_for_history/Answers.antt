@@ -10,35 +10,35 @@ use Rattle.translation.proofs.translate_for_history.Goals as goal
 
 pub returns-in_err-written : goal.returns-in_err-written
 returns-in_err-written c =
-    let said = first-refused _ _ _ c.args.values.now _ c.args.table.now (sym c.in_err-written.ensures) in
-    record { answers = search (rules, said); leaves = said.1 }
+    let said = first-refused _ _ _ c.args.values.now _ c.args.table.now (sym c.in_err-written.ensures.answers) in
+    record { answers = search (rules, said); numbered = λ h. search rules; leaves = said.1 }
 
 pub returns-then-values-written : goal.returns-then-values-written
 returns-then-values-written c =
-    let said = says-10 _ _ _ c.args.values.now _ c.args.table.now (sym c.in_ok-written.ensures) c.if-values-written.true in
-    record { answers = said.0; leaves = said.1 }
+    let said = says-10 _ _ _ c.args.values.now _ c.args.table.now (sym c.in_ok-written.ensures.answers) c.if-values-written.true in
+    record { answers = said.0; numbered = λ h. search rules; leaves = said.1 }
 
 pub returns-in_err-check_values : goal.returns-in_err-check_values
 returns-in_err-check_values c =
-    let e = refused-at 11 c.check_values.ensures c.in_err-check_values.was in
-    let said = says-11 _ _ _ c.args.values.now _ c.args.table.now (sym c.in_ok-written.ensures) c.if-values-written.false e.0 in
-    record { answers = search (rules, said, e); leaves = said.1 }
+    let e = refused-at 11 c.check_values.ensures.answers c.in_err-check_values.was in
+    let said = says-11 _ _ _ c.args.values.now _ c.args.table.now (sym c.in_ok-written.ensures.answers) c.if-values-written.false e.0 in
+    record { answers = search (rules, said, e); numbered = λ h. search rules; leaves = said.1 }
 
 pub returns-in_err-later : goal.returns-in_err-later
 returns-in_err-later c =
-    let said = later-refused _ _ _ c.args.values.now _ c.args.table.now (sym c.in_ok-written.ensures) c.if-values-written.false
-    (not-refused 11 c.check_values.ensures c.in_ok-check_values.was) (ap tested_of c.in_err-later.was) in
-    record { answers = search (rules, said); leaves = said.1 }
+    let said = later-refused _ _ _ c.args.values.now _ c.args.table.now (sym c.in_ok-written.ensures.answers) c.if-values-written.false
+    (not-refused 11 c.check_values.ensures.answers c.in_ok-check_values.was) (ap tested_of c.in_err-later.was) in
+    record { answers = search (rules, said); numbered = λ h. search rules; leaves = said.1 }
 
 pub write_table-requires : goal.write_table-requires
 write_table-requires c =
-    let e = c.in_ok-written.ensures in
+    let e = c.in_ok-written.ensures.answers in
     let fit = ready-to-write _ _ _ _ e in
     record { limits = fit.limits; lent = fit.held; laws_in_bounds = enough-room _ _ _ _ e }
 
 pub returns : goal.returns
 returns c =
     let said =
-    all-passed _ _ _ c.args.values.now _ c.args.table.now (sym c.in_ok-written.ensures) c.if-values-written.false
-    (not-refused 11 c.check_values.ensures c.in_ok-check_values.was) (ap tested_of c.in_ok-later.was) in
-    record { answers = said.0; leaves = c.write_table.ensures ∙ said.1 }
+    all-passed _ _ _ c.args.values.now _ c.args.table.now (sym c.in_ok-written.ensures.answers) c.if-values-written.false
+    (not-refused 11 c.check_values.ensures.answers c.in_ok-check_values.was) (ap tested_of c.in_ok-later.was) in
+    record { answers = said.0; numbered = λ h. search rules; leaves = c.write_table.ensures ∙ said.1 }

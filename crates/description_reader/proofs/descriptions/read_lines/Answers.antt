@@ -58,7 +58,7 @@ loop-i-preserved c =
     record {
       inside = omega (arith, item.next, next-later list c.loop-i.i c.loop-i-test.true);
       items = turn_on _ _ list c.loop-i.i c.loop-i-test.true _ _ c.loop-i.invariant.items item.code _ _ item.next
-          (ap (λ r. listed_of r c.push.new.self) (sym c.in-Ok.is) ∙ c.push.ensures);
+          (ap (λ r. listed_of r c.push.new.self) (sym c.in-Ok.is) ∙ c.push.ensures.answers);
     }
 
 -- In the answers below `placed` says where the line stands, `here` what the reader knows there, and `gathered` that the items are read.
@@ -103,7 +103,7 @@ returns-in-Err-clause-answers c =
     rw c.refused-in-Err.ensures
     (turn-refused here key.key key.is _
     (turn-off _ _ (take (l.to - l.from) (drop l.from text)) c.loop-i.i c.loop-i-test.true _ _ (c.loop-i.invariant.items ∙ begins)
-    c.next_item-item.ensures.code _ (ap (λ r. listed_of r c.push.new.self) (sym c.in-Err.is) ∙ c.push.ensures)))
+    c.next_item-item.ensures.code _ (ap (λ r. listed_of r c.push.new.self) (sym c.in-Err.is) ∙ c.push.ensures.answers)))
 
 pub returns-in-Err-line_step-clause-answers : goal.returns-in-Err-line_step-clause-answers
 returns-in-Err-line_step-clause-answers c =

@@ -37,8 +37,8 @@ module _ (text : List ℕ) (at line : ℕ) (l : LineAt) (is : l ≡ line_at text
   ended same e =
       found (e ∙ ap (λ k. history_end (keyed (key_in k) (take (l.to - l.from) (drop l.from text)) (drop l.next text)) line vs) (sym same))
 
-pub returns-then-ne : goal.returns-then-ne
-returns-then-ne c vs =
+pub returns-then-ne-clause-answers : goal.returns-then-ne-clause-answers
+returns-then-ne-clause-answers c vs =
     let a = c.args in
     let l = c.line_at-l.result in
     let is = c.line_at-l.ensures in
@@ -60,8 +60,8 @@ returns-then-ne c vs =
           ended a.text.now a.at a.line l is vs (same-key l.key End _ c.ne.ensures w.if-ne.false) (end-valued a.line vs value rest long)
     ]
 
-pub returns-then-l-text : goal.returns-then-l-text
-returns-then-l-text c vs =
+pub returns-then-l-text-clause-answers : goal.returns-then-l-text-clause-answers
+returns-then-l-text-clause-answers c vs =
     let a = c.args in
     let l = c.line_at-l.result in
     let value = take (l.to - l.from) (drop l.from a.text.now) in
@@ -71,8 +71,8 @@ returns-then-l-text c vs =
     ended a.text.now a.at a.line l c.line_at-l.ensures vs (same-key l.key End _ c.ne.ensures c.if-ne.false)
     (rw (add-one a.line) (end_more a.line vs value rest none more))
 
-pub returns : goal.returns
-returns c vs =
+pub returns-clause-answers : goal.returns-clause-answers
+returns-clause-answers c vs =
     let a = c.args in
     let l = c.line_at-l.result in
     let value = take (l.to - l.from) (drop l.from a.text.now) in

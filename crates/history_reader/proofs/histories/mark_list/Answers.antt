@@ -20,12 +20,12 @@ loop-i-preserved c =
           _ _ (at_place item.code c.in-Some.is) item.next _ c.mark.ensures,
     )
 
-pub returns-in_default : goal.returns-in_default
-returns-in_default c line next =
+pub returns-in_default-clause-answers : goal.returns-in_default-clause-answers
+returns-in_default-clause-answers c line next =
     marked-refused _ _ c.args.list.now _ c.loop-i.i c.args.values.now c.loop-i.values c.first_place-i.ensures c.loop-i.invariant.1
     c.loop-i-test.true c.requires (no_place c.next_item-item.ensures.code c.in_default.is) line next
 
-pub returns : goal.returns
-returns c line next =
+pub returns-clause-answers : goal.returns-clause-answers
+returns-clause-answers c line next =
     marked-all _ _ c.args.list.now _ c.loop-i.i c.args.values.now c.loop-i.values c.first_place-i.ensures c.loop-i.invariant.1
     c.loop-i-test.false line next

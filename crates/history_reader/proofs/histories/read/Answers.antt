@@ -25,8 +25,8 @@ slice_bounds-list-start c = let e = line-fits _ _ c.line_at-l.ensures in omega (
 pub slice_bounds-list-end : goal.slice_bounds-list-end
 slice_bounds-list-end c = let e = line-fits _ _ c.line_at-l.ensures in omega (arith, e.ordered, e.inside)
 
-pub returns-then-ne : goal.returns-then-ne
-returns-then-ne c laws =
+pub returns-then-ne-clause-answers : goal.returns-then-ne-clause-answers
+returns-then-ne-clause-answers c laws =
     let a = c.args in
     let l = c.line_at-l.result in
     let w = c.line_due-w.result in
@@ -34,15 +34,15 @@ returns-then-ne c laws =
     c.loop-line.values l (line-answers _ _ c.line_at-l.ensures) w c.line_due-w.ensures c.loop-line-test.true
     (c.loop-line.invariant.2 laws) (other-key l.key w.key _ c.ne.ensures c.if-ne.true)
 
-pub returns-in-Err : goal.returns-in-Err
-returns-in-Err c laws =
+pub returns-in-Err-clause-answers : goal.returns-in-Err-clause-answers
+returns-in-Err-clause-answers c laws =
     let a = c.args in
     let l = c.line_at-l.result in
     let w = c.line_due-w.result in
     turn-refused a.description.now a.text.now laws a.declared.now (2 * a.declared.now.horizon + 1 + 1) c.loop-line.line c.loop-line.at
     c.loop-line.values l (line-answers _ _ c.line_at-l.ensures) w c.line_due-w.ensures c.loop-line-test.true
     (c.loop-line.invariant.2 laws) (same-key l.key w.key _ c.ne.ensures c.if-ne.false) c.mark_list.result c.mark_list.new.values
-    (c.mark_list.ensures c.loop-line.line) c.in-Err.is
+    (c.mark_list.ensures.answers c.loop-line.line) c.in-Err.is
 
 pub loop-line-preserved : goal.loop-line-preserved
 loop-line-preserved c =
@@ -54,5 +54,5 @@ loop-line-preserved c =
       λ laws. turn-read a.description.now a.text.now laws a.declared.now (2 * a.declared.now.horizon + 1 + 1) c.loop-line.line
           c.loop-line.at c.loop-line.values l (line-answers _ _ c.line_at-l.ensures) w c.line_due-w.ensures c.loop-line-test.true
           (c.loop-line.invariant.2 laws) (same-key l.key w.key _ c.ne.ensures c.if-ne.false) c.mark_list.result
-          c.mark_list.new.values (c.mark_list.ensures c.loop-line.line) c.in_default.is c.fill_absent.ensures,
+          c.mark_list.new.values (c.mark_list.ensures.answers c.loop-line.line) c.in_default.is c.fill_absent.ensures,
     )

@@ -16,4 +16,4 @@ returns-clause-step c =
     let size : length s.names.places ≡ 32 = search rules in
     rw (add-one s.fluents)
     (named line.text.now s.names line.place.start line.place.length (draft_of line.text.now s) refl _ _ _ (omega arith)
-    (sym c.check_name.ensures ∙ c.in_ok-check_name.was))
+    (sym c.check_name.ensures.answers ∙ c.in_ok-check_name.was))

@@ -1,0 +1,2 @@
+-- Laws of a state read as it stands.
+pub mod Interpretations
