@@ -76,7 +76,9 @@ such a value relies on them, and who builds one proves them."""
 
 FUNCTION = re.compile(r'^ *pub (?:(?:const|unsafe|extern "C") )*fn (\w+)', re.M)
 CLAUSE = re.compile(r"\s*(requires|ensures|ghost)\b\*?(?: (\w+))? *(?=\{)")
-ITEM = re.compile(r"^(?:pub (trait|struct|enum) (\w+)|impl(?:<[^>]*>)? ([\w:]+(?:<\w+>)?) for ([\w:()]+))[^;{]*\{", re.M)
+ITEM = re.compile(
+    r"^(?:pub (trait|struct|enum) (\w+)|impl(?:<[^>]*>)? ([\w:]+(?:<[^>]*>)?) for ([\w:()]+(?:<[^>]*>)?))[^;{]*\{", re.M
+)
 MEMBER = re.compile(r"^ +(?:pub )?ghost (\w+)(?::| =) *(?=\{)", re.M)
 METHOD = re.compile(r"^ +fn (\w+)", re.M)
 USE = re.compile(r"^ghost use Rattle\.(\w+)\.specs\.([\w.]+?)(?:\.\{([^}]*)\}| as (\w+))?;", re.M)
@@ -217,7 +219,7 @@ def open_items(module, text, brought):
                 named = f"{module}::<{start[4]} as {start[3]}>::{name}"
                 clauses = facts + contract(body, end, set(), brought)
                 found.append((start.start(), Function(named, signature, comment, clauses, "function")))
-        elif facts:
+        elif facts or start[1] == "trait":
             clauses = facts + [clause for *_, end in methods for clause in contract(body, end, set(), brought)]
             signature = f"{start[1]} {start[2]}" + "".join(f": {signature}" for _, signature, _ in methods)
             found.append((start.start(), Function(f"{module}::{start[2]}", signature, comment, clauses, start[1])))

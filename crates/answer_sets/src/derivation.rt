@@ -87,24 +87,6 @@ fn derive_in(
     Ok(marks)
 }
 
-// The same with room for so many rules.
-fn derive_with_room<const RULES: usize>(
-    table: &[u16],
-    x: &[u64],
-    atoms: usize,
-) -> Result<[u64; 32], Broken>
-    requires few_atoms { atoms ≤ 1024 }
-    requires fitting { bad_rule atoms table.now ≡ none }
-    requires few_rules { RULES ≤ 4096 }
-    requires roomy { Roomy table.now RULES }
-    ensures lowest_broken { broken_by result ≡ first (is_broken (marked x.now)) 0 (rules_of table.now) }
-    ensures derived { IfOk result (λ least. Derived atoms (rules_of table.now) (marked x.now) least) }
-{
-    let mut starts = [0; RULES];
-    let mut waits = [65535; RULES];
-    derive_in(table, x, atoms, &mut starts, &mut waits)
-}
-
 // The lowest broken rule or the least closed set. A rule takes three words at least, so a short table needs little room; most recipes of
 // an editor are short.
 pub(crate) fn derive(table: &[u16], x: &[u64], atoms: usize) -> Result<[u64; 32], Broken>
@@ -114,8 +96,11 @@ pub(crate) fn derive(table: &[u16], x: &[u64], atoms: usize) -> Result<[u64; 32]
     ensures derived { IfOk result (λ least. Derived atoms (rules_of table.now) (marked x.now) least) }
 {
     if table.len() <= 768 {
-        derive_with_room::<256>(table, x, atoms)
-    } else {
-        derive_with_room::<4096>(table, x, atoms)
+        let mut starts = [0; 256];
+        let mut waits = [65535; 256];
+        return derive_in(table, x, atoms, &mut starts, &mut waits);
     }
+    let mut starts = [0; 4096];
+    let mut waits = [65535; 4096];
+    derive_in(table, x, atoms, &mut starts, &mut waits)
 }

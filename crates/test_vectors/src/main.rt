@@ -54,16 +54,18 @@ fn run_byte(rt: &impl Runtime, words: &[u8], place: usize, value: u8) -> io::Res
     let mut input = [0; 4096];
     let got = files::read_file(rt, b"every_byte", &mut input);
     input[place] = value;
-    rt.write_all(words)?;
-    println!(rt; "{value}")?;
+    if !words.is_empty() {
+        rt.write_all(words)?;
+    }
+    println!(rt; "byte {value}")?;
     write_report(rt, &input[..got])
 }
 
 fn main(rt: HostRuntime) -> io::Result<()> {
     run_arguments(&rt)?;
     for value in 0..=u8::MAX {
-        run_byte(&rt, b"first byte ", 17, value)?;
-        run_byte(&rt, b"byte ", 18, value)?;
+        run_byte(&rt, b"first ", 17, value)?;
+        run_byte(&rt, b"", 18, value)?;
     }
     Ok(())
 }

@@ -3,3 +3,4 @@ pub mod Ready
 pub mod Sums
 pub mod Writing
 pub mod Turns
+pub mod Handed

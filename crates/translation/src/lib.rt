@@ -1,8 +1,8 @@
 // The published translation of action language C into rules (000, section 4), written as words into a lent table.
 #![tactic(auto)]
 
-ghost use Rattle.std.specs.Prelude.{◌≡◌, length};
-ghost use Rattle.basics.specs.Refusals.{tested_of, Numbered};
+ghost use Rattle.std.specs.Prelude.{◌≡◌, true, length, Err, IfErr};
+ghost use Rattle.basics.specs.Refusals.{is_own, tested_of, Numbered};
 ghost use Rattle.translation.specs.Answers.{outcome_of};
 ghost use Rattle.translation_rules.specs.Translated.{outcome, table_after, outcome_for, table_after_for};
 
@@ -58,7 +58,7 @@ pub fn translate_for_history(
 ) -> Result<Written, Refusal>
     ensures answers { outcome_of result
         ≡ outcome_for d laws.now (length laws.now) values.now (tested_of later) (length table.old) }
-    ensures numbered { Numbered later → Numbered result }
+    ensures numbered { IfErr result (λ refusal. is_own refusal.reason ≡ true → later ≡ Err refusal) }
     ensures leaves { table.new
         ≡ table_after_for d laws.now (length laws.now) values.now (tested_of later) table.old }
 {

@@ -6,6 +6,7 @@ use lib.ListN.{take, length-take}
 use Rattle.std.proofs.Common.{rules}
 use Rattle.translation_rules.proofs.Outcomes.{written-accepted}
 use Rattle.translation_rules.proofs.Histories.{written-passed, refused-left, written-left}
+use Rattle.translation.proofs.Handed.{none-handed}
 use Rattle.history_check.specs.Checks.{finding}
 use Rattle.history_check.proofs.Judging.{words-front, says-refused, says-verdict, leaves_table}
 use Rattle.history_check.proofs.check_history.Goals as goal
@@ -28,7 +29,7 @@ returns-in_err-written c =
     let a = c.args in
     let e = sym c.in_err-written.ensures.answers in
     let said = says-refused _ _ _ a.values.now a.table.now e in
-    let kept = c.in_err-written.ensures.numbered tt in
+    let kept = none-handed tt _ c.translate_for_history.ensures.numbered in
     record {
       answers = search (rules, said);
       numbered = search (rules, kept);
