@@ -7,8 +7,8 @@
  * A slice is a pointer and a length in elements. A length of 0 may come with any pointer; the parts of memory lent to
  * one call must not overlap where one of them is written to. Nothing is kept after a call and nothing is allocated.
  * A call holds its arrays on the stack: at most 92 KiB in huntyghai_report, 32 in huntyghai_check_history, 27 in
- * huntyghai_check_set, 20 in huntyghai_causal_reading, 11 in huntyghai_translate, 10 in huntyghai_read_history and 7 in
- * the two by the completion formulas, on the inputs tried, the largest recipe and a table of 4,096 rules among them;
+ * huntyghai_check_set, 20 in huntyghai_causal_reading, 11 in huntyghai_translate, 10 in huntyghai_read_history and 3 in
+ * the two by the completion formulas, on every input tried, the largest recipe and tables of 4,096 rules among them;
  * what a thread takes for itself comes on top (measured, not proved).
  *
  * An answer is one number: its code is the answer modulo 256, and its value is the answer divided by 256.
